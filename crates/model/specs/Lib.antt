@@ -1,0 +1,12 @@
+pub mod Limits
+pub mod Basic
+pub mod World
+pub mod Scheme
+pub mod Sweep
+pub mod Remap
+pub mod Range
+pub mod Step
+pub mod Lists
+pub mod Cases
+pub mod Marked
+pub mod Further

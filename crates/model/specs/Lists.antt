@@ -1,0 +1,93 @@
+-- Document 01, "Lists": a list of calls run with `step`, its points, and what the four parts of demand 3 speak of.
+-- Assumes nothing.
+use Prim.Native.Nat.{ℕ, zero, suc, _+_, _*_, _<_}
+use mathlib.Core.List.{List, [], _∷_}
+use mathlib.Core.Bool.{Bool, true, false, _&&_}
+use mathlib.Core.Path.{_≡_}
+use lib.Dec.{eqb, ltb}
+use lib.ListN.{take}
+use Rattle.model.specs.Basic.{at, part}
+use Rattle.model.specs.World.{World, worldCells, layerCells, rowStart, layerStart, gas}
+use Rattle.model.specs.Sweep.{ring, layer}
+use Rattle.model.specs.Range.{SweepInRange, RemapInRange}
+use Rattle.model.specs.Step.{Call, load, emission, withdrawal, zonal, meridional, remap, total, reading, step, rowAir, layerAir, zonalCount}
+
+-- "Each call gets the world .. as the last one left .. it": the world after a list of calls
+unfoldable pub after : World → List Call → World
+after w [] = w
+after w (call ∷ calls) = after (step w call .next) calls
+
+-- "The points of a list are its start and the end of each call": point i is the end of its first i calls
+abbrev pub point : World → List Call → ℕ → World
+point w calls i = after w (take i calls)
+
+-- "Accepted emissions and withdrawals are the summed amounts of those calls on that tracer, up to the point, that got no refusal."
+abbrev pub whenAccepted : World → Call → Bool → ℕ → ℕ
+whenAccepted w call named amount = elim (named && eqb (step w call .answer) 0) [ true ↦ amount | false ↦ 0 ]
+
+abbrev pub emits : World → ℕ → Call → ℕ
+emits w t load = 0
+emits w t (emission t' c amount) = whenAccepted w (emission t' c amount) (eqb t' t) amount
+emits w t (withdrawal t' c amount) = 0
+emits w t (zonal k r fluxes) = 0
+emits w t (meridional k fluxes) = 0
+emits w t (remap table) = 0
+emits w t (total t') = 0
+emits w t (reading t' c) = 0
+
+abbrev pub withdraws : World → ℕ → Call → ℕ
+withdraws w t load = 0
+withdraws w t (emission t' c amount) = 0
+withdraws w t (withdrawal t' c amount) = whenAccepted w (withdrawal t' c amount) (eqb t' t) amount
+withdraws w t (zonal k r fluxes) = 0
+withdraws w t (meridional k fluxes) = 0
+withdraws w t (remap table) = 0
+withdraws w t (total t') = 0
+withdraws w t (reading t' c) = 0
+
+unfoldable pub emitted : World → ℕ → List Call → ℕ
+emitted w t [] = 0
+emitted w t (call ∷ calls) = emits w t call + emitted (step w call .next) t calls
+
+unfoldable pub withdrawn : World → ℕ → List Call → ℕ
+withdrawn w t [] = 0
+withdrawn w t (call ∷ calls) = withdraws w t call + withdrawn (step w call .next) t calls
+
+-- "A gas has the whole-number ratio z at a point if T = z·M in every cell."
+abbrev pub HasRatio : World → ℕ → ℕ → Type 0
+HasRatio w t z = (c : ℕ) → c < worldCells (w .grid) → at (gas w t) c ≡ z * at (w .air) c
+
+-- "in every cell of the row, or of the layer if meridional, after each substep of an accepted sweep .. and in every cell after an accepted remap": for tracer t, of a call that is accepted in w
+abbrev pub CallInRange : World → ℕ → Call → Type 0
+CallInRange w t load = Unit {0}
+CallInRange w t (emission t' c amount) = Unit {0}
+CallInRange w t (withdrawal t' c amount) = Unit {0}
+CallInRange w t (zonal k r fluxes) =
+    SweepInRange (ring (w .grid .W)) fluxes (zonalCount w k r fluxes) (rowAir w k r)
+    (part (gas w t) (rowStart (w .grid) k r) (w .grid .W))
+CallInRange w t (meridional k fluxes) =
+    SweepInRange (layer (w .grid .W) (w .grid .R)) fluxes 1 (layerAir w k)
+    (part (gas w t) (layerStart (w .grid) k) (layerCells (w .grid)))
+CallInRange w t (remap table) = RemapInRange (w .grid) table (w .air) (gas w t)
+CallInRange w t (total t') = Unit {0}
+CallInRange w t (reading t' c) = Unit {0}
+
+-- "Take two accepted loads on the same grid, N included, alike in all but the other tracers": `own` tells the tracers that are not the others
+pub record Alike (own : ℕ → Bool) (w v : World) : Type 0 where
+  pub sameGrid : w .grid ≡ v .grid
+  pub sameAir : w .air ≡ v .air
+  pub sameGas : (t : ℕ) → own t ≡ true → gas w t ≡ gas v t
+
+-- "calls that name no other tracer": an absent tracer's number names none
+abbrev pub namesOwn : (ℕ → Bool) → World → ℕ → Bool
+namesOwn own w t = elim (ltb t (w .grid .N)) [ true ↦ own t | false ↦ true ]
+
+abbrev pub namesNoOther : (ℕ → Bool) → World → Call → Bool
+namesNoOther own w load = true
+namesNoOther own w (emission t c amount) = namesOwn own w t
+namesNoOther own w (withdrawal t c amount) = namesOwn own w t
+namesNoOther own w (zonal k r fluxes) = true
+namesNoOther own w (meridional k fluxes) = true
+namesNoOther own w (remap table) = true
+namesNoOther own w (total t) = namesOwn own w t
+namesNoOther own w (reading t c) = namesOwn own w t

@@ -1,0 +1,47 @@
+-- Document 01, "Ratio, mismatch, piece".
+-- M is a cell's air and T its tracer, as there. A mismatch is kept as its size and its sign.
+use Prim.Native.Nat.{ℕ, _+_, _*_, _-_, _/_, min, max}
+use mathlib.Core.Bool.{Bool, true, false, not}
+use lib.Dec.{leb}
+use Rattle.model.specs.Limits.{scale}
+use Rattle.model.specs.Basic.{distance}
+
+-- "Ratio: q = floor(65,536·T / M)"
+unfoldable pub ratio : ℕ → ℕ → ℕ
+ratio M T = scale * T / M
+
+-- "Mismatch D": its size, and whether its sign is positive
+pub record Mismatch : Type 0 where
+  pub size : ℕ
+  pub positive : Bool
+
+-- "a neighbour on its low side (qa) and on its high side (qb): size = the smallest of |qb − qa|/2 rounded down, 2(q − least of the three), 2(greatest of the three − q); sign = that of qb − qa"
+unfoldable pub mismatch : ℕ → ℕ → ℕ → Mismatch
+mismatch qa q qb =
+    record {
+      size =
+          min (distance qa qb / 2)
+          (min (2 * (q - min qa (min q qb)))
+          (2 * (max qa (max q qb) - q)));
+      positive = leb qa qb;
+    }
+
+-- "D = 0"
+abbrev pub plain : Mismatch
+plain = record { size = 0; positive = true }
+
+-- "the same with − D"
+abbrev pub opposite : Mismatch → Mismatch
+opposite D = record { size = D .size; positive = not (D .positive) }
+
+-- "Piece of m units of air (0 to M) from the high end: floor((2·65,536·m·T + D·m·(M − m)) / (2·65,536·M))"
+unfoldable pub highPiece : Mismatch → ℕ → ℕ → ℕ → ℕ
+highPiece D M T m =
+    elim (D .positive) [
+      | true ↦ (2 * scale * m * T + D .size * m * (M - m)) / (2 * scale * M)
+      | false ↦ (2 * scale * m * T - D .size * m * (M - m)) / (2 * scale * M)
+    ]
+
+-- "From the low end: the same with − D"
+abbrev pub lowPiece : Mismatch → ℕ → ℕ → ℕ → ℕ
+lowPiece D M T m = highPiece (opposite D) M T m

@@ -1,0 +1,61 @@
+-- Document 01, "What it carries": the grid, the numbering of its cells, and the world, with its lists exactly as lent.
+-- Assumes nothing of the grid's numbers, of the lists' lengths or of their entries.
+use Prim.Native.Nat.{ℕ, _+_, _*_}
+use mathlib.Core.List.{List}
+use mathlib.Core.Bool.{Bool, _&&_}
+use lib.Dec.{leb}
+use Rattle.model.specs.Limits.{airLimit}
+use Rattle.model.specs.Basic.{at, part, sum, tab, joined}
+
+-- "W columns round the globe, R rows from south to north, K layers from the top down and N tracers"
+pub record Grid : Type 0 where
+  pub W : ℕ
+  pub R : ℕ
+  pub K : ℕ
+  pub N : ℕ
+
+-- "A layer has C = 2 + R·W cells"
+abbrev pub layerCells : Grid → ℕ
+layerCells g = 2 + g .R * g .W
+
+-- all cells of the world, K·C of them
+abbrev pub worldCells : Grid → ℕ
+worldCells g = g .K * layerCells g
+
+-- "Layer k starts at k·C"
+abbrev pub layerStart : Grid → ℕ → ℕ
+layerStart g k = k * layerCells g
+
+-- "cell 1 + r·W + i is column i of row r": where row r of layer k starts
+abbrev pub rowStart : Grid → ℕ → ℕ → ℕ
+rowStart g k r = layerStart g k + (1 + r * g .W)
+
+-- "tracer t at t·K·C"
+abbrev pub tracerStart : Grid → ℕ → ℕ
+tracerStart g t = t * worldCells g
+
+-- A world: the grid's numbers, all air, all tracers
+pub record World : Type 0 where
+  pub grid : Grid
+  pub air : List ℕ
+  pub tracers : List ℕ
+
+-- the amounts of tracer t in all cells
+abbrev pub gas : World → ℕ → List ℕ
+gas w t = part (w .tracers) (tracerStart (w .grid) t) (worldCells (w .grid))
+
+-- "A gas total is one tracer's sum over all cells, total air the sum of all air"
+abbrev pub gasTotal : World → ℕ → ℕ
+gasTotal w t = sum (worldCells (w .grid)) (at (gas w t))
+
+abbrev pub airTotal : World → ℕ
+airTotal w = sum (worldCells (w .grid)) (at (w .air))
+
+-- "A cell holds M units of air (1 to 65,535)"
+abbrev pub airFits : ℕ → Bool
+airFits M = leb 1 M && leb M airLimit
+
+-- a world after a call that moves air: new air, and each tracer changed by one and the same function of its own amounts
+abbrev pub moved : World → List ℕ → (List ℕ → List ℕ) → World
+moved w air change =
+    record { grid = w .grid; air = air; tracers = joined (tab (w .grid .N) (λ t. change (gas w t))) }

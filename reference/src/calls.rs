@@ -1,0 +1,142 @@
+//! The calls, each with one answer.
+
+use crate::grid::{Grid, World, MOST_TRACER};
+use crate::{meridional, refusal, remap, zonal};
+
+/// A call with its arguments. A remap's table is one flat list a, b, a, b, ...
+#[derive(Clone, Debug, PartialEq, Eq)]
+pub enum Call {
+    Load,
+    Emission {
+        tracer: u32,
+        cell: u32,
+        amount: u32,
+    },
+    Withdrawal {
+        tracer: u32,
+        cell: u32,
+        amount: u32,
+    },
+    Zonal {
+        layer: u32,
+        row: u32,
+        fluxes: Vec<i32>,
+    },
+    Meridional {
+        layer: u32,
+        fluxes: Vec<i32>,
+    },
+    Remap {
+        table: Vec<u32>,
+    },
+    Total {
+        tracer: u32,
+    },
+    Cell {
+        tracer: u32,
+        cell: u32,
+    },
+}
+
+/// The refusal's number, or 0 if accepted, and the count.
+#[derive(Clone, Copy, Debug, PartialEq, Eq)]
+pub struct Answer {
+    pub number: u32,
+    pub count: u64,
+}
+
+/// Any call on any numbers and lengths. "Each refusal returns its number with count 0 and
+/// changes no lent buffer."
+pub fn call(world: &mut World, call: &Call) -> Answer {
+    match count_or_refusal(world, call) {
+        Ok(count) => Answer { number: 0, count },
+        Err(number) => Answer { number, count: 0 },
+    }
+}
+
+/// "Each place is tested in row order; the first that applies is given, and never otherwise."
+fn count_or_refusal(world: &mut World, call: &Call) -> Result<u64, u32> {
+    world.grid.check()?;
+    check_lengths(world, call)?;
+    world.check_air()?;
+    world.check_tracers()?;
+    match *call {
+        Call::Load => Ok(0),
+        Call::Emission {
+            tracer,
+            cell,
+            amount,
+        } => emission(world, tracer, cell, amount),
+        Call::Withdrawal {
+            tracer,
+            cell,
+            amount,
+        } => withdrawal(world, tracer, cell, amount),
+        Call::Zonal {
+            layer,
+            row,
+            ref fluxes,
+        } => zonal::sweep(world, layer, row, fluxes),
+        Call::Meridional { layer, ref fluxes } => meridional::sweep(world, layer, fluxes),
+        Call::Remap { ref table } => remap::remap(world, table),
+        Call::Total { tracer } => total(world, tracer),
+        Call::Cell { tracer, cell } => cell_amount(world, tracer, cell),
+    }
+}
+
+/// "a lent length is not the grid's" is refusal 2: air, tracers, fluxes, table.
+fn check_lengths(world: &World, call: &Call) -> Result<(), u32> {
+    let grid = &world.grid;
+    let arguments = match call {
+        Call::Zonal { fluxes, .. } => fluxes.len() == grid.zonal_fluxes(),
+        Call::Meridional { fluxes, .. } => fluxes.len() == grid.meridional_fluxes(),
+        Call::Remap { table } => table.len() == grid.table_numbers(),
+        _ => true,
+    };
+    let good = world.air.len() == grid.cells()
+        && world.tracers.len() == grid.tracer_amounts()
+        && arguments;
+    good.then_some(()).ok_or(refusal::LENGTH)
+}
+
+/// "tracer, cell [...] absent" is refusal 5; "the cell numbered over all layers (0 to
+/// K·C − 1) as in a reading".
+fn check_indices(grid: &Grid, tracer: u32, cell: u32) -> Result<(usize, usize), u32> {
+    let tracer = Grid::present(tracer, grid.n as usize)?;
+    let cell = Grid::present(cell, grid.cells())?;
+    Ok((tracer, cell))
+}
+
+/// "Emission adds [...] an amount (0 to 4,294,967,295) in one cell of one tracer";
+/// "total would pass 268,435,455" is refusal 6.
+fn emission(world: &mut World, tracer: u32, cell: u32, amount: u32) -> Result<u64, u32> {
+    let (tracer, cell) = check_indices(&world.grid, tracer, cell)?;
+    if world.total(tracer) + u64::from(amount) > MOST_TRACER {
+        return Err(refusal::EMISSION);
+    }
+    world.tracer_mut(tracer)[cell] += amount;
+    Ok(0)
+}
+
+/// "withdrawal takes, an amount (0 to 4,294,967,295) in one cell of one tracer";
+/// "cell has less than the amount" is refusal 7.
+fn withdrawal(world: &mut World, tracer: u32, cell: u32, amount: u32) -> Result<u64, u32> {
+    let (tracer, cell) = check_indices(&world.grid, tracer, cell)?;
+    if world.tracer(tracer)[cell] < amount {
+        return Err(refusal::WITHDRAWAL);
+    }
+    world.tracer_mut(tracer)[cell] -= amount;
+    Ok(0)
+}
+
+/// "Readings give a tracer's total [...] as the count."
+fn total(world: &World, tracer: u32) -> Result<u64, u32> {
+    let tracer = Grid::present(tracer, world.grid.n as usize)?;
+    Ok(world.total(tracer))
+}
+
+/// "Readings give [...] one cell's amount as the count."
+fn cell_amount(world: &World, tracer: u32, cell: u32) -> Result<u64, u32> {
+    let (tracer, cell) = check_indices(&world.grid, tracer, cell)?;
+    Ok(u64::from(world.tracer(tracer)[cell]))
+}

@@ -1,0 +1,33 @@
+//! The numbers of the table "Refusals by place of checking".
+
+/// "every call, grid | 1 | W, R, K or N outside its range"
+pub const GRID: u32 = 1;
+/// "every call, buffers | 2 | a lent length is not the grid's"
+pub const LENGTH: u32 = 2;
+/// "every call, air | 3 | a cell's air is 0 or above 65,535"
+pub const AIR: u32 = 3;
+/// "every call, tracers | 4 | a tracer's total above 268,435,455"
+pub const TRACERS: u32 = 4;
+/// "call's indices | 5 | tracer, cell, layer or row absent"
+pub const INDEX: u32 = 5;
+/// "emission | 6 | total would pass 268,435,455"
+pub const EMISSION: u32 = 6;
+/// "withdrawal | 7 | cell has less than the amount"
+pub const WITHDRAWAL: u32 = 7;
+/// "fluxes | 8 | size above 1,048,560 (zonal) or 65,535 (meridional)"
+pub const FLUX: u32 = 8;
+/// "zonal | 9 | no n from 1 to 16 serves"
+pub const ZONAL: u32 = 9;
+/// "meridional | 10 | its substep is not allowed"
+pub const MERIDIONAL: u32 = 10;
+/// "table | 11 | first pair not (0, 0), last not (0, 65,536), an a above 2,097,120,
+/// a b above 65,536"
+pub const TABLE: u32 = 11;
+/// "remap | 12 | in some column edges don't rise strictly, or a new layer exceeds 65,535"
+pub const REMAP: u32 = 12;
+/// "program, kind | 13 | unknown kind, or record out of place"
+pub const KIND: u32 = 13;
+/// "program, length | 14 | input ends inside a record"
+pub const RECORD_LENGTH: u32 = 14;
+/// "program, grid | 15 | K·C above 2,048 or N above 2"
+pub const PROGRAM_GRID: u32 = 15;

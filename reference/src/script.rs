@@ -1,0 +1,150 @@
+//! A text front end: lines that set a raw world, call and show.
+
+use crate::{call, Call, Grid, World};
+use std::str::FromStr;
+
+/// What `run` gives: the lines printed, and the error if a line is bad.
+pub struct Outcome {
+    pub lines: String,
+    pub error: Option<String>,
+}
+
+/// Runs the script up to its end or its first bad line. Before any `grid` line the grid is
+/// 0 0 0 0 and the buffers are empty.
+pub fn run(script: &str) -> Outcome {
+    let grid = Grid {
+        w: 0,
+        r: 0,
+        k: 0,
+        n: 0,
+    };
+    let mut world = World {
+        grid,
+        air: Vec::new(),
+        tracers: Vec::new(),
+    };
+    let mut lines = String::new();
+    for (index, line) in script.lines().enumerate() {
+        match run_line(&mut world, line) {
+            Ok(printed) => lines.push_str(&printed),
+            Err(fault) => {
+                let error = Some(format!("line {}: {}", index + 1, fault));
+                return Outcome { lines, error };
+            }
+        }
+    }
+    Outcome { lines, error: None }
+}
+
+/// One line: what it prints, or what is wrong with it.
+fn run_line(world: &mut World, line: &str) -> Result<String, String> {
+    let words: Vec<&str> = line.split_whitespace().collect();
+    let Some((&name, arguments)) = words.split_first() else {
+        return Ok(String::new());
+    };
+    if name.starts_with('#') {
+        return Ok(String::new());
+    }
+    match name {
+        "grid" => world.grid = read_grid(arguments)?,
+        "air" => world.air = numbers(arguments)?,
+        "tracers" => world.tracers = numbers(arguments)?,
+        "show" => {
+            fixed::<0>(arguments)?;
+            return Ok(show(world));
+        }
+        _ => {
+            let answer = call(world, &read_call(name, arguments)?);
+            return Ok(format!("{} {} {}\n", name, answer.number, answer.count));
+        }
+    }
+    Ok(String::new())
+}
+
+fn read_grid(arguments: &[&str]) -> Result<Grid, String> {
+    let [w, r, k, n] = fixed(arguments)?;
+    Ok(Grid { w, r, k, n })
+}
+
+fn read_call(name: &str, arguments: &[&str]) -> Result<Call, String> {
+    Ok(match name {
+        "load" => {
+            fixed::<0>(arguments)?;
+            Call::Load
+        }
+        "emission" => {
+            let [tracer, cell, amount] = fixed(arguments)?;
+            Call::Emission {
+                tracer,
+                cell,
+                amount,
+            }
+        }
+        "withdrawal" => {
+            let [tracer, cell, amount] = fixed(arguments)?;
+            Call::Withdrawal {
+                tracer,
+                cell,
+                amount,
+            }
+        }
+        "zonal" => {
+            let ([layer, row], fluxes) = fixed_then_fluxes(arguments)?;
+            Call::Zonal { layer, row, fluxes }
+        }
+        "meridional" => {
+            let ([layer], fluxes) = fixed_then_fluxes(arguments)?;
+            Call::Meridional { layer, fluxes }
+        }
+        "remap" => Call::Remap {
+            table: numbers(arguments)?,
+        },
+        "total" => {
+            let [tracer] = fixed(arguments)?;
+            Call::Total { tracer }
+        }
+        "cell" => {
+            let [tracer, cell] = fixed(arguments)?;
+            Call::Cell { tracer, cell }
+        }
+        _ => return Err(format!("unknown word '{name}'")),
+    })
+}
+
+/// All words as numbers.
+fn numbers<T: FromStr>(words: &[&str]) -> Result<Vec<T>, String> {
+    let number = |word: &&str| word.parse().map_err(|_| format!("bad number '{word}'"));
+    words.iter().map(number).collect()
+}
+
+/// Exactly L unsigned numbers.
+fn fixed<const L: usize>(words: &[&str]) -> Result<[u32; L], String> {
+    let found = words.len();
+    <[u32; L]>::try_from(numbers(words)?)
+        .map_err(|_| format!("{L} numbers are expected and {found} found"))
+}
+
+/// Exactly L unsigned numbers and then any number of fluxes.
+fn fixed_then_fluxes<const L: usize>(words: &[&str]) -> Result<([u32; L], Vec<i32>), String> {
+    let split = L.min(words.len());
+    let (first, fluxes) = words.split_at(split);
+    Ok((fixed(first)?, numbers(fluxes)?))
+}
+
+/// The two lines `air ...` and `tracers ...`.
+fn show(world: &World) -> String {
+    format!(
+        "{}{}",
+        show_list("air", &world.air),
+        show_list("tracers", &world.tracers)
+    )
+}
+
+fn show_list(name: &str, amounts: &[u32]) -> String {
+    let mut line = String::from(name);
+    for amount in amounts {
+        line.push_str(&format!(" {amount}"));
+    }
+    line.push('\n');
+    line
+}

@@ -1,0 +1,86 @@
+//! "Zonal sweep of one row in one layer."
+
+use crate::grid::{signed, write, Grid, World};
+use crate::refusal;
+use crate::scheme::parts;
+use crate::substep::{Face, Neighbours, Region};
+
+/// "size above 1,048,560 (zonal)"
+const MOST_FLUX: u32 = 1_048_560;
+/// "the sweep uses the smallest n from 1 to 16"
+const MOST_SUBSTEPS: i64 = 16;
+
+/// "flux i crosses the face from column i to column i + 1 (the last to column 0), positive
+/// eastward. High side is east."
+fn region(columns: usize) -> Region {
+    let east = |i: usize| (i + 1) % columns;
+    let west = |i: usize| (i + columns - 1) % columns;
+    Region {
+        faces: (0..columns)
+            .map(|i| Face {
+                low: i,
+                high: east(i),
+            })
+            .collect(),
+        neighbours: (0..columns)
+            .map(|i| {
+                Some(Neighbours {
+                    low: west(i),
+                    high: east(i),
+                })
+            })
+            .collect(),
+    }
+}
+
+/// "n serves if all n substeps, one after another, are allowed"
+fn serves(region: &Region, air: &[i64], fluxes: &[i64], n: i64) -> bool {
+    let mut air = air.to_vec();
+    (1..=n).all(|s| {
+        let part = parts(fluxes, s, n);
+        let allowed = region.allowed(&air, &part);
+        air = region.air_after(&air, &part);
+        allowed
+    })
+}
+
+/// "the sweep uses the smallest n from 1 to 16, and that n is its count"; if none serves,
+/// refusal 9.
+fn smallest_count(region: &Region, air: &[i64], fluxes: &[i64]) -> Result<i64, u32> {
+    (1..=MOST_SUBSTEPS)
+        .find(|&n| serves(region, air, fluxes, n))
+        .ok_or(refusal::ZONAL)
+}
+
+/// The sweep, from the check of its indices on. "The sweep writes only that row's cells inside
+/// its layer, in the air and in all tracers".
+pub fn sweep(world: &mut World, layer: u32, row: u32, fluxes: &[i32]) -> Result<u64, u32> {
+    let grid = world.grid;
+    let layer = Grid::present(layer, grid.layers())?;
+    let row = Grid::present(row, grid.rows())?;
+    if fluxes.iter().any(|flux| flux.unsigned_abs() > MOST_FLUX) {
+        return Err(refusal::FLUX);
+    }
+    let fluxes: Vec<i64> = fluxes.iter().map(|&flux| i64::from(flux)).collect();
+    let region = region(grid.columns());
+    let cells = grid.row_range(layer, row);
+
+    let mut air = signed(&world.air[cells.clone()]);
+    let n = smallest_count(&region, &air, &fluxes)?;
+    let mut tracers: Vec<Vec<i64>> = (0..grid.n as usize)
+        .map(|t| signed(&world.tracer(t)[cells.clone()]))
+        .collect();
+    for s in 1..=n {
+        let part = parts(&fluxes, s, n);
+        for tracer in &mut tracers {
+            *tracer = region.tracer_after(&air, tracer, &part);
+        }
+        air = region.air_after(&air, &part);
+    }
+
+    write(&mut world.air[cells.clone()], &air);
+    for (t, tracer) in tracers.iter().enumerate() {
+        write(&mut world.tracer_mut(t)[cells.clone()], tracer);
+    }
+    Ok(n.unsigned_abs())
+}

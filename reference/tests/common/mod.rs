@@ -1,0 +1,340 @@
+//! Helpers of the tests: a generator of numbers, worlds, calls and table rows.
+#![allow(dead_code)]
+
+use reference::{call, Answer, Call, Grid, World};
+
+pub const MOST_TRACER: u64 = 268_435_455;
+
+pub fn grid(w: u32, r: u32, k: u32, n: u32) -> Grid {
+    Grid { w, r, k, n }
+}
+
+/// C.
+pub fn layer_cells(grid: &Grid) -> usize {
+    (2 + grid.r * grid.w) as usize
+}
+
+/// K·C.
+pub fn cells(grid: &Grid) -> usize {
+    grid.k as usize * layer_cells(grid)
+}
+
+/// A world with the same air in all cells and no tracer.
+pub fn even_world(grid: Grid, air: u32) -> World {
+    let cells = cells(&grid);
+    World {
+        grid,
+        air: vec![air; cells],
+        tracers: vec![0; grid.n as usize * cells],
+    }
+}
+
+/// The world of the marked cases: grid 4, 1, 1, 1, caps with air 100 and tracer 0.
+pub fn row_world(air: [u32; 4], tracer: [u32; 4]) -> World {
+    let caps = |row: [u32; 4], cap: u32| [&[cap][..], &row[..], &[cap][..]].concat();
+    World {
+        grid: grid(4, 1, 1, 1),
+        air: caps(air, 100),
+        tracers: caps(tracer, 0),
+    }
+}
+
+pub fn accepted(count: u64) -> Answer {
+    Answer { number: 0, count }
+}
+
+pub fn refused(number: u32) -> Answer {
+    Answer { number, count: 0 }
+}
+
+pub fn zonal(layer: u32, row: u32, fluxes: &[i32]) -> Call {
+    Call::Zonal {
+        layer,
+        row,
+        fluxes: fluxes.to_vec(),
+    }
+}
+
+pub fn meridional(layer: u32, fluxes: &[i32]) -> Call {
+    Call::Meridional {
+        layer,
+        fluxes: fluxes.to_vec(),
+    }
+}
+
+pub fn remap(table: &[u32]) -> Call {
+    Call::Remap {
+        table: table.to_vec(),
+    }
+}
+
+pub fn emission(tracer: u32, cell: u32, amount: u32) -> Call {
+    Call::Emission {
+        tracer,
+        cell,
+        amount,
+    }
+}
+
+pub fn withdrawal(tracer: u32, cell: u32, amount: u32) -> Call {
+    Call::Withdrawal {
+        tracer,
+        cell,
+        amount,
+    }
+}
+
+/// The table that keeps K layers of equal air as they are.
+pub fn even_table(layers: u32) -> Vec<u32> {
+    (0..=layers)
+        .flat_map(|j| [0, 65_536 * j / layers])
+        .collect()
+}
+
+/// One call of each kind, with arguments that fit the grid.
+pub fn each_call(grid: &Grid) -> Vec<Call> {
+    vec![
+        Call::Load,
+        emission(0, 0, 0),
+        withdrawal(0, 0, 0),
+        zonal(0, 0, &vec![0; grid.w as usize]),
+        meridional(0, &vec![0; (grid.w * (grid.r + 1)) as usize]),
+        remap(&even_table(grid.k)),
+        Call::Total { tracer: 0 },
+        Call::Cell { tracer: 0, cell: 0 },
+    ]
+}
+
+/// Makes the call, and checks that a refusal has count 0 and changes nothing.
+pub fn checked_call(world: &mut World, asked: &Call) -> Answer {
+    let before = world.clone();
+    let answer = call(world, asked);
+    if answer.number != 0 {
+        assert_eq!(answer.count, 0, "{asked:?}");
+        assert_eq!(*world, before, "{asked:?}");
+    }
+    answer
+}
+
+/// Checks that the call gets this refusal.
+pub fn expect_refusal(world: &World, asked: &Call, number: u32) {
+    let mut copy = world.clone();
+    assert_eq!(checked_call(&mut copy, asked), refused(number), "{asked:?}");
+}
+
+/// Checks that the call is accepted with this count, and gives the world after it.
+pub fn expect_accepted(world: &World, asked: &Call, count: u64) -> World {
+    let mut copy = world.clone();
+    assert_eq!(checked_call(&mut copy, asked), accepted(count), "{asked:?}");
+    copy
+}
+
+/// A xorshift generator.
+pub struct Random(u64);
+
+impl Random {
+    pub fn new(seed: u64) -> Random {
+        Random(seed.wrapping_mul(0x9E37_79B9_7F4A_7C15) | 1)
+    }
+
+    pub fn next(&mut self) -> u64 {
+        self.0 ^= self.0 << 13;
+        self.0 ^= self.0 >> 7;
+        self.0 ^= self.0 << 17;
+        self.0 >> 16
+    }
+
+    /// A number from least to most.
+    pub fn between(&mut self, least: i64, most: i64) -> i64 {
+        let span = (most - least) as u64 + 1;
+        least + (self.next() % span) as i64
+    }
+
+    pub fn amount(&mut self, least: u32, most: u32) -> u32 {
+        self.between(i64::from(least), i64::from(most)) as u32
+    }
+
+    pub fn one_in(&mut self, number: u64) -> bool {
+        self.next().is_multiple_of(number)
+    }
+}
+
+/// A small grid, once in a while a wide one.
+pub fn random_grid(random: &mut Random) -> Grid {
+    let w = if random.one_in(20) { 72 } else { 8 };
+    grid(
+        random.amount(4, w),
+        random.amount(1, 4),
+        random.amount(1, 6),
+        random.amount(1, 3),
+    )
+}
+
+pub fn random_air(random: &mut Random, cells: usize) -> Vec<u32> {
+    let (least, most) = match random.next() % 6 {
+        0 => (1, 3),
+        1 => (100, 100),
+        2 => (1, 200),
+        3 => (60_000, 65_535),
+        4 => (65_535, 65_535),
+        _ => (1, 65_535),
+    };
+    (0..cells).map(|_| random.amount(least, most)).collect()
+}
+
+/// One tracer's amounts, with a total of at most 268,435,455.
+pub fn random_tracer(random: &mut Random, air: &[u32]) -> Vec<u32> {
+    let share = (MOST_TRACER / air.len() as u64) as u32;
+    let total_air: u64 = air.iter().map(|&m| u64::from(m)).sum();
+    match random.next() % 7 {
+        0 => vec![0; air.len()],
+        1 | 2 => {
+            let most = (MOST_TRACER / total_air).min(1_000) as u32;
+            let z = random.amount(0, most);
+            air.iter().map(|&m| z * m).collect()
+        }
+        3 => (0..air.len()).map(|_| random.amount(0, 9)).collect(),
+        4 => {
+            let mut amounts = vec![0; air.len()];
+            amounts[random.next() as usize % air.len()] = MOST_TRACER as u32;
+            amounts
+        }
+        5 => (0..air.len())
+            .map(|_| if random.one_in(2) { share } else { 0 })
+            .collect(),
+        _ => (0..air.len()).map(|_| random.amount(0, share)).collect(),
+    }
+}
+
+/// A world that a load accepts.
+pub fn random_world(random: &mut Random) -> World {
+    let grid = random_grid(random);
+    let air = random_air(random, cells(&grid));
+    let tracers = (0..grid.n)
+        .flat_map(|_| random_tracer(random, &air))
+        .collect();
+    World { grid, air, tracers }
+}
+
+/// An index that is mostly present.
+fn random_index(random: &mut Random, number: usize) -> u32 {
+    if random.one_in(40) {
+        return number as u32 + random.amount(0, 2);
+    }
+    (random.next() % number as u64) as u32
+}
+
+fn random_row_fluxes(random: &mut Random, row_air: &[u32]) -> Vec<i32> {
+    let columns = row_air.len();
+    let least = i64::from(*row_air.iter().min().unwrap());
+    let base = match random.next() % 4 {
+        0 => 0,
+        1 => random.between(-least, least),
+        _ => random.between(-16 * least, 16 * least),
+    };
+    let change = match random.next() % 4 {
+        0 => 0,
+        1 => 1,
+        2 => least / 2,
+        _ => least * 2,
+    };
+    (0..columns)
+        .map(|_| (base + random.between(-change, change)) as i32)
+        .collect()
+}
+
+fn random_layer_fluxes(random: &mut Random, grid: &Grid, layer_air: &[u32]) -> Vec<i32> {
+    let columns = grid.w as usize;
+    let number = columns * (grid.r as usize + 1);
+    let share = 1 + (random.next() % 4) as i64;
+    (0..number)
+        .map(|f| {
+            let (row, column) = (f / columns, f % columns);
+            let south = if row == 0 {
+                0
+            } else {
+                1 + (row - 1) * columns + column
+            };
+            let north = if row == grid.r as usize {
+                layer_air.len() - 1
+            } else {
+                1 + row * columns + column
+            };
+            let at_cap = row == 0 || row == grid.r as usize;
+            let divisor = if at_cap {
+                share * columns as i64
+            } else {
+                share
+            };
+            let least = i64::from(layer_air[south].min(layer_air[north])) / divisor;
+            random.between(-least, least) as i32
+        })
+        .collect()
+}
+
+fn random_table(random: &mut Random, layers: u32) -> Vec<u32> {
+    let mut inner: Vec<u32> = (1..layers)
+        .map(|j| match random.next() % 4 {
+            0 => 65_536 * j / layers,
+            1 | 2 => {
+                (65_536 * j / layers).saturating_add_signed(random.between(-2_000, 2_000) as i32)
+            }
+            _ => random.amount(1, 65_535),
+        })
+        .collect();
+    inner.sort_unstable();
+    let offset = if random.one_in(3) { 40 } else { 0 };
+    let mut table = vec![0, 0];
+    for b in inner {
+        table.extend([random.amount(0, offset), b]);
+    }
+    table.extend([0, 65_536]);
+    table
+}
+
+/// A call on this world: mostly one that is accepted.
+pub fn random_call(random: &mut Random, world: &World) -> Call {
+    let grid = &world.grid;
+    let (cells, layer_cells) = (cells(grid), layer_cells(grid));
+    match random.next() % 16 {
+        0 => emission(
+            random_index(random, grid.n as usize),
+            random_index(random, cells),
+            random.amount(0, 1_000),
+        ),
+        1 => {
+            let tracer = random_index(random, grid.n as usize);
+            let cell = random_index(random, cells);
+            let place = tracer as usize * cells + cell as usize;
+            let most = world.tracers.get(place).copied().unwrap_or(9);
+            withdrawal(tracer, cell, random.amount(0, most + 1))
+        }
+        2..=6 => {
+            let layer = random_index(random, grid.k as usize);
+            let row = random_index(random, grid.r as usize);
+            let first = layer as usize * layer_cells + 1 + (row * grid.w) as usize;
+            let row_air = world.air.get(first..first + grid.w as usize);
+            let spare = vec![100; grid.w as usize];
+            let fluxes = random_row_fluxes(random, row_air.unwrap_or(&spare));
+            Call::Zonal { layer, row, fluxes }
+        }
+        7..=10 => {
+            let layer = random_index(random, grid.k as usize);
+            let first = layer as usize * layer_cells;
+            let layer_air = world.air.get(first..first + layer_cells);
+            let spare = vec![100; layer_cells];
+            let fluxes = random_layer_fluxes(random, grid, layer_air.unwrap_or(&spare));
+            Call::Meridional { layer, fluxes }
+        }
+        11..=13 => Call::Remap {
+            table: random_table(random, grid.k),
+        },
+        14 => Call::Total {
+            tracer: random_index(random, grid.n as usize),
+        },
+        _ => Call::Cell {
+            tracer: random_index(random, grid.n as usize),
+            cell: random_index(random, cells),
+        },
+    }
+}

@@ -1,0 +1,71 @@
+//! The text front end.
+
+use reference::script::run;
+
+#[test]
+fn case_p_as_a_script() {
+    let script = "# case P\n\
+                  grid 4 1 1 1\n\
+                  air 100 100 100 100 100 100\n\
+                  tracers 0 0 100 200 100 0\n\
+                  \n\
+                  load\n\
+                  zonal 0 0 0 50 0 0\n\
+                  total 0\n\
+                  cell 0 3\n\
+                  show\n";
+    let outcome = run(script);
+    assert_eq!(outcome.error, None);
+    assert_eq!(
+        outcome.lines,
+        "load 0 0\nzonal 0 1\ntotal 0 400\ncell 0 262\n\
+         air 100 100 50 150 100 100\ntracers 0 0 38 262 100 0\n"
+    );
+}
+
+#[test]
+fn every_call_and_wrong_lengths() {
+    let script = "load\n\
+                  grid 4 1 1 1\n\
+                  load\n\
+                  air 9 9 9 9 9 9\n\
+                  tracers 0 0 0 0 0 0\n\
+                  emission 0 5 7\n\
+                  withdrawal 0 5 8\n\
+                  meridional 0 0 0 0 0 -1 0 0 0\n\
+                  meridional 0\n\
+                  zonal 0 0 1\n\
+                  remap 0 0 0 65536\n\
+                  remap\n\
+                  air\n\
+                  show\n";
+    let outcome = run(script);
+    assert_eq!(outcome.error, None);
+    assert_eq!(
+        outcome.lines,
+        "load 1 0\nload 2 0\nemission 0 0\nwithdrawal 7 0\nmeridional 0 1\nmeridional 2 0\n\
+         zonal 2 0\nremap 0 6\nremap 2 0\nair\ntracers 0 0 0 0 0 7\n"
+    );
+}
+
+#[test]
+fn a_bad_line_is_named() {
+    for bad in [
+        "lode",
+        "grid 4 1 1",
+        "grid 4 1 1 1 1",
+        "air 1 -1",
+        "total",
+        "total x",
+        "zonal 0",
+        "zonal 0 0 1.5",
+        "meridional",
+        "emission 0 0 4294967296",
+        "load 1",
+        "show 1",
+    ] {
+        let outcome = run(&format!("load\n# fine\n{bad}\nload\n"));
+        assert_eq!(outcome.lines, "load 1 0\n");
+        assert!(outcome.error.unwrap().starts_with("line 3: "), "{bad}");
+    }
+}
