@@ -2,7 +2,7 @@
 -- Assumes nothing.
 use Prim.Native.Nat.{ℕ, zero, suc, _+_, _-_}
 use mathlib.Core.List.{List, [], _∷_, _++_}
-use mathlib.Core.Bool.{Bool, true, false}
+use mathlib.Core.Bool.{Bool, true, false, _&&_, _||_}
 use lib.ListN.{length, getD, take, drop}
 
 -- entry i of a list of amounts; 0 past its end
@@ -44,12 +44,12 @@ howMany (suc n) p = elim (p n) [ true ↦ suc (howMany n p) | false ↦ howMany 
 -- p holds at every number below n
 unfoldable pub every : ℕ → (ℕ → Bool) → Bool
 every zero p = true
-every (suc n) p = elim (every n p) [ true ↦ p n | false ↦ false ]
+every (suc n) p = every n p && p n
 
 -- p holds at some number below n
 unfoldable pub some : ℕ → (ℕ → Bool) → Bool
 some zero p = false
-some (suc n) p = elim (some n p) [ true ↦ true | false ↦ p n ]
+some (suc n) p = some n p || p n
 
 -- the smallest of the numbers 1 to n at which p holds; 0 where it holds at none of them
 unfoldable pub smallest : ℕ → (ℕ → Bool) → ℕ

@@ -1,5 +1,7 @@
 -- A case: a world, a call, and what `step` gives. One computed test over a table of cases, and the law that a table without failing cases is a theorem of every case in it.
 -- Assumes nothing.
+pub mod Marked
+pub mod Further
 use Prim.Native.Nat.{ℕ}
 use Prim.Native.String.{String}
 use mathlib.Core.List.{List, [], _∷_, cons≢nil}

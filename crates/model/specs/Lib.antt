@@ -8,5 +8,4 @@ pub mod Range
 pub mod Step
 pub mod Lists
 pub mod Cases
-pub mod Marked
-pub mod Further
+pub mod Laws

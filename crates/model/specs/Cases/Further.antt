@@ -9,7 +9,7 @@ use lib.ListN.{replicate, set}
 use Rattle.model.specs.World.{Grid, World, worldCells}
 use Rattle.model.specs.Step.{Call, load, emission, withdrawal, zonal, meridional, remap, total, reading}
 use Rattle.model.specs.Cases.{Case, Hold, hold, computes}
-use Rattle.model.specs.Marked.{grid, world, four, six, row, gives, refuses, hundreds, peak, sweep, stair}
+use Rattle.model.specs.Cases.Marked.{grid, world, four, six, row, gives, refuses, hundreds, peak, sweep, stair}
 
 -- a case that is accepted and changes nothing
 abbrev keeps : String → World → Call → ℕ → Case

@@ -1,0 +1,152 @@
+-- Laws of the words of Basic.antt: sums, lists of values, every, some, smallest, a part of a list and a part written.
+-- Assumes nothing.
+use Prim.Native.Nat.{ℕ, zero, suc, _+_, _*_, _-_, _≤_, _<_, min}
+use mathlib.Core.List.{List, [], _∷_, _++_}
+use mathlib.Core.Bool.{Bool, true, false, and-eq-true-iff, _&&_, _||_, false≢true}
+use mathlib.Core.Path.{_≡_, refl, sym, _∙_, ap, ap₂}
+use mathlib.Core.Logic.{_⊎_, inl, inr, ⊎-elim}
+use native.Mathlib.Nat.{zero-add, add-zero, add-assoc, mul-add, mul-zero, le-refl, add-suc, eq-or-lt-of-le}
+use native.Mathlib.Numerals.{add-one}
+use native.Mathlib.Omega.{arith}
+use lib.ListN.{length, getD, take, drop, set, length-append, length-take, length-drop}
+use lib.Seq.{getD-take, getD-drop, getD-set-same, getD-set-other, ext-getD}
+use Rattle.model.specs.Basic.{at, part, written, joined, tabFrom, tab, sum, every, some, smallest}
+
+-- ---- numbers below n + 1: those below n, and n
+pub below-cases : {i n : ℕ} → i < suc n → (i ≡ n) ⊎ (i < n)
+below-cases h = eq-or-lt-of-le (omega arith)
+
+-- ---- sums
+pub sum-ext : (n : ℕ) (f g : ℕ → ℕ) → ((i : ℕ) → i < n → f i ≡ g i) → sum n f ≡ sum n g
+unfolding sum
+sum-ext zero f g h = refl
+sum-ext (suc n) f g h = ap₂ _+_ (sum-ext n f g (λ i p. h i (omega arith))) (h n (omega arith))
+
+pub sum-zero : (n : ℕ) → sum n (λ i. 0) ≡ 0
+unfolding sum
+sum-zero zero = refl
+sum-zero (suc n) = ap (λ (x : ℕ). x + 0) (sum-zero n)
+
+pub sum-add : (n : ℕ) (f g : ℕ → ℕ) → sum n (λ i. f i + g i) ≡ sum n f + sum n g
+unfolding sum
+sum-add zero f g = refl
+sum-add (suc n) f g = omega (arith, sum-add n f g)
+
+pub sum-times : (n z : ℕ) (f : ℕ → ℕ) → sum n (λ i. z * f i) ≡ z * sum n f
+unfolding sum
+sum-times zero z f = sym (mul-zero z)
+sum-times (suc n) z f = omega (arith, sum-times n z f)
+
+pub sum-le : (n : ℕ) (f g : ℕ → ℕ) → ((i : ℕ) → i < n → f i ≤ g i) → sum n f ≤ sum n g
+unfolding sum
+sum-le zero f g h = le-refl 0
+sum-le (suc n) f g h = omega (arith, sum-le n f g (λ i p. h i (omega arith)), h n (omega arith))
+
+-- one term is at most the sum
+pub term-le-sum : (n : ℕ) (f : ℕ → ℕ) (i : ℕ) → i < n → f i ≤ sum n f
+unfolding sum
+term-le-sum zero f i h = absurd (omega arith)
+term-le-sum (suc n) f i h =
+    ⊎-elim (λ e. rw e (omega arith)) (λ p. omega (arith, term-le-sum n f i p)) (below-cases h)
+
+pub sum-split : (a b : ℕ) (f : ℕ → ℕ) → sum (a + b) f ≡ sum a f + sum b (λ i. f (a + i))
+unfolding sum
+sum-split a zero f = rw (add-zero a, add-zero)
+sum-split a (suc b) f = rw (add-suc a b, sum-split a b f) (add-assoc _ _ _)
+
+-- ---- lists of values
+length-tabFrom : {A : Type 0} (i n : ℕ) (f : ℕ → A) → length (tabFrom i n f) ≡ n
+unfolding tabFrom
+length-tabFrom i zero f = refl
+length-tabFrom i (suc n) f = ap suc (length-tabFrom (suc i) n f)
+
+pub length-tab : {A : Type 0} (n : ℕ) (f : ℕ → A) → length (tab n f) ≡ n
+length-tab n f = length-tabFrom 0 n f
+
+getD-tabFrom : {A : Type 0} (i n : ℕ) (f : ℕ → A) (j : ℕ) (d : A) → j < n → getD (tabFrom i n f) j d ≡ f (i + j)
+unfolding tabFrom
+getD-tabFrom i zero f j d h = absurd (omega arith)
+getD-tabFrom i (suc n) f zero d h = rw add-zero
+getD-tabFrom i (suc n) f (suc j) d h = getD-tabFrom (suc i) n f j d (omega arith) ∙ ap f (omega arith)
+
+pub getD-tab : {A : Type 0} (n : ℕ) (f : ℕ → A) (j : ℕ) (d : A) → j < n → getD (tab n f) j d ≡ f j
+getD-tab n f j d h = getD-tabFrom 0 n f j d h ∙ ap f (zero-add j)
+
+pub at-tab : (n : ℕ) (f : ℕ → ℕ) (j : ℕ) → j < n → at (tab n f) j ≡ f j
+at-tab n f j h = getD-tab n f j 0 h
+
+pub sum-tab : (n : ℕ) (f : ℕ → ℕ) → sum n (at (tab n f)) ≡ sum n f
+sum-tab n f = sum-ext n (at (tab n f)) f (at-tab n f)
+
+-- a list is the list of its entries
+pub tab-at : (n : ℕ) (l : List ℕ) → length l ≡ n → tab n (at l) ≡ l
+tab-at n l e =
+    ext-getD 0 (tab n (at l)) l (length-tab n (at l) ∙ sym e)
+    (λ i h. at-tab n (at l) i (rw (length-tab n (at l)) at h))
+
+pub tab-ext : (n : ℕ) (f g : ℕ → ℕ) → ((i : ℕ) → i < n → f i ≡ g i) → tab n f ≡ tab n g
+tab-ext n f g h =
+    ext-getD 0 (tab n f) (tab n g) (length-tab n f ∙ sym (length-tab n g))
+    (λ i p. let q : i < n = rw (length-tab n f) at p in at-tab n f i q ∙ h i q ∙ sym (at-tab n g i q))
+
+-- ---- every and some
+both : (a b : Bool) → a && b ≡ true → (a ≡ true) × (b ≡ true)
+both a b e = and-eq-true-iff a b .0 e
+
+pub every-at : (n : ℕ) (p : ℕ → Bool) → every n p ≡ true → (i : ℕ) → i < n → p i ≡ true
+unfolding every
+every-at zero p e i h = absurd (omega arith)
+every-at (suc n) p e i h =
+    let h₂ = both (every n p) (p n) e in
+    ⊎-elim (λ (u : i ≡ n). rw u (h₂ .1)) (λ u. every-at n p (h₂ .0) i u) (below-cases h)
+
+pub every-true : (n : ℕ) (p : ℕ → Bool) → ((i : ℕ) → i < n → p i ≡ true) → every n p ≡ true
+unfolding every
+every-true zero p h = refl
+every-true (suc n) p h = ap₂ _&&_ (every-true n p (λ i q. h i (omega arith))) (h n (omega arith))
+
+pub every-false : (n : ℕ) (p : ℕ → Bool) (i : ℕ) → i < n → p i ≡ false → every n p ≡ false
+every-false n p i h e = go (every n p) refl
+  where
+    go : (b : Bool) → every n p ≡ b → b ≡ false
+    go true q = absurd (false≢true (sym e ∙ every-at n p q i h))
+    go false q = refl
+
+pub every-ext : (n : ℕ) (p q : ℕ → Bool) → ((i : ℕ) → i < n → p i ≡ q i) → every n p ≡ every n q
+unfolding every
+every-ext zero p q h = refl
+every-ext (suc n) p q h = ap₂ _&&_ (every-ext n p q (λ i r. h i (omega arith))) (h n (omega arith))
+
+or-true : (a : Bool) → (a || true) ≡ true
+or-true true = refl
+or-true false = refl
+
+pub some-true : (n : ℕ) (p : ℕ → Bool) (i : ℕ) → i < n → p i ≡ true → some n p ≡ true
+unfolding some
+some-true zero p i h e = absurd (omega arith)
+some-true (suc n) p i h e =
+    ⊎-elim (λ (u : i ≡ n). ap (λ (b : Bool). some n p || b) (rw u at e) ∙ or-true (some n p)) (λ u. ap (λ (b : Bool). b || p n) (some-true n p i u e)) (below-cases h)
+
+-- ---- the smallest
+-- what `smallest n p` is, by cases: 0, and p holds at none of 1 to n; or a number of 1 to n at which p holds and at no smaller one
+pub data Smallest (n : ℕ) (p : ℕ → Bool) : ℕ → Type 0 where
+  none : ((i : ℕ) → 1 ≤ i → i ≤ n → p i ≡ false) → Smallest n p 0
+  found : {m : ℕ} → m < n → p (suc m) ≡ true → ((i : ℕ) → 1 ≤ i → i ≤ m → p i ≡ false) → Smallest n p (suc m)
+
+smallest-next : (n : ℕ) (p : ℕ → Bool) (r : ℕ) (b : Bool) → p (suc n) ≡ b → Smallest n p r → Smallest (suc n) p (elim r [ zero ↦ elim b [ true ↦ suc n | false ↦ 0 ] | suc m ↦ suc m ])
+smallest-next n p zero true e (none h) = found {m = n} (omega arith) e h
+smallest-next n p zero false e (none h) =
+    none (λ i low high. ⊎-elim (λ (u : i ≡ suc n). rw u e) (λ u. h i low (omega arith)) (eq-or-lt-of-le high))
+smallest-next n p (suc m) b e (found h q r) = found {m = m} (omega arith) q r
+
+pub smallest-is : (n : ℕ) (p : ℕ → Bool) → Smallest n p (smallest n p)
+unfolding smallest
+smallest-is zero p = none (λ i low high. absurd (omega arith))
+smallest-is (suc n) p = smallest-next n p (smallest n p) (p (suc n)) refl (smallest-is n p)
+
+-- ---- a part of a list, and a part written
+pub length-part : (l : List ℕ) (a n : ℕ) → a + n ≤ length l → length (part l a n) ≡ n
+length-part l a n h = simp (length-take, length-drop) (omega arith)
+
+pub at-part : (l : List ℕ) (a n i : ℕ) → i < n → at (part l a n) i ≡ at l (a + i)
+at-part l a n i h = rw (getD-take, getD-drop)
