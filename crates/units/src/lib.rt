@@ -1,8 +1,10 @@
 // Air units, tracer units, the grid, and the answer of a call.
 ghost use mathlib.Core.Path.{_≡_};
-ghost use Prim.Native.Nat.{_≤_, _<_};
-ghost use Rattle.units.specs.Grid.{gridOf, GridInRange};
+ghost use Prim.Native.Nat.{_≤_};
 ghost use Rattle.model.specs.World.{layerCells, worldCells};
+ghost use Rattle.model.specs.Step.{gridFits};
+ghost use Rattle.units.specs.Grid.{gridOf, InRange};
+ghost use Rattle.units.specs.Answer.{refusalNumber, numberOf, countOf};
 
 // Air units and tracer units are separate counts: an amount of one is never added to an amount of the other.
 pub struct Air(pub u32);
@@ -17,12 +19,94 @@ pub struct Grid {
     pub n: u32,
 }
 
+// The place that refuses a call.
+pub enum Refusal {
+    GridRange,
+    Lengths,
+    AirRange,
+    Totals,
+    Index,
+    Emission,
+    Withdrawal,
+    Fluxes,
+    Zonal,
+    Meridional,
+    Table,
+    Remap,
+}
+
+// What a call answers: accepted, with its count, or refused.
+pub enum Answer {
+    Accepted(u32),
+    Refused(Refusal),
+}
+
+// The refusal's number.
+pub fn refusal_number(r: Refusal) -> u32
+    ensures { λ n. ⌜ n ≡ refusalNumber r ⌝ }
+{
+    match r {
+        Refusal::GridRange => 1,
+        Refusal::Lengths => 2,
+        Refusal::AirRange => 3,
+        Refusal::Totals => 4,
+        Refusal::Index => 5,
+        Refusal::Emission => 6,
+        Refusal::Withdrawal => 7,
+        Refusal::Fluxes => 8,
+        Refusal::Zonal => 9,
+        Refusal::Meridional => 10,
+        Refusal::Table => 11,
+        Refusal::Remap => 12,
+    }
+}
+
+// The answer's number: 0, or the refusal's.
+pub fn number(a: Answer) -> u32
+    ensures { λ n. ⌜ n ≡ numberOf a ⌝ }
+{
+    match a {
+        Answer::Accepted(_) => 0,
+        Answer::Refused(r) => refusal_number(r),
+    }
+}
+
+// The answer's count: 0 with a refusal.
+pub fn count(a: Answer) -> u32
+    ensures { λ n. ⌜ n ≡ countOf a ⌝ }
+{
+    match a {
+        Answer::Accepted(n) => n,
+        Answer::Refused(_) => 0,
+    }
+}
+
+// Place 1: whether W, R, K and N are in their ranges.
+pub fn grid_fits(g: Grid) -> bool
+    ensures { λ r. ⌜ r ≡ gridFits (gridOf g) ⌝ }
+{
+    let columns = (4 <= g.w) & (g.w <= 72);
+    let rows = (1 <= g.r) & (g.r <= 44);
+    let layers = (1 <= g.k) & (g.k <= 32);
+    let tracers = (1 <= g.n) & (g.n <= 8);
+    columns & rows & layers & tracers
+}
+
 // C, the cells of a layer.
 pub fn layer_cells(g: Grid) -> u32
-    requires { ⌜ GridInRange g ⌝ }
+    requires { ⌜ InRange g ⌝ }
     ensures { λ c. ⌜ (c ≡ layerCells (gridOf g)) × (c ≤ 3170) ⌝ }
 {
     let w = g.w;
     let r = g.r;
     2 + r * w
+}
+
+// K·C, all cells of the world.
+pub fn world_cells(g: Grid) -> u32
+    requires { ⌜ InRange g ⌝ }
+    ensures { λ c. ⌜ (c ≡ worldCells (gridOf g)) × (c ≤ 101440) ⌝ }
+{
+    let k = g.k;
+    k * layer_cells(g)
 }

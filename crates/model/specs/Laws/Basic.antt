@@ -90,7 +90,7 @@ tab-ext n f g h =
     (λ i p. let q : i < n = rw (length-tab n f) at p in at-tab n f i q ∙ h i q ∙ sym (at-tab n g i q))
 
 -- ---- every and some
-both : (a b : Bool) → a && b ≡ true → (a ≡ true) × (b ≡ true)
+pub both : (a b : Bool) → a && b ≡ true → (a ≡ true) × (b ≡ true)
 both a b e = and-eq-true-iff a b .0 e
 
 pub every-at : (n : ℕ) (p : ℕ → Bool) → every n p ≡ true → (i : ℕ) → i < n → p i ≡ true
@@ -150,3 +150,20 @@ length-part l a n h = simp (length-take, length-drop) (omega arith)
 
 pub at-part : (l : List ℕ) (a n i : ℕ) → i < n → at (part l a n) i ≡ at l (a + i)
 at-part l a n i h = rw (getD-take, getD-drop)
+
+-- ---- as a loop meets them: nothing yet, and one more
+pub sum-none : (f : ℕ → ℕ) → sum 0 f ≡ 0
+unfolding sum
+sum-none f = refl
+
+pub sum-more : (n : ℕ) (f : ℕ → ℕ) → sum (n + 1) f ≡ sum n f + f n
+unfolding sum
+sum-more n f = rw add-one
+
+pub every-none : (p : ℕ → Bool) → every 0 p ≡ true
+unfolding every
+every-none p = refl
+
+pub every-more : (n : ℕ) (p : ℕ → Bool) → every (n + 1) p ≡ every n p && p n
+unfolding every
+every-more n p = rw add-one

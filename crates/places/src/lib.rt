@@ -1,0 +1,156 @@
+// Places 1 to 4, which every call tests: the grid, the lent lengths, the air, the tracers' totals.
+// The tests of whole buffers have no early exit, so that the compiler can vectorise them, and each buffer is read once.
+ghost use mathlib.Core.Path.{_≡_};
+ghost use mathlib.Core.Bool.{_&&_};
+ghost use Prim.Native.Nat.{ℕ, _+_, _*_, _≤_, _<_};
+ghost use lib.ListN.{length, getD};
+ghost use lib.Dec.{leb};
+ghost use Rattle.model.specs.Limits.{totalLimit};
+ghost use Rattle.model.specs.Basic.{at, part, sum, every};
+ghost use Rattle.model.specs.World.{airFits};
+ghost use Rattle.units.specs.Grid.{gridOf, worldOf, InRange};
+ghost use Rattle.places.specs.Totals.{TracersFit, AreTotals};
+ghost use Rattle.places.specs.Tested.{lentServes, lengthsServe, IsTested};
+use units::Air;
+use units::Answer;
+use units::Grid;
+use units::Refusal;
+use units::grid_fits;
+use units::world_cells;
+
+// Whether a cell's air is 1 to 65,535.
+pub fn air_in_range(m: Air) -> bool
+    ensures { λ r. ⌜ r ≡ airFits (m .0) ⌝ }
+{
+    (1 <= m.0) & (m.0 <= 65535)
+}
+
+// Place 3: whether every cell's air is in range.
+pub fn air_fits(air: &[u32]) -> bool
+    ensures { λ r. ⌜ r ≡ every (length (now (air .entry))) (λ i. airFits (at (now (air .entry)) i)) ⌝ }
+{
+    let mut ok = true;
+    let mut i = 0;
+    while i < air.len() {
+        ok = ok & air_in_range(Air(air[i]));
+        i += 1;
+    }
+    ok
+}
+
+// A tracer's sum over all cells.
+pub fn gas_total(gas: &[u32]) -> u64
+    requires { ⌜ length (now gas) ≤ 101440 ⌝ }
+    ensures { λ r. ⌜ (r ≡ sum (length (now (gas .entry))) (at (now (gas .entry)))) × (r < 562949953421312) ⌝ }
+{
+    let mut sum: u64 = 0;
+    let mut i = 0;
+    while i < gas.len() {
+        sum += gas[i] as u64;
+        i += 1;
+    }
+    sum
+}
+
+// The totals of the first n tracers, each over `cells` cells; 0 for the others.
+pub fn totals(tracers: &[u32], cells: usize, n: usize) -> [u64; 8]
+    requires { ⌜ TracersFit (now tracers) cells n ⌝ }
+    ensures { λ r. ⌜ AreTotals (now (tracers .entry)) cells n r ⌝ }
+{
+    let mut sums = [0u64; 8];
+    let mut t = 0;
+    while t < n {
+        let a = t * cells;
+        let e = a + cells;
+        sums[t] = gas_total(&tracers[a..e]);
+        t += 1;
+    }
+    sums
+}
+
+// Place 4: whether the totals of the first n tracers are at most 268,435,455.
+pub fn totals_fit(sums: [u64; 8], n: usize) -> bool
+    requires { ⌜ n ≤ 8 ⌝ }
+    ensures { λ r. ⌜ r ≡ every n (λ t. leb (at sums t) totalLimit) ⌝ }
+{
+    let mut ok = true;
+    let mut t = 0;
+    while t < n {
+        ok = ok & (sums[t] <= 268435455);
+        t += 1;
+    }
+    ok
+}
+
+// What a call is lent besides the world, with its length: nothing, a row's fluxes, a layer's fluxes, a table.
+pub enum Lent {
+    Nothing,
+    RowFluxes(usize),
+    LayerFluxes(usize),
+    Table(usize),
+}
+
+// Whether that length is the grid's.
+pub fn lent_fits(g: Grid, lent: Lent) -> bool
+    requires { ⌜ InRange g ⌝ }
+    ensures { λ r. ⌜ r ≡ lentServes (gridOf g) lent ⌝ }
+{
+    let w = g.w as usize;
+    let rows = g.r as usize;
+    let k = g.k as usize;
+    match lent {
+        Lent::Nothing => true,
+        Lent::RowFluxes(n) => n == w,
+        Lent::LayerFluxes(n) => n == w * (rows + 1),
+        Lent::Table(n) => n == 2 * (k + 1),
+    }
+}
+
+// The answer of places 1 to 4, and every tracer's total where all four are passed.
+pub struct Tested {
+    pub answer: Answer,
+    pub totals: [u64; 8],
+}
+
+fn refused(place: Refusal) -> Tested
+    ensures { λ r. ⌜ r .answer ≡ Answer.Refused place ⌝ }
+{
+    Tested {
+        answer: Answer::Refused(place),
+        totals: [0u64; 8],
+    }
+}
+
+// Place 2: whether the lent lengths are the grid's.
+pub fn lengths_fit(g: Grid, air: usize, tracers: usize, lent: Lent) -> bool
+    requires { ⌜ InRange g ⌝ }
+    ensures { λ r. ⌜ r ≡ lengthsServe (gridOf g) air tracers lent ⌝ }
+{
+    let cells = world_cells(g) as usize;
+    let n = g.n as usize;
+    (air == cells) & (tracers == n * cells) & lent_fits(g, lent)
+}
+
+// Places 1 to 4, in this order.
+pub fn common_places(g: Grid, air: &[u32], tracers: &[u32], lent: Lent) -> Tested
+    ensures { λ r. ⌜ IsTested (worldOf g (now (air .entry)) (now (tracers .entry))) lent (r .answer) (r .totals) ⌝ }
+{
+    if grid_fits(g) {} else {
+        return refused(Refusal::GridRange);
+    }
+    if lengths_fit(g, air.len(), tracers.len(), lent) {} else {
+        return refused(Refusal::Lengths);
+    }
+    if air_fits(air) {} else {
+        return refused(Refusal::AirRange);
+    }
+    let n = g.n as usize;
+    let sums = totals(tracers, world_cells(g) as usize, n);
+    if totals_fit(sums, n) {} else {
+        return refused(Refusal::Totals);
+    }
+    Tested {
+        answer: Answer::Accepted(0),
+        totals: sums,
+    }
+}
