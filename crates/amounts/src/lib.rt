@@ -1,0 +1,122 @@
+// The calls that move no air: load, emission, withdrawal, and the readings of a total and of a cell.
+ghost use mathlib.Core.Path.{_≡_};
+ghost use Rattle.model.specs.Step.{step, load as load-call, emission as emission-call, withdrawal as withdrawal-call, total as total-call, reading as reading-call};
+ghost use Rattle.units.specs.Grid.{worldOf};
+ghost use Rattle.units.specs.Answer.{Agrees};
+use places::Lent;
+use places::common_places;
+use units::Answer;
+use units::Grid;
+use units::Refusal;
+use units::number;
+use units::world_cells;
+
+// Tests lent air and tracers.
+pub fn load(g: Grid, air: &[u32], tracers: &[u32]) -> Answer
+    ensures { λ r. ⌜ Agrees (step (worldOf g (now (air .entry)) (now (tracers .entry))) load-call) r (now (air .entry)) (now (tracers .entry)) ⌝ }
+{
+    let tested = common_places(g, air, tracers, Lent::Nothing);
+    tested.answer
+}
+
+// A tracer's total.
+pub fn total(g: Grid, air: &[u32], tracers: &[u32], tracer: u32) -> Answer
+    ensures { λ r. ⌜ Agrees (step (worldOf g (now (air .entry)) (now (tracers .entry))) (total-call tracer)) r (now (air .entry)) (now (tracers .entry)) ⌝ }
+{
+    let tested = common_places(g, air, tracers, Lent::Nothing);
+    let answer = tested.answer;
+    if number(answer) == 0 {} else {
+        return answer;
+    }
+    if tracer < g.n {} else {
+        return Answer::Refused(Refusal::Index);
+    }
+    let t = tracer as usize;
+    let sums = tested.totals;
+    Answer::Accepted(sums[t] as u32)
+}
+
+// A cell's amount of a tracer, the cell numbered over all layers.
+pub fn cell(g: Grid, air: &[u32], tracers: &[u32], tracer: u32, cell: u32) -> Answer
+    ensures { λ r. ⌜ Agrees (step (worldOf g (now (air .entry)) (now (tracers .entry))) (reading-call tracer cell)) r (now (air .entry)) (now (tracers .entry)) ⌝ }
+{
+    let tested = common_places(g, air, tracers, Lent::Nothing);
+    let answer = tested.answer;
+    if number(answer) == 0 {} else {
+        return answer;
+    }
+    if tracer < g.n {} else {
+        return Answer::Refused(Refusal::Index);
+    }
+    let cells = world_cells(g);
+    if cell < cells {} else {
+        return Answer::Refused(Refusal::Index);
+    }
+    let i = (tracer as usize) * (cells as usize) + (cell as usize);
+    Answer::Accepted(tracers[i])
+}
+
+// Adds an amount of a tracer in one cell.
+pub fn emission(
+    g: Grid,
+    air: &[u32],
+    tracers: &mut [u32],
+    tracer: u32,
+    cell: u32,
+    amount: u32,
+) -> Answer
+    ensures { λ r. ⌜ Agrees (step (worldOf g (now (air .entry)) (now (tracers .entry))) (emission-call tracer cell amount)) r (now (air .entry)) (now (tracers .exit)) ⌝ }
+{
+    let tested = common_places(g, air, tracers, Lent::Nothing);
+    let answer = tested.answer;
+    if number(answer) == 0 {} else {
+        return answer;
+    }
+    if tracer < g.n {} else {
+        return Answer::Refused(Refusal::Index);
+    }
+    let cells = world_cells(g);
+    if cell < cells {} else {
+        return Answer::Refused(Refusal::Index);
+    }
+    let t = tracer as usize;
+    let sums = tested.totals;
+    if sums[t] + (amount as u64) <= 268435455 {} else {
+        return Answer::Refused(Refusal::Emission);
+    }
+    let i = t * (cells as usize) + (cell as usize);
+    tracers[i] = tracers[i] + amount;
+    Answer::Accepted(0)
+}
+
+// Takes an amount of a tracer from one cell.
+pub fn withdrawal(
+    g: Grid,
+    air: &[u32],
+    tracers: &mut [u32],
+    tracer: u32,
+    cell: u32,
+    amount: u32,
+) -> Answer
+    ensures { λ r. ⌜ Agrees (step (worldOf g (now (air .entry)) (now (tracers .entry))) (withdrawal-call tracer cell amount)) r (now (air .entry)) (now (tracers .exit)) ⌝ }
+{
+    let tested = common_places(g, air, tracers, Lent::Nothing);
+    let answer = tested.answer;
+    if number(answer) == 0 {} else {
+        return answer;
+    }
+    if tracer < g.n {} else {
+        return Answer::Refused(Refusal::Index);
+    }
+    let cells = world_cells(g);
+    if cell < cells {} else {
+        return Answer::Refused(Refusal::Index);
+    }
+    let i = (tracer as usize) * (cells as usize) + (cell as usize);
+    let had = tracers[i];
+    if amount <= had {} else {
+        return Answer::Refused(Refusal::Withdrawal);
+    }
+    tracers[i] = had - amount;
+    Answer::Accepted(0)
+}
