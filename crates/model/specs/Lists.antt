@@ -99,3 +99,7 @@ namesNoOther own w (meridional k fluxes) = true
 namesNoOther own w (remap table) = true
 namesNoOther own w (total t) = namesOwn own w t
 namesNoOther own w (reading t c) = namesOwn own w t
+
+-- "So are the answers (0 or the refusal's number) .. and the counts": of one call in two worlds
+abbrev pub SameReply : World → World → Call → Type 0
+SameReply w v call = (step w call .answer ≡ step v call .answer) × (step w call .count ≡ step v call .count)

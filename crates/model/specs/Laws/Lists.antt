@@ -1,0 +1,253 @@
+-- What one call keeps, as a record of facts, and what a list of such calls keeps, from each of its points to each later one.
+-- Assumes an accepted load, and the record for each call of the list.
+use Prim.Native.Nat.{ℕ, zero, suc, _+_, _*_, _-_, _≤_, _<_}
+use mathlib.Core.List.{List, [], _∷_, _++_}
+use mathlib.Core.Bool.{Bool, true, false, not, _&&_, and-false, false≢true, true≢false}
+use mathlib.Core.Path.{_≡_, refl, sym, _∙_, ap, ap₂}
+use native.Mathlib.Nat.{zero-add, add-sub-of-le}
+use native.Mathlib.Omega.{arith}
+use borrow.Author.Tests.{not-false}
+use lib.Dec.{ltb, eqb, eqb·suc-zero}
+use lib.ListN.{take, drop, getD}
+use lib.Seq.{getD-drop, take-add}
+use Rattle.model.specs.Limits.{totalLimit}
+use Rattle.model.specs.Basic.{at, part, sum}
+use Rattle.model.specs.World.{Grid, World, worldCells, gas, gasTotal, airTotal}
+use Rattle.model.specs.Remap.{remapServes}
+use Rattle.model.specs.Step.{Call, load, emission, withdrawal, zonal, meridional, remap, total, reading, Place, firstOf, tracerAbsent, cellAbsent, lentFits, ownPlaces, accepted, refused, refusal, step}
+use Rattle.model.specs.Lists.{after, point, callAt, whenAccepted, emits, withdraws, emitted, withdrawn, HasRatio, CallInRange, Alike, namesOwn, namesNoOther, SameReply}
+use Rattle.model.specs.Laws.Step.{Fits, firstOf-same, step-accepted, step-refused, answer-is, own-refusal, lent-refusal}
+
+-- ---- what is kept from one world to a later one, where `emits t` units of gas t came in and `withdraws t` went out
+pub record Kept (w next : World) (emits withdraws : ℕ → ℕ) : Type 0 where
+  pub fits : Fits next
+  pub sameGrid : next .grid ≡ w .grid
+  pub gasKept : (t : ℕ) → t < w .grid .N → gasTotal next t + withdraws t ≡ gasTotal w t + emits t
+  pub airKept : airTotal next ≡ airTotal w
+  pub ratioKept : (t z : ℕ) → t < w .grid .N → emits t ≡ 0 → withdraws t ≡ 0 → HasRatio w t z → HasRatio next t z
+
+pub kept-same : (w : World) (e d : ℕ → ℕ) → Fits w → ((t : ℕ) → e t ≡ 0) → ((t : ℕ) → d t ≡ 0) → Kept w w e d
+kept-same w e d fits none-in none-out =
+    record {
+      fits = fits;
+      sameGrid = refl;
+      gasKept = λ t h. omega (arith, none-in t, none-out t);
+      airKept = refl;
+      ratioKept = λ t z h p q r. r;
+    }
+
+pub kept-trans : {w v u : World} {e d e' d' : ℕ → ℕ} → Kept w v e d → Kept v u e' d' → Kept w u (λ t. e t + e' t) (λ t. d t + d' t)
+kept-trans {w} {v} {u} {e} {d} {e'} {d'} p q =
+    record {
+      fits = q .fits;
+      sameGrid = q .sameGrid ∙ p .sameGrid;
+      gasKept = λ t h. omega (arith, p .gasKept t h, q .gasKept t (still h));
+      airKept = q .airKept ∙ p .airKept;
+      ratioKept = λ t z h a b r. q .ratioKept t z (still h) (omega arith) (omega arith) (p .ratioKept t z h (omega arith) (omega arith) r);
+    }
+  where
+    still : {t : ℕ} → t < w .grid .N → t < v .grid .N
+    still h = rw (p .sameGrid) h
+
+-- ---- two worlds alike
+pub alike-same : (own : ℕ → Bool) (w : World) → Alike own w w
+alike-same own w = record { sameGrid = refl; sameAir = refl; sameGas = λ t h. refl }
+
+pub alike-sym : {own : ℕ → Bool} {w v : World} → Alike own w v → Alike own v w
+alike-sym a =
+    record { sameGrid = sym (a .sameGrid); sameAir = sym (a .sameAir); sameGas = λ t h. sym (a .sameGas t h) }
+
+pub alike-trans : {own : ℕ → Bool} {w v u : World} → Alike own w v → Alike own v u → Alike own w u
+alike-trans a b =
+    record {
+      sameGrid = a .sameGrid ∙ b .sameGrid;
+      sameAir = a .sameAir ∙ b .sameAir;
+      sameGas = λ t h. a .sameGas t h ∙ b .sameGas t h;
+    }
+
+-- two worlds alike: which gases a call names, and its refusal if it names no other
+module _ (own : ℕ → Bool) (w v : World) (alike : Alike own w v) where
+  names-own-alike : (t : ℕ) → namesOwn own w t ≡ namesOwn own v t
+  names-own-alike t = ap (λ (g : Grid). elim (ltb t (g .N)) [ true ↦ own t | false ↦ true ]) (alike .sameGrid)
+
+  names-alike : (call : Call) → namesNoOther own w call ≡ namesNoOther own v call
+  names-alike load = refl
+  names-alike (emission t c amount) = names-own-alike t
+  names-alike (withdrawal t c amount) = names-own-alike t
+  names-alike (zonal k r fluxes) = refl
+  names-alike (meridional k fluxes) = refl
+  names-alike (remap table) = refl
+  names-alike (total t) = names-own-alike t
+  names-alike (reading t c) = names-own-alike t
+
+  -- a world with no tracers' list: what a call sees that reads the grid and the air alone
+  by-air : (call : Call) → firstOf (ownPlaces call) (record { grid = w .grid; air = w .air; tracers = [] }) ≡ firstOf (ownPlaces call) (record { grid = v .grid; air = v .air; tracers = [] })
+  by-air call =
+      ap₂ (λ (g : Grid) (a : List ℕ). firstOf (ownPlaces call) (record { grid = g; air = a; tracers = [] }))
+      (alike .sameGrid)
+      (alike .sameAir)
+
+  -- places that test the tracer or the cell named; a present tracer that is named is an own one
+  tracer-place-alike : (t : ℕ) (ps : List Place) → namesOwn own w t ≡ true → (gas w t ≡ gas v t → firstOf ps w ≡ firstOf ps v) → firstOf (tracerAbsent t ∷ ps) w ≡ firstOf (tracerAbsent t ∷ ps) v
+  tracer-place-alike t ps named rest =
+      firstOf-same (tracerAbsent t) ps w v
+      (ap (λ (g : Grid). not (ltb t (g .N))) (alike .sameGrid))
+      (λ present. rest (alike .sameGas t (rw (not-false (ltb t (w .grid .N)) present, namesOwn) at named)))
+
+  cell-place-alike : (c : ℕ) (ps : List Place) → firstOf ps w ≡ firstOf ps v → firstOf (cellAbsent c ∷ ps) w ≡ firstOf (cellAbsent c ∷ ps) v
+  cell-place-alike c ps rest =
+      firstOf-same (cellAbsent c) ps w v (ap (λ (g : Grid). not (ltb c (worldCells g))) (alike .sameGrid)) (λ present. rest)
+
+  none-alike : firstOf [] w ≡ firstOf [] v
+  unfolding firstOf
+  none-alike = refl
+
+  own-places-alike : (call : Call) → namesNoOther own w call ≡ true → firstOf (ownPlaces call) w ≡ firstOf (ownPlaces call) v
+  unfolding ownPlaces
+  own-places-alike load named = none-alike
+  own-places-alike (emission t c amount) named =
+      tracer-place-alike t _ named
+      (λ same.
+      cell-place-alike c _
+      (firstOf-same _ [] w v
+      (ap₂ (λ (g : Grid) (l : List ℕ). ltb totalLimit (sum (worldCells g) (at l) + amount)) (alike .sameGrid) same)
+      (λ none. none-alike)))
+  own-places-alike (withdrawal t c amount) named =
+      tracer-place-alike t _ named
+      (λ same. cell-place-alike c _ (firstOf-same _ [] w v (ap (λ (l : List ℕ). ltb (at l c) amount) same) (λ none. none-alike)))
+  own-places-alike (zonal k r fluxes) named = unfold firstOf in by-air (zonal k r fluxes)
+  own-places-alike (meridional k fluxes) named = unfold firstOf in by-air (meridional k fluxes)
+  own-places-alike (remap table) named = unfold firstOf remapServes in by-air (remap table)
+  own-places-alike (total t) named = tracer-place-alike t _ named (λ same. none-alike)
+  own-places-alike (reading t c) named = tracer-place-alike t _ named (λ same. cell-place-alike c _ none-alike)
+
+  refusal-alike : (call : Call) → Fits w → Fits v → namesNoOther own w call ≡ true → refusal w call ≡ refusal v call
+  refusal-alike call fw fv named = go (lentFits (w .grid) call) refl
+    where
+      go : (b : Bool) → lentFits (w .grid) call ≡ b → refusal w call ≡ refusal v call
+      go true e =
+          own-refusal w call fw e ∙ own-places-alike call named ∙
+          sym (own-refusal v call fv (rw (alike .sameGrid) at e))
+      go false e = lent-refusal w call fw e ∙ sym (lent-refusal v call fv (rw (alike .sameGrid) at e))
+
+-- ---- what one call keeps
+-- an accepted call; `alike` is for a call that names no other gas than the own ones, `apart` for one that names another
+pub record AcceptedKeeps (w : World) (call : Call) : Type 0 where
+  pub kept : Kept w (accepted w call .next) (λ t. emits w t call) (λ t. withdraws w t call)
+  pub inRange : (t : ℕ) → t < w .grid .N → CallInRange w t call
+  pub alike : (own : ℕ → Bool) (v : World) → Fits v → Alike own w v → namesNoOther own w call ≡ true → Alike own (accepted w call .next) (accepted v call .next) × (accepted w call .count ≡ accepted v call .count)
+  pub apart : (own : ℕ → Bool) → namesNoOther own w call ≡ false → Alike own w (accepted w call .next)
+
+-- any call
+pub record StepKeeps (w : World) (call : Call) : Type 0 where
+  pub kept : Kept w (step w call .next) (λ t. emits w t call) (λ t. withdraws w t call)
+  pub inRange : (t : ℕ) → t < w .grid .N → step w call .answer ≡ 0 → CallInRange w t call
+  pub independent : (own : ℕ → Bool) (v : World) → Fits v → Alike own w v → Alike own (step w call .next) (step v call .next) × (namesNoOther own w call ≡ true → SameReply w v call)
+
+-- a refused call brings nothing in and takes nothing out
+when-refused : (w : World) (call : Call) (named : Bool) (amount n : ℕ) → refusal w call ≡ suc n → whenAccepted w call named amount ≡ 0
+when-refused w call named amount n e = rw (answer-is w call, whenAccepted, e, eqb·suc-zero n, and-false named)
+
+refused-none : (w : World) (call : Call) (n : ℕ) → refusal w call ≡ suc n → (t : ℕ) → (emits w t call ≡ 0) × (withdraws w t call ≡ 0)
+refused-none w load n e t = (refl, refl)
+refused-none w (emission t' c amount) n e t = (when-refused w (emission t' c amount) (eqb t' t) amount n e, refl)
+refused-none w (withdrawal t' c amount) n e t = (refl, when-refused w (withdrawal t' c amount) (eqb t' t) amount n e)
+refused-none w (zonal k r fluxes) n e t = (refl, refl)
+refused-none w (meridional k fluxes) n e t = (refl, refl)
+refused-none w (remap table) n e t = (refl, refl)
+refused-none w (total t') n e t = (refl, refl)
+refused-none w (reading t' c) n e t = (refl, refl)
+
+-- a call keeps what it keeps when it is accepted: a refused one changes nothing
+module _ (call : Call) (when : (w : World) → Fits w → refusal w call ≡ 0 → AcceptedKeeps w call) where
+  step-kept : (w : World) → Fits w → (n : ℕ) → refusal w call ≡ n → Kept w (step w call .next) (λ t. emits w t call) (λ t. withdraws w t call)
+  unfolding refused
+  step-kept w fits zero e = rw (step-accepted w call e) (when w fits e .kept)
+  step-kept w fits (suc n) e =
+      rw (step-refused w call n e)
+      (kept-same w (λ t. emits w t call) (λ t. withdraws w t call) fits (λ t. refused-none w call n e t .0) (λ t. refused-none w call n e t .1))
+
+  -- a call that names another gas leaves the own ones alone
+  step-apart : (own : ℕ → Bool) (w : World) → Fits w → namesNoOther own w call ≡ false → (n : ℕ) → refusal w call ≡ n → Alike own w (step w call .next)
+  unfolding refused
+  step-apart own w fits other zero e = rw (step-accepted w call e) (when w fits e .apart own other)
+  step-apart own w fits other (suc n) e = rw (step-refused w call n e) (alike-same own w)
+
+  -- one that names no other does the same in both worlds
+  step-alike : (own : ℕ → Bool) (w v : World) → Fits w → Fits v → Alike own w v → namesNoOther own w call ≡ true → (n : ℕ) → refusal w call ≡ n → refusal v call ≡ n → Alike own (step w call .next) (step v call .next) × (step w call .count ≡ step v call .count)
+  unfolding refused
+  step-alike own w v fw fv a named zero e f =
+      rw (step-accepted w call e, step-accepted v call f) (when w fw e .alike own v fv a named)
+  step-alike own w v fw fv a named (suc n) e f =
+      rw (step-refused w call n e, step-refused v call n f) (a, refl)
+
+  step-independent : (own : ℕ → Bool) (w v : World) → Fits w → Fits v → Alike own w v → (b : Bool) → namesNoOther own w call ≡ b → Alike own (step w call .next) (step v call .next) × (b ≡ true → SameReply w v call)
+  step-independent own w v fw fv a true e =
+      let same = refusal-alike own w v a call fw fv e in
+      let r = step-alike own w v fw fv a e (refusal w call) refl (sym same) in
+      (r .0, λ named. (answer-is w call ∙ same ∙ sym (answer-is v call), r .1))
+  step-independent own w v fw fv a false e =
+      let f = sym (names-alike own w v a call) ∙ e in (
+        alike-trans (alike-sym (step-apart own w fw e (refusal w call) refl)) (alike-trans a (step-apart own v fv f (refusal v call) refl)),
+        λ named. absurd (false≢true named),
+      )
+
+  pub step-keeps : (w : World) → Fits w → StepKeeps w call
+  step-keeps w fits =
+      record {
+        kept = step-kept w fits (refusal w call) refl;
+        inRange = λ t h e. when w fits (sym (answer-is w call) ∙ e) .inRange t h;
+        independent = λ own v fv a. step-independent own w v fits fv a (namesNoOther own w call) refl;
+      }
+
+-- ---- what a list keeps
+-- each call of the list keeps what a call keeps
+abbrev pub EachKeeps : List Call → Type 0
+EachKeeps calls = (i : ℕ) (w : World) → Fits w → StepKeeps w (callAt calls i)
+
+-- from the start to point i
+pub points-kept : (i : ℕ) (w : World) (calls : List Call) → Fits w → EachKeeps calls → Kept w (point w calls i) (λ t. emitted w t (take i calls)) (λ t. withdrawn w t (take i calls))
+unfolding after emitted withdrawn
+points-kept zero w calls fits each = kept-same w (λ t. 0) (λ t. 0) fits (λ t. refl) (λ t. refl)
+points-kept (suc i) w [] fits each = kept-same w (λ t. 0) (λ t. 0) fits (λ t. refl) (λ t. refl)
+points-kept (suc i) w (call ∷ calls) fits each =
+    let one = each 0 w fits .kept in
+    kept-trans one (points-kept i (step w call .next) calls (one .fits) (λ n. each (suc n)))
+
+-- two worlds alike at the start are alike at point i
+pub points-alike : (own : ℕ → Bool) (i : ℕ) (w v : World) (calls : List Call) → Fits w → Fits v → EachKeeps calls → Alike own w v → Alike own (point w calls i) (point v calls i)
+unfolding after
+points-alike own zero w v calls fw fv each a = a
+points-alike own (suc i) w v [] fw fv each a = a
+points-alike own (suc i) w v (call ∷ calls) fw fv each a =
+    let one = each 0 w fw in
+    points-alike own i (step w call .next) (step v call .next) calls (one .kept .fits) (each 0 v fv .kept .fits) (λ n. each (suc n)) (one .independent own v fv a .0)
+
+-- a list in two parts
+after-append : (w : World) (a b : List Call) → after w (a ++ b) ≡ after (after w a) b
+unfolding after
+after-append w [] b = refl
+after-append w (call ∷ a) b = after-append (step w call .next) a b
+
+emitted-append : (w : World) (t : ℕ) (a b : List Call) → emitted w t (a ++ b) ≡ emitted w t a + emitted (after w a) t b
+unfolding emitted after
+emitted-append w t [] b = sym (zero-add _)
+emitted-append w t (call ∷ a) b = omega (arith, emitted-append (step w call .next) t a b)
+
+withdrawn-append : (w : World) (t : ℕ) (a b : List Call) → withdrawn w t (a ++ b) ≡ withdrawn w t a + withdrawn (after w a) t b
+unfolding withdrawn after
+withdrawn-append w t [] b = sym (zero-add _)
+withdrawn-append w t (call ∷ a) b = omega (arith, withdrawn-append (step w call .next) t a b)
+
+-- a ratio from point i to point j, between which nothing of the gas was emitted or withdrawn
+pub points-ratio : (i j : ℕ) (w : World) (calls : List Call) → Fits w → EachKeeps calls → i ≤ j → (t z : ℕ) → t < w .grid .N → HasRatio (point w calls i) t z → emitted w t (take j calls) ≡ emitted w t (take i calls) → withdrawn w t (take j calls) ≡ withdrawn w t (take i calls) → HasRatio (point w calls j) t z
+points-ratio i j w calls fits each le t z h ratio no-emission no-withdrawal =
+    let between : List Call = take (j - i) (drop i calls) in
+    let split : take j calls ≡ take i calls ++ between = ap (λ (n : ℕ). take n calls) (sym (add-sub-of-le le)) ∙ take-add i (j - i) calls in
+    let now = points-kept i w calls fits each in
+    let later = points-kept (j - i) (point w calls i) (drop i calls) (now .fits) (λ n v fv. rw (getD-drop i calls n load) (each (i + n) v fv)) in
+    rw (split, after-append w (take i calls) between)
+    (later .ratioKept t z (rw (now .sameGrid) h)
+    (omega (arith, rw split at no-emission, emitted-append w t (take i calls) between))
+    (omega (arith, rw split at no-withdrawal, withdrawn-append w t (take i calls) between))
+    ratio)
