@@ -6,7 +6,7 @@ use mathlib.Core.Bool.{Bool, true, false, not, _&&_, and-false, false≢true, tr
 use mathlib.Core.Path.{_≡_, refl, sym, _∙_, ap, ap₂}
 use native.Mathlib.Nat.{zero-add, add-sub-of-le}
 use native.Mathlib.Omega.{arith}
-use borrow.Author.Tests.{not-false}
+use borrow.Author.Tests.{ltb-true, lt-ltb, not-false}
 use lib.Dec.{ltb, eqb, eqb·suc-zero}
 use lib.ListN.{take, drop, getD}
 use lib.Seq.{getD-drop, take-add}
@@ -14,7 +14,7 @@ use Rattle.model.specs.Limits.{totalLimit}
 use Rattle.model.specs.Basic.{at, part, sum}
 use Rattle.model.specs.World.{Grid, World, worldCells, gas, gasTotal, airTotal}
 use Rattle.model.specs.Remap.{remapServes}
-use Rattle.model.specs.Step.{Call, load, emission, withdrawal, zonal, meridional, remap, total, reading, Place, firstOf, tracerAbsent, cellAbsent, lentFits, ownPlaces, accepted, refused, refusal, step}
+use Rattle.model.specs.Step.{Call, load, emission, withdrawal, zonal, meridional, remap, total, reading, Place, firstOf, absent, lentFits, ownPlaces, accepted, refused, refusal, step}
 use Rattle.model.specs.Lists.{after, point, callAt, whenAccepted, emits, withdraws, emitted, withdrawn, HasRatio, CallInRange, Alike, namesOwn, namesNoOther, SameReply}
 use Rattle.model.specs.Laws.Step.{Fits, firstOf-same, step-accepted, step-refused, answer-is, own-refusal, lent-refusal}
 
@@ -65,7 +65,11 @@ alike-trans a b =
       sameGas = λ t h. a .sameGas t h ∙ b .sameGas t h;
     }
 
--- two worlds alike: which gases a call names, and its refusal if it names no other
+-- a present tracer that a call names is an own one, or another
+pub names-present : (own : ℕ → Bool) (w : World) (t : ℕ) → t < w .grid .N → own t ≡ namesOwn own w t
+names-present own w t present = rw (lt-ltb t (w .grid .N) present, namesOwn)
+
+-- which gases a call names in two worlds alike, and its refusal there if it names no other
 module _ (own : ℕ → Bool) (w v : World) (alike : Alike own w v) where
   names-own-alike : (t : ℕ) → namesOwn own w t ≡ namesOwn own v t
   names-own-alike t = ap (λ (g : Grid). elim (ltb t (g .N)) [ true ↦ own t | false ↦ true ]) (alike .sameGrid)
@@ -80,46 +84,55 @@ module _ (own : ℕ → Bool) (w v : World) (alike : Alike own w v) where
   names-alike (total t) = names-own-alike t
   names-alike (reading t c) = names-own-alike t
 
-  -- a world with no tracers' list: what a call sees that reads the grid and the air alone
-  by-air : (call : Call) → firstOf (ownPlaces call) (record { grid = w .grid; air = w .air; tracers = [] }) ≡ firstOf (ownPlaces call) (record { grid = v .grid; air = v .air; tracers = [] })
-  by-air call =
-      ap₂ (λ (g : Grid) (a : List ℕ). firstOf (ownPlaces call) (record { grid = g; air = a; tracers = [] }))
-      (alike .sameGrid)
-      (alike .sameAir)
+  pub named-alike : (t : ℕ) → namesOwn own w t ≡ true → t < w .grid .N → gas w t ≡ gas v t
+  named-alike t named present = alike .sameGas t (names-present own w t present ∙ named)
 
-  -- places that test the tracer or the cell named; a present tracer that is named is an own one
-  tracer-place-alike : (t : ℕ) (ps : List Place) → namesOwn own w t ≡ true → (gas w t ≡ gas v t → firstOf ps w ≡ firstOf ps v) → firstOf (tracerAbsent t ∷ ps) w ≡ firstOf (tracerAbsent t ∷ ps) v
-  tracer-place-alike t ps named rest =
-      firstOf-same (tracerAbsent t) ps w v
-      (ap (λ (g : Grid). not (ltb t (g .N))) (alike .sameGrid))
-      (λ present. rest (alike .sameGas t (rw (not-false (ltb t (w .grid .N)) present, namesOwn) at named)))
+  pub named-total-alike : (t : ℕ) → namesOwn own w t ≡ true → t < w .grid .N → gasTotal w t ≡ gasTotal v t
+  named-total-alike t named present =
+      ap₂ (λ (g : Grid) (l : List ℕ). sum (worldCells g) (at l)) (alike .sameGrid) (named-alike t named present)
 
-  cell-place-alike : (c : ℕ) (ps : List Place) → firstOf ps w ≡ firstOf ps v → firstOf (cellAbsent c ∷ ps) w ≡ firstOf (cellAbsent c ∷ ps) v
-  cell-place-alike c ps rest =
-      firstOf-same (cellAbsent c) ps w v (ap (λ (g : Grid). not (ltb c (worldCells g))) (alike .sameGrid)) (λ present. rest)
+  -- a place that tests whether something is there; no place left; a call's own places, where they read the grid and the air alone
+  absent-alike : (i : ℕ) (many : Grid → ℕ) (ps : List Place) → (i < many (w .grid) → firstOf ps w ≡ firstOf ps v) → firstOf (absent i many ∷ ps) w ≡ firstOf (absent i many ∷ ps) v
+  absent-alike i many ps rest =
+      firstOf-same (absent i many) ps w v
+      (ap (λ (g : Grid). not (ltb i (many g))) (alike .sameGrid))
+      (λ there. rest (ltb-true _ _ (not-false _ there)))
 
   none-alike : firstOf [] w ≡ firstOf [] v
   unfolding firstOf
   none-alike = refl
 
+  air-alike : (call : Call) → firstOf (ownPlaces call) (record { grid = w .grid; air = w .air; tracers = [] }) ≡ firstOf (ownPlaces call) (record { grid = v .grid; air = v .air; tracers = [] })
+  air-alike call =
+      ap₂ (λ (g : Grid) (a : List ℕ). firstOf (ownPlaces call) (record { grid = g; air = a; tracers = [] }))
+      (alike .sameGrid)
+      (alike .sameAir)
+
   own-places-alike : (call : Call) → namesNoOther own w call ≡ true → firstOf (ownPlaces call) w ≡ firstOf (ownPlaces call) v
   unfolding ownPlaces
   own-places-alike load named = none-alike
   own-places-alike (emission t c amount) named =
-      tracer-place-alike t _ named
-      (λ same.
-      cell-place-alike c _
-      (firstOf-same _ [] w v
-      (ap₂ (λ (g : Grid) (l : List ℕ). ltb totalLimit (sum (worldCells g) (at l) + amount)) (alike .sameGrid) same)
-      (λ none. none-alike)))
+      absent-alike t (λ g. g .N) _
+      (λ present.
+      absent-alike c worldCells _
+      (λ inside.
+      firstOf-same _ [] w v
+      (ap (λ (x : ℕ). ltb totalLimit (x + amount)) (named-total-alike t named present))
+      (λ passed. none-alike)))
   own-places-alike (withdrawal t c amount) named =
-      tracer-place-alike t _ named
-      (λ same. cell-place-alike c _ (firstOf-same _ [] w v (ap (λ (l : List ℕ). ltb (at l c) amount) same) (λ none. none-alike)))
-  own-places-alike (zonal k r fluxes) named = unfold firstOf in by-air (zonal k r fluxes)
-  own-places-alike (meridional k fluxes) named = unfold firstOf in by-air (meridional k fluxes)
-  own-places-alike (remap table) named = unfold firstOf remapServes in by-air (remap table)
-  own-places-alike (total t) named = tracer-place-alike t _ named (λ same. none-alike)
-  own-places-alike (reading t c) named = tracer-place-alike t _ named (λ same. cell-place-alike c _ none-alike)
+      absent-alike t (λ g. g .N) _
+      (λ present.
+      absent-alike c worldCells _
+      (λ inside.
+      firstOf-same _ [] w v
+      (ap (λ (l : List ℕ). ltb (at l c) amount) (named-alike t named present))
+      (λ passed. none-alike)))
+  own-places-alike (zonal k r fluxes) named = unfold firstOf in air-alike (zonal k r fluxes)
+  own-places-alike (meridional k fluxes) named = unfold firstOf in air-alike (meridional k fluxes)
+  own-places-alike (remap table) named = unfold firstOf remapServes in air-alike (remap table)
+  own-places-alike (total t) named = absent-alike t (λ g. g .N) _ (λ present. none-alike)
+  own-places-alike (reading t c) named =
+      absent-alike t (λ g. g .N) _ (λ present. absent-alike c worldCells _ (λ inside. none-alike))
 
   refusal-alike : (call : Call) → Fits w → Fits v → namesNoOther own w call ≡ true → refusal w call ≡ refusal v call
   refusal-alike call fw fv named = go (lentFits (w .grid) call) refl

@@ -5,13 +5,13 @@ use mathlib.Core.List.{List, [], _∷_, _++_}
 use mathlib.Core.Bool.{Bool, true, false, not, _&&_, and-eq-true-iff}
 use mathlib.Core.Path.{_≡_, refl, sym, _∙_, ap, ap₂}
 use native.Mathlib.Omega.{arith}
-use borrow.Author.Tests.{leb-true, le-leb, eqb-true, eq-eqb, not-false}
+use borrow.Author.Tests.{ltb-true, leb-true, le-leb, eqb-true, eq-eqb, not-false}
 use lib.Dec.{leb, eqb, lit<}
 use lib.ListN.{length}
 use Rattle.model.specs.Limits.{totalLimit}
 use Rattle.model.specs.Basic.{at, every}
-use Rattle.model.specs.World.{World, worldCells, gasTotal, airFits}
-use Rattle.model.specs.Step.{Call, load, emission, withdrawal, zonal, meridional, remap, total, reading, Place, firstOf, gridFits, lentFits, lengthsFit, commonPlaces, ownPlaces, accepted, refused, refusal, step}
+use Rattle.model.specs.World.{Grid, World, worldCells, gasTotal, airFits}
+use Rattle.model.specs.Step.{Call, load, emission, withdrawal, zonal, meridional, remap, total, reading, Place, firstOf, absent, gridFits, lentFits, lengthsFit, commonPlaces, ownPlaces, accepted, refused, refusal, step}
 use Rattle.model.specs.Lists.{Loaded}
 use Rattle.model.specs.Laws.Basic.{every-at, every-true}
 
@@ -31,6 +31,12 @@ passed p ps w positive e = go (p .applies w) refl
     go : (b : Bool) → p .applies w ≡ b → (p .applies w ≡ false) × (firstOf ps w ≡ 0)
     go true q = absurd (omega (arith, stops p ps w q))
     go false q = (q, sym (passes p ps w q) ∙ e)
+
+-- .. and what is named is there
+pub found : (i : ℕ) (many : Grid → ℕ) (ps : List Place) (w : World) → firstOf (absent i many ∷ ps) w ≡ 0 → (i < many (w .grid)) × (firstOf ps w ≡ 0)
+found i many ps w e =
+    let p = passed (absent i many) ps w (lit< tt) e in
+    (ltb-true _ _ (not-false _ (p .0)), p .1)
 
 -- two worlds get the same answer if each place that is reached applies in both or in neither
 pub firstOf-same : (p : Place) (ps : List Place) (w v : World) → p .applies w ≡ p .applies v → (p .applies w ≡ false → firstOf ps w ≡ firstOf ps v) → firstOf (p ∷ ps) w ≡ firstOf (p ∷ ps) v
