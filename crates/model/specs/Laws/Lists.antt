@@ -69,21 +69,23 @@ alike-trans a b =
 pub names-present : (own : ℕ → Bool) (w : World) (t : ℕ) → t < w .grid .N → own t ≡ namesOwn own w t
 names-present own w t present = rw (lt-ltb t (w .grid .N) present, namesOwn)
 
--- which gases a call names in two worlds alike, and its refusal there if it names no other
+-- which gases a call names in two worlds of the same grid
+module _ (own : ℕ → Bool) (w v : World) (sameGrid : w .grid ≡ v .grid) where
+  names-own-grid : (t : ℕ) → namesOwn own w t ≡ namesOwn own v t
+  names-own-grid t = ap (λ (g : Grid). elim (ltb t (g .N)) [ true ↦ own t | false ↦ true ]) sameGrid
+
+  pub names-grid : (call : Call) → namesNoOther own w call ≡ namesNoOther own v call
+  names-grid load = refl
+  names-grid (emission t c amount) = names-own-grid t
+  names-grid (withdrawal t c amount) = names-own-grid t
+  names-grid (zonal k r fluxes) = refl
+  names-grid (meridional k fluxes) = refl
+  names-grid (remap table) = refl
+  names-grid (total t) = names-own-grid t
+  names-grid (reading t c) = names-own-grid t
+
+-- a call in two worlds alike: the gases that it names, and its refusal, if it names no other
 module _ (own : ℕ → Bool) (w v : World) (alike : Alike own w v) where
-  names-own-alike : (t : ℕ) → namesOwn own w t ≡ namesOwn own v t
-  names-own-alike t = ap (λ (g : Grid). elim (ltb t (g .N)) [ true ↦ own t | false ↦ true ]) (alike .sameGrid)
-
-  names-alike : (call : Call) → namesNoOther own w call ≡ namesNoOther own v call
-  names-alike load = refl
-  names-alike (emission t c amount) = names-own-alike t
-  names-alike (withdrawal t c amount) = names-own-alike t
-  names-alike (zonal k r fluxes) = refl
-  names-alike (meridional k fluxes) = refl
-  names-alike (remap table) = refl
-  names-alike (total t) = names-own-alike t
-  names-alike (reading t c) = names-own-alike t
-
   pub named-alike : (t : ℕ) → namesOwn own w t ≡ true → t < w .grid .N → gas w t ≡ gas v t
   named-alike t named present = alike .sameGas t (names-present own w t present ∙ named)
 
@@ -200,7 +202,7 @@ module _ (call : Call) (when : (w : World) → Fits w → refusal w call ≡ 0 �
       let r = step-alike own w v fw fv a e (refusal w call) refl (sym same) in
       (r .0, λ named. (answer-is w call ∙ same ∙ sym (answer-is v call), r .1))
   step-independent own w v fw fv a false e =
-      let f = sym (names-alike own w v a call) ∙ e in (
+      let f = sym (names-grid own w v (a .sameGrid) call) ∙ e in (
         alike-trans (alike-sym (step-apart own w fw e (refusal w call) refl)) (alike-trans a (step-apart own v fv f (refusal v call) refl)),
         λ named. absurd (false≢true named),
       )
