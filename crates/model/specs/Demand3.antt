@@ -10,7 +10,8 @@ use Rattle.model.specs.World.{World, gasTotal, airTotal}
 use Rattle.model.specs.Step.{Call, load, emission, withdrawal, zonal, meridional, remap, total, reading, firstOf, lentFits, ownPlaces, refusal, step}
 use Rattle.model.specs.Lists.{Loaded, callAt, after, point, emitted, withdrawn, HasRatio, CallInRange, Alike, namesNoOther, SameReply}
 use Rattle.model.specs.Laws.Step.{Fits, own-refusal, fits-loaded, loaded-fits}
-use Rattle.model.specs.Laws.Lists.{StepKeeps, step-keeps, EachKeeps, points-kept, points-alike, points-ratio, names-grid}
+use Rattle.model.specs.Laws.Keeps.{StepKeeps, step-keeps, names-grid}
+use Rattle.model.specs.Laws.Lists.{EachKeeps, points-kept, points-alike, points-ratio}
 use Rattle.model.specs.Laws.Amounts.{load-keeps, emission-keeps, withdrawal-keeps, total-keeps, reading-keeps}
 use Rattle.model.specs.Cases.{computes}
 use Rattle.model.specs.Cases.Marked.{row, six, hundreds}

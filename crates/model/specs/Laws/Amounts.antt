@@ -18,7 +18,7 @@ use Rattle.model.specs.Step.{Call, load, emission, withdrawal, total, re
 use Rattle.model.specs.Lists.{whenAccepted, emits, withdraws, Alike}
 use Rattle.model.specs.Laws.World.{length-gas, gas-changed, gas-unchanged, total-changed}
 use Rattle.model.specs.Laws.Step.{Fits, passed, found, own-refusal, answer-is}
-use Rattle.model.specs.Laws.Lists.{Kept, kept-same, alike-same, names-present, named-alike, named-total-alike, AcceptedKeeps}
+use Rattle.model.specs.Laws.Keeps.{Kept, kept-same, alike-same, names-present, named-alike, named-total-alike, AcceptedKeeps}
 
 -- ---- the world with another amount of tracer t in cell c
 module _ (w : World) (fits : Fits w) (t c x : ℕ) (present : t < w .grid .N) (inside : c < worldCells (w .grid)) where
@@ -99,7 +99,7 @@ pub load-keeps : (w : World) → Fits w → refusal w load ≡ 0 → AcceptedKee
 unfolding accepted
 load-keeps w fits e =
     record {
-      kept = kept-same w (λ t. 0) (λ t. 0) fits (λ t. refl) (λ t. refl);
+      kept = kept-same fits (λ t. refl) (λ t. refl);
       inRange = λ t h. tt;
       alike = λ own v fv a named. (a, refl);
       apart = λ own other. absurd (true≢false other);
@@ -148,7 +148,7 @@ unfolding accepted ownPlaces
 total-keeps t w fits e =
     let p = found t (λ g. g .N) _ w (sym (own-refusal w (total t) fits refl) ∙ e) in
     record {
-      kept = kept-same w (λ t'. 0) (λ t'. 0) fits (λ t'. refl) (λ t'. refl);
+      kept = kept-same fits (λ t'. refl) (λ t'. refl);
       inRange = λ t' h. tt;
       alike = λ own v fv a named. (a, named-total-alike own w v a t named (p .0));
       apart = λ own other. alike-same own w;
@@ -159,7 +159,7 @@ unfolding accepted ownPlaces
 reading-keeps t c w fits e =
     let p = found t (λ g. g .N) _ w (sym (own-refusal w (reading t c) fits refl) ∙ e) in
     record {
-      kept = kept-same w (λ t'. 0) (λ t'. 0) fits (λ t'. refl) (λ t'. refl);
+      kept = kept-same fits (λ t'. refl) (λ t'. refl);
       inRange = λ t' h. tt;
       alike = λ own v fv a named. (a, ap (λ (l : List ℕ). at l c) (named-alike own w v a t named (p .0)));
       apart = λ own other. alike-same own w;

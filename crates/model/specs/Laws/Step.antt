@@ -1,15 +1,15 @@
 -- Laws of `step`: the first place that applies, an accepted and a refused call, and what an accepted load tells of a world: none of the refusals 1 to 4 is met there but for a call's own lent list.
 -- Assumes nothing.
 use Prim.Native.Nat.{ℕ, zero, suc, _*_, _≤_, _<_}
-use mathlib.Core.List.{List, [], _∷_, _++_}
+use mathlib.Core.List.{List, _∷_}
 use mathlib.Core.Bool.{Bool, true, false, not, _&&_, and-eq-true-iff}
 use mathlib.Core.Path.{_≡_, refl, sym, _∙_, ap, ap₂}
 use native.Mathlib.Omega.{arith}
 use borrow.Author.Tests.{ltb-true, leb-true, le-leb, eqb-true, eq-eqb, not-false}
-use lib.Dec.{leb, eqb, lit<}
+use lib.Dec.{lit<}
 use lib.ListN.{length}
 use Rattle.model.specs.Limits.{totalLimit}
-use Rattle.model.specs.Basic.{at, every}
+use Rattle.model.specs.Basic.{at}
 use Rattle.model.specs.World.{Grid, World, worldCells, gasTotal, airFits}
 use Rattle.model.specs.Step.{Call, load, emission, withdrawal, zonal, meridional, remap, total, reading, Place, firstOf, absent, gridFits, lentFits, lengthsFit, commonPlaces, ownPlaces, accepted, refused, refusal, step}
 use Rattle.model.specs.Lists.{Loaded}

@@ -10,7 +10,7 @@ use native.Mathlib.Omega.{arith}
 use borrow.Author.Tests.{ltb-true, ltb-false}
 use lib.Dec.{ltb}
 use lib.ListN.{length, set}
-use Rattle.model.specs.Basic.{at, part, sum}
+use Rattle.model.specs.Basic.{part}
 use Rattle.model.specs.World.{World, worldCells, tracerStart, gas, gasTotal}
 use Rattle.model.specs.Step.{withAmount, amountAt}
 use Rattle.model.specs.Laws.Basic.{sum-set, length-part, part-set-within, part-set-behind, part-set-before}
