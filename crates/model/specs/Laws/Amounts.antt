@@ -25,9 +25,9 @@ module _ (w : World) (fits : Fits w) (t c x : ℕ) (present : t < w .grid .N) (i
   amount-total : gasTotal (withAmount w t c x) t + amountAt w t c ≡ gasTotal w t + x
   amount-total = total-changed w t c x inside (length-gas w t (fits .tracersLength) present)
 
-  -- e t' units of gas t' come in and d t' go out, all of them of gas t
-  amount-kept : (e d : ℕ → ℕ) → amountAt w t c + e t ≡ x + d t → ((t' : ℕ) → t' ≢ t → (e t' ≡ 0) × (d t' ≡ 0)) → gasTotal w t + e t ≤ totalLimit + d t → Kept w (withAmount w t c x) e d
-  amount-kept e d balance others room =
+  -- `came` units of gas t come in and `went` go out, and none of the other gases
+  amount-kept : (came went : ℕ → ℕ) → amountAt w t c + came t ≡ x + went t → ((t' : ℕ) → t' ≢ t → (came t' ≡ 0) × (went t' ≡ 0)) → gasTotal w t + came t ≤ totalLimit + went t → Kept w (withAmount w t c x) came went
+  amount-kept came went balance others room =
       record {
         fits =
             record {
@@ -47,14 +47,14 @@ module _ (w : World) (fits : Fits w) (t c x : ℕ) (present : t < w .grid .N) (i
       totals t' h (yes q) = rw q (omega (arith, amount-total))
       totals t' h (no q) = rw (gas-unchanged w t c x inside t' q) (fits .totals t' h)
 
-      kept : (t' : ℕ) → t' < w .grid .N → Dec (t' ≡ t) → gasTotal (withAmount w t c x) t' + d t' ≡ gasTotal w t' + e t'
+      kept : (t' : ℕ) → t' < w .grid .N → Dec (t' ≡ t) → gasTotal (withAmount w t c x) t' + went t' ≡ gasTotal w t' + came t'
       kept t' h (yes q) = rw q (omega (arith, amount-total))
       kept t' h (no q) = rw (gas-unchanged w t c x inside t' q, others t' q .0, others t' q .1)
 
-      same : (t' : ℕ) → e t' ≡ 0 → d t' ≡ 0 → Dec (t' ≡ t) → gas (withAmount w t c x) t' ≡ gas w t'
+      same : (t' : ℕ) → came t' ≡ 0 → went t' ≡ 0 → Dec (t' ≡ t) → gas (withAmount w t c x) t' ≡ gas w t'
       same t' no-in no-out (yes q) =
-          let a : e t ≡ 0 = rw q at no-in in
-          let b : d t ≡ 0 = rw q at no-out in
+          let a : came t ≡ 0 = rw q at no-in in
+          let b : went t ≡ 0 = rw q at no-out in
           let x-is : x ≡ amountAt w t c = omega arith in
           rw (q, gas-changed w t c x inside, x-is) (set-getD (gas w t) c 0)
       same t' no-in no-out (no q) = gas-unchanged w t c x inside t' q

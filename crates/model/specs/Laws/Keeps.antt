@@ -33,8 +33,8 @@ kept-same fits none-came none-went =
       ratioKept = λ t z h p q r. r;
     }
 
-pub kept-trans : {w v u : World} {e d e' d' : ℕ → ℕ} → Kept w v e d → Kept v u e' d' → Kept w u (λ t. e t + e' t) (λ t. d t + d' t)
-kept-trans {w} {v} {u} {e} {d} {e'} {d'} p q =
+pub kept-trans : {w v u : World} {came went came' went' : ℕ → ℕ} → Kept w v came went → Kept v u came' went' → Kept w u (λ t. came t + came' t) (λ t. went t + went' t)
+kept-trans {w} {v} {u} {came} {went} {came'} {went'} p q =
     record {
       fits = q .fits;
       sameGrid = q .sameGrid ∙ p .sameGrid;
