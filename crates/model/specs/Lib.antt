@@ -9,3 +9,4 @@ pub mod Step
 pub mod Lists
 pub mod Cases
 pub mod Laws
+pub mod Demand3

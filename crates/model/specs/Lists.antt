@@ -5,12 +5,20 @@ use mathlib.Core.List.{List, [], _∷_}
 use mathlib.Core.Bool.{Bool, true, false, _&&_}
 use mathlib.Core.Path.{_≡_}
 use lib.Dec.{eqb, ltb}
-use lib.ListN.{take}
+use lib.ListN.{getD, take}
 use Rattle.model.specs.Basic.{at, part}
 use Rattle.model.specs.World.{World, worldCells, layerCells, rowStart, layerStart, gas}
 use Rattle.model.specs.Sweep.{ring, layer}
 use Rattle.model.specs.Range.{SweepInRange, RemapInRange}
 use Rattle.model.specs.Step.{Call, load, emission, withdrawal, zonal, meridional, remap, total, reading, step, rowAir, layerAir, zonalCount}
+
+-- "It starts with the world of an accepted load."
+abbrev pub Loaded : World → Type 0
+Loaded w = step w load .answer ≡ 0
+
+-- call i of a list; a load, which changes nothing, past its end
+abbrev pub callAt : List Call → ℕ → Call
+callAt calls i = getD calls i load
 
 -- "Each call gets the world .. as the last one left .. it": the world after a list of calls
 unfoldable pub after : World → List Call → World
@@ -91,3 +99,7 @@ namesNoOther own w (meridional k fluxes) = true
 namesNoOther own w (remap table) = true
 namesNoOther own w (total t) = namesOwn own w t
 namesNoOther own w (reading t c) = namesOwn own w t
+
+-- "So are the answers (0 or the refusal's number) .. and the counts": of one call in two worlds
+abbrev pub SameReply : World → World → Call → Type 0
+SameReply w v call = (step w call .answer ≡ step v call .answer) × (step w call .count ≡ step v call .count)

@@ -2,14 +2,14 @@
 -- Assumes nothing.
 use Prim.Native.Nat.{ℕ, zero, suc, _+_, _*_, _-_, _≤_, _<_, min}
 use mathlib.Core.List.{List, [], _∷_, _++_}
-use mathlib.Core.Bool.{Bool, true, false, and-eq-true-iff, _&&_, _||_, false≢true}
+use mathlib.Core.Bool.{Bool, true, false, and-eq-true-iff, or-true, _&&_, _||_, false≢true}
 use mathlib.Core.Path.{_≡_, refl, sym, _∙_, ap, ap₂}
 use mathlib.Core.Logic.{_⊎_, inl, inr, ⊎-elim}
 use native.Mathlib.Nat.{zero-add, add-zero, add-assoc, mul-add, mul-zero, le-refl, add-suc, eq-or-lt-of-le}
 use native.Mathlib.Numerals.{add-one}
 use native.Mathlib.Omega.{arith}
 use lib.ListN.{length, getD, take, drop, set, length-append, length-take, length-drop}
-use lib.Seq.{getD-take, getD-drop, getD-set-same, getD-set-other, ext-getD}
+use lib.Seq.{getD-take, getD-drop, getD-set-same, getD-set-other, take-set-lt, take-set-le, drop-set-add, drop-set-lt, ext-getD}
 use Rattle.model.specs.Basic.{at, part, written, joined, tabFrom, tab, sum, every, some, smallest}
 
 -- ---- numbers below n + 1: those below n, and n
@@ -48,6 +48,17 @@ unfolding sum
 term-le-sum zero f i h = absurd (omega arith)
 term-le-sum (suc n) f i h =
     ⊎-elim (λ e. rw e (omega arith)) (λ p. omega (arith, term-le-sum n f i p)) (below-cases h)
+
+-- a list's sum after one of its entries was set
+pub sum-set : (n : ℕ) (l : List ℕ) (i x : ℕ) → i < n → n ≤ length l → sum n (at (set l i x)) + at l i ≡ sum n (at l) + x
+unfolding sum
+sum-set zero l i x h fits = absurd (omega arith)
+sum-set (suc n) l i x h fits =
+    ⊎-elim
+    (λ (e : i ≡ n).
+    rw (← e, getD-set-same l i x 0 (omega arith), sum-ext i (at (set l i x)) (at l) (λ j p. getD-set-other l i j x 0 (omega arith))) (omega arith))
+    (λ p. rw (getD-set-other l i n x 0 (omega arith)) (omega (arith, sum-set n l i x p (omega arith))))
+    (below-cases h)
 
 pub sum-split : (a b : ℕ) (f : ℕ → ℕ) → sum (a + b) f ≡ sum a f + sum b (λ i. f (a + i))
 unfolding sum
@@ -117,10 +128,6 @@ unfolding every
 every-ext zero p q h = refl
 every-ext (suc n) p q h = ap₂ _&&_ (every-ext n p q (λ i r. h i (omega arith))) (h n (omega arith))
 
-or-true : (a : Bool) → (a || true) ≡ true
-or-true true = refl
-or-true false = refl
-
 pub some-true : (n : ℕ) (p : ℕ → Bool) (i : ℕ) → i < n → p i ≡ true → some n p ≡ true
 unfolding some
 some-true zero p i h e = absurd (omega arith)
@@ -150,6 +157,18 @@ length-part l a n h = simp (length-take, length-drop) (omega arith)
 
 pub at-part : (l : List ℕ) (a n i : ℕ) → i < n → at (part l a n) i ≡ at l (a + i)
 at-part l a n i h = rw (getD-take, getD-drop)
+
+-- the part after one entry of the list was set: one inside the part, one behind it, one before it
+pub part-set-within : (l : List ℕ) (a n i x : ℕ) → i < n → part (set l (a + i) x) a n ≡ set (part l a n) i x
+part-set-within l a n i x h = rw (drop-set-add, take-set-lt)
+
+pub part-set-behind : (l : List ℕ) (a n i x : ℕ) → a + n ≤ i → part (set l i x) a n ≡ part l a n
+part-set-behind l a n i x h =
+    let e : i ≡ a + (i - a) = omega arith in
+    rw (e, drop-set-add, take-set-le n (drop a l) (i - a) x (omega arith))
+
+pub part-set-before : (l : List ℕ) (a n i x : ℕ) → i < a → part (set l i x) a n ≡ part l a n
+part-set-before l a n i x h = rw drop-set-lt
 
 -- ---- as a loop meets them: nothing yet, and one more
 pub sum-none : (f : ℕ → ℕ) → sum 0 f ≡ 0

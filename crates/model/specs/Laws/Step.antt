@@ -1,0 +1,125 @@
+-- Laws of `step`: the first place that applies, an accepted and a refused call, and what an accepted load tells of a world: none of the refusals 1 to 4 is met there but for a call's own lent list.
+-- Assumes nothing.
+use Prim.Native.Nat.{ℕ, zero, suc, _*_, _≤_, _<_}
+use mathlib.Core.List.{List, _∷_}
+use mathlib.Core.Bool.{Bool, true, false, not, _&&_, and-eq-true-iff}
+use mathlib.Core.Path.{_≡_, refl, sym, _∙_, ap, ap₂}
+use native.Mathlib.Omega.{arith}
+use borrow.Author.Tests.{ltb-true, leb-true, le-leb, eqb-true, eq-eqb, not-false}
+use lib.Dec.{lit<}
+use lib.ListN.{length}
+use Rattle.model.specs.Limits.{totalLimit}
+use Rattle.model.specs.Basic.{at}
+use Rattle.model.specs.World.{Grid, World, worldCells, gasTotal, airFits}
+use Rattle.model.specs.Step.{Call, load, emission, withdrawal, zonal, meridional, remap, total, reading, Place, firstOf, absent, gridFits, lentFits, lengthsFit, commonPlaces, ownPlaces, accepted, refused, refusal, step}
+use Rattle.model.specs.Lists.{Loaded}
+use Rattle.model.specs.Laws.Basic.{every-at, every-true}
+
+-- ---- the first place that applies
+pub passes : (p : Place) (ps : List Place) (w : World) → p .applies w ≡ false → firstOf (p ∷ ps) w ≡ firstOf ps w
+unfolding firstOf
+passes p ps w e = rw (e, firstOf)
+
+pub stops : (p : Place) (ps : List Place) (w : World) → p .applies w ≡ true → firstOf (p ∷ ps) w ≡ p .number
+unfolding firstOf
+stops p ps w e = rw (e, firstOf)
+
+-- where the answer is 0, no place applies
+pub passed : (p : Place) (ps : List Place) (w : World) → 0 < p .number → firstOf (p ∷ ps) w ≡ 0 → (p .applies w ≡ false) × (firstOf ps w ≡ 0)
+passed p ps w positive e = go (p .applies w) refl
+  where
+    go : (b : Bool) → p .applies w ≡ b → (p .applies w ≡ false) × (firstOf ps w ≡ 0)
+    go true q = absurd (omega (arith, stops p ps w q))
+    go false q = (q, sym (passes p ps w q) ∙ e)
+
+-- .. and what is named is there
+pub found : (i : ℕ) (many : Grid → ℕ) (ps : List Place) (w : World) → firstOf (absent i many ∷ ps) w ≡ 0 → (i < many (w .grid)) × (firstOf ps w ≡ 0)
+found i many ps w e =
+    let p = passed (absent i many) ps w (lit< tt) e in
+    (ltb-true _ _ (not-false _ (p .0)), p .1)
+
+-- two worlds get the same answer if each place that is reached applies in both or in neither
+pub firstOf-same : (p : Place) (ps : List Place) (w v : World) → p .applies w ≡ p .applies v → (p .applies w ≡ false → firstOf ps w ≡ firstOf ps v) → firstOf (p ∷ ps) w ≡ firstOf (p ∷ ps) v
+firstOf-same p ps w v same rest = go (p .applies w) refl
+  where
+    go : (b : Bool) → p .applies w ≡ b → firstOf (p ∷ ps) w ≡ firstOf (p ∷ ps) v
+    go true q = stops p ps w q ∙ sym (stops p ps v (sym same ∙ q))
+    go false q = passes p ps w q ∙ rest q ∙ sym (passes p ps v (sym same ∙ q))
+
+-- ---- an accepted call and a refused one
+pub step-accepted : (w : World) (call : Call) → refusal w call ≡ 0 → step w call ≡ accepted w call
+unfolding step
+step-accepted w call e = rw (e, step)
+
+pub step-refused : (w : World) (call : Call) (n : ℕ) → refusal w call ≡ suc n → step w call ≡ refused w (suc n)
+unfolding step
+step-refused w call n e = rw (e, step)
+
+accepted-answer : (w : World) (call : Call) → accepted w call .answer ≡ 0
+unfolding accepted
+accepted-answer w load = refl
+accepted-answer w (emission t c amount) = refl
+accepted-answer w (withdrawal t c amount) = refl
+accepted-answer w (zonal k r fluxes) = refl
+accepted-answer w (meridional k fluxes) = refl
+accepted-answer w (remap table) = refl
+accepted-answer w (total t) = refl
+accepted-answer w (reading t c) = refl
+
+pub answer-is : (w : World) (call : Call) → step w call .answer ≡ refusal w call
+unfolding refused
+answer-is w call = go (refusal w call) refl
+  where
+    go : (n : ℕ) → refusal w call ≡ n → step w call .answer ≡ n
+    go zero e = rw (step-accepted w call e) (accepted-answer w call)
+    go (suc n) e = rw (step-refused w call n e)
+
+-- ---- what an accepted load tells of a world
+pub record Fits (w : World) : Type 0 where
+  pub grid : gridFits (w .grid) ≡ true
+  pub airLength : length (w .air) ≡ worldCells (w .grid)
+  pub tracersLength : length (w .tracers) ≡ w .grid .N * worldCells (w .grid)
+  pub air : (c : ℕ) → c < worldCells (w .grid) → airFits (at (w .air) c) ≡ true
+  pub totals : (t : ℕ) → t < w .grid .N → gasTotal w t ≤ totalLimit
+
+-- of the lent lengths only the call's own list is then in question
+fitting-lengths : (w : World) (call : Call) → Fits w → lengthsFit w call ≡ lentFits (w .grid) call
+fitting-lengths w call fits =
+    ap₂ (λ (a b : Bool). a && b && lentFits (w .grid) call)
+    (eq-eqb _ _ (fits .airLength))
+    (eq-eqb _ _ (fits .tracersLength))
+
+-- in such a world a call's refusal is that of its own places alone, if the list that it lends fits
+pub own-refusal : (w : World) (call : Call) → Fits w → lentFits (w .grid) call ≡ true → refusal w call ≡ firstOf (ownPlaces call) w
+unfolding refusal commonPlaces
+own-refusal w call fits lent =
+    passes _ _ w (ap not (fits .grid)) ∙
+    passes _ _ w (ap not (fitting-lengths w call fits ∙ lent)) ∙
+    passes _ _ w (ap not (every-true _ _ (λ c h. fits .air c (rw (fits .airLength) at h)))) ∙
+    passes _ _ w (ap not (every-true _ _ (λ t h. le-leb _ _ (fits .totals t h))))
+
+pub lent-refusal : (w : World) (call : Call) → Fits w → lentFits (w .grid) call ≡ false → refusal w call ≡ 2
+unfolding refusal commonPlaces
+lent-refusal w call fits lent =
+    passes _ _ w (ap not (fits .grid)) ∙ stops _ _ w (ap not (fitting-lengths w call fits ∙ lent))
+
+pub fits-loaded : (w : World) → Fits w → Loaded w
+unfolding ownPlaces firstOf
+fits-loaded w fits = answer-is w load ∙ own-refusal w load fits refl
+
+pub loaded-fits : (w : World) → Loaded w → Fits w
+unfolding refusal commonPlaces ownPlaces
+loaded-fits w start =
+    let p = passed _ _ w (lit< tt) (sym (answer-is w load) ∙ start) in
+    let q = passed _ _ w (lit< tt) (p .1) in
+    let r = passed _ _ w (lit< tt) (q .1) in
+    let s = passed _ _ w (lit< tt) (r .1) in
+    let lengths = and-eq-true-iff _ _ .0 (and-eq-true-iff _ _ .0 (not-false _ (q .0)) .0) in
+    let airLength : length (w .air) ≡ worldCells (w .grid) = eqb-true _ _ (lengths .0) in
+    record {
+      grid = not-false _ (p .0);
+      airLength = airLength;
+      tracersLength = eqb-true _ _ (lengths .1);
+      air = λ c h. every-at _ _ (not-false _ (r .0)) c (rw airLength h);
+      totals = λ t h. leb-true _ _ (every-at _ _ (not-false _ (s .0)) t h);
+    }

@@ -1,0 +1,42 @@
+-- Laws of the world with another amount of one tracer in one cell: that tracer's amounts and total, and the other tracers' amounts.
+-- Assumes that the cell is one of the world's, and for the total that the tracer's amounts are all there.
+use Prim.Native.Nat.{ℕ, suc, _+_, _*_, _≤_, _<_}
+use mathlib.Core.List.{List}
+use mathlib.Core.Bool.{Bool, true, false}
+use mathlib.Core.Path.{_≡_, refl}
+use mathlib.Core.Logic.{_≢_}
+use native.Mathlib.Nat.{mul-le-mul-right}
+use native.Mathlib.Omega.{arith}
+use borrow.Author.Tests.{ltb-true, ltb-false}
+use lib.Dec.{ltb}
+use lib.ListN.{length, set}
+use Rattle.model.specs.Basic.{part}
+use Rattle.model.specs.World.{World, worldCells, tracerStart, gas, gasTotal}
+use Rattle.model.specs.Step.{withAmount, amountAt}
+use Rattle.model.specs.Laws.Basic.{sum-set, length-part, part-set-within, part-set-behind, part-set-before}
+
+-- a list of parts of n entries each, with one entry of part t set: part t' is as it was
+part-set-elsewhere : (l : List ℕ) (n t t' c x : ℕ) → c < n → t' ≢ t → part (set l (t * n + c) x) (t' * n) n ≡ part l (t' * n) n
+part-set-elsewhere l n t t' c x h other = go (ltb t' t) refl
+  where
+    go : (b : Bool) → ltb t' t ≡ b → part (set l (t * n + c) x) (t' * n) n ≡ part l (t' * n) n
+    go true e = part-set-behind l (t' * n) n (t * n + c) x (omega (arith, mul-le-mul-right n (ltb-true t' t e)))
+    go false e =
+        let later : suc t ≤ t' = omega (arith, ltb-false t' t e) in
+        part-set-before l (t' * n) n (t * n + c) x (omega (arith, mul-le-mul-right n later))
+
+-- each tracer of the grid has an amount in each cell
+pub length-gas : (w : World) (t : ℕ) → length (w .tracers) ≡ w .grid .N * worldCells (w .grid) → t < w .grid .N → length (gas w t) ≡ worldCells (w .grid)
+length-gas w t fits h =
+    length-part (w .tracers) (tracerStart (w .grid) t) (worldCells (w .grid))
+    (omega (arith, mul-le-mul-right (worldCells (w .grid)) h))
+
+module _ (w : World) (t c x : ℕ) (inside : c < worldCells (w .grid)) where
+  pub gas-changed : gas (withAmount w t c x) t ≡ set (gas w t) c x
+  gas-changed = part-set-within (w .tracers) (tracerStart (w .grid) t) (worldCells (w .grid)) c x inside
+
+  pub gas-unchanged : (t' : ℕ) → t' ≢ t → gas (withAmount w t c x) t' ≡ gas w t'
+  gas-unchanged t' other = part-set-elsewhere (w .tracers) (worldCells (w .grid)) t t' c x inside other
+
+  pub total-changed : length (gas w t) ≡ worldCells (w .grid) → gasTotal (withAmount w t c x) t + amountAt w t c ≡ gasTotal w t + x
+  total-changed fits = rw gas-changed (sum-set (worldCells (w .grid)) (gas w t) c x inside (omega arith))
