@@ -1,4 +1,4 @@
-// Air units, tracer units, the grid, and the answer of a call.
+// Air units, tracer units, mismatches, the grid, and the answer of a call.
 ghost use mathlib.Core.Path.{_≡_};
 ghost use Prim.Native.Nat.{_≤_};
 ghost use Rattle.model.specs.World.{layerCells, worldCells};
@@ -10,6 +10,12 @@ ghost use Rattle.units.specs.Answer.{refusalNumber, numberOf, countOf};
 pub struct Air(pub u32);
 
 pub struct Tracer(pub u32);
+
+// A mismatch as its size and its sign.
+pub struct Mismatch {
+    pub size: u64,
+    pub positive: bool,
+}
 
 // W columns, R rows, K layers, N tracers.
 pub struct Grid {

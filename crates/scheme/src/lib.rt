@@ -1,0 +1,132 @@
+// The leaves of the scheme: ratio, mismatch, piece, the two directions of a flux, and its parts.
+ghost use mathlib.Core.Path.{_≡_};
+ghost use Prim.Native.Nat.{_≤_, _<_, _*_, min, max};
+ghost use Rattle.scheme.specs.Leaves.{mismatchOf, IsMismatch, Giver, IsPiece, IsSplit, IsFluxPart};
+ghost use Rattle.model.specs.Basic.{distance};
+ghost use Rattle.model.specs.Scheme as model;
+use units::Air;
+use units::Mismatch;
+use units::Tracer;
+
+// The scale of ratio, mismatch and piece.
+const SCALE: u64 = 65536;
+
+const TWICE_SCALE: u64 = 2 * SCALE;
+
+// What passes a face towards its high side and towards its low side; one of the two is 0.
+pub struct Flux {
+    pub to_high: Air,
+    pub to_low: Air,
+}
+
+pub fn ratio(m: Air, t: Tracer) -> u64
+    requires { ⌜ 0 < m .0 ⌝ }
+    ensures { λ q. ⌜ q ≡ model.ratio (m .0) (t .0) ⌝ }
+{
+    let have = m.0 as u64;
+    let amount = t.0 as u64;
+    SCALE * amount / have
+}
+
+fn lesser(a: u64, b: u64) -> u64
+    ensures { λ r. ⌜ r ≡ min a b ⌝ }
+{
+    if a < b { a } else { b }
+}
+
+fn greater(a: u64, b: u64) -> u64
+    ensures { λ r. ⌜ r ≡ max a b ⌝ }
+{
+    if a < b { b } else { a }
+}
+
+fn distance(a: u64, b: u64) -> u64
+    ensures { λ r. ⌜ r ≡ distance a b ⌝ }
+{
+    if a < b { b - a } else { a - b }
+}
+
+// The lesser of `most` and twice `room`; what could pass 64 bits is not doubled.
+fn at_most_twice(most: u64, room: u64) -> u64
+    ensures { λ r. ⌜ r ≡ min most (2 * room) ⌝ }
+{
+    if room <= most / 2 { 2 * room } else { most }
+}
+
+pub fn mismatch(qa: u64, q: u64, qb: u64) -> Mismatch
+    ensures { λ d. ⌜ IsMismatch qa q qb d ⌝ }
+{
+    let least = lesser(qa, lesser(q, qb));
+    let greatest = greater(qa, greater(q, qb));
+    let half = distance(qa, qb) / 2;
+    let size = at_most_twice(half, q - least);
+    Mismatch {
+        size: at_most_twice(size, greatest - q),
+        positive: qa <= qb,
+    }
+}
+
+// The tracer in `m` units of air from the high end of a cell.
+pub fn high_piece(d: Mismatch, have: Air, t: Tracer, m: Air) -> Tracer
+    requires { ⌜ Giver d have t m ⌝ }
+    ensures { λ p. ⌜ IsPiece (model.highPiece (mismatchOf d) (have .0) (t .0) (m .0)) t p ⌝ }
+{
+    let air = have.0 as u64;
+    let amount = t.0 as u64;
+    let part = m.0 as u64;
+    let level = TWICE_SCALE * part * amount;
+    let tilt = d.size * part * (air - part);
+    let numerator = if d.positive {
+        level + tilt
+    } else {
+        level - tilt
+    };
+    let piece = (numerator / (TWICE_SCALE * air)) as u32;
+    Tracer(piece)
+}
+
+// From the low end: the same with the opposite mismatch.
+pub fn low_piece(d: Mismatch, have: Air, t: Tracer, m: Air) -> Tracer
+    requires { ⌜ Giver d have t m ⌝ }
+    ensures { λ p. ⌜ IsPiece (model.lowPiece (mismatchOf d) (have .0) (t .0) (m .0)) t p ⌝ }
+{
+    let opposite = Mismatch {
+        size: d.size,
+        positive: !d.positive,
+    };
+    high_piece(opposite, have, t, m)
+}
+
+// The size of a negative flux is taken in 64 bits: that of -2^31 does not fit 32 bits with a sign.
+pub fn split(f: i32) -> Flux
+    ensures { λ r. ⌜ IsSplit f r ⌝ }
+{
+    let wide = f as i64;
+    if wide < 0 {
+        let size = (0 - wide) as u32;
+        Flux {
+            to_high: Air(0),
+            to_low: Air(size),
+        }
+    } else {
+        let size = wide as u32;
+        Flux {
+            to_high: Air(size),
+            to_low: Air(0),
+        }
+    }
+}
+
+// Part `s` of `n` of what passes in one direction.
+pub fn flux_part(n: u32, s: u32, f: Air) -> Air
+    requires { ⌜ (0 < s) × (s ≤ n) ⌝ }
+    ensures { λ r. ⌜ IsFluxPart n s f r ⌝ }
+{
+    let count = n as u64;
+    let step = s as u64;
+    let size = f.0 as u64;
+    let upto = step * size / count;
+    let before = (step - 1) * size / count;
+    let part = (upto - before) as u32;
+    Air(part)
+}
