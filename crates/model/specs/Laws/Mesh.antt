@@ -1,0 +1,35 @@
+-- What the laws of a sweep need of its mesh: that faces and cells meet, and that what leaves a cell enters another.
+-- Assumes nothing.
+use Prim.Native.Nat.{ℕ, _+_, _≤_, _<_}
+use mathlib.Core.Path.{_≡_}
+use Rattle.model.specs.Basic.{sum}
+use Rattle.model.specs.Sweep.{Mesh, Sides, between, southCap, northCap, Flow, leaving, entering}
+
+-- the faces of cell c lie on it, and are faces of the mesh
+abbrev pub Meets : Mesh → ℕ → Sides → Type 0
+Meets mesh c (between l h) =
+    (l < mesh .faces) × (h < mesh .faces) × (mesh .highCell l ≡ c) × (mesh .lowCell h ≡ c)
+Meets mesh c (southCap k n) = (i : ℕ) → i < n → (k + i < mesh .faces) × (mesh .lowCell (k + i) ≡ c)
+Meets mesh c (northCap k n) = (i : ℕ) → i < n → (k + i < mesh .faces) × (mesh .highCell (k + i) ≡ c)
+
+-- face f is one of the faces on a cell's high side, or on its low side
+abbrev pub OnHighSide : ℕ → Sides → Type 0
+OnHighSide f (between l h) = h ≡ f
+OnHighSide f (southCap k n) = (k ≤ f) × (f < k + n)
+OnHighSide f (northCap k n) = ⊥
+
+abbrev pub OnLowSide : ℕ → Sides → Type 0
+OnLowSide f (between l h) = l ≡ f
+OnLowSide f (southCap k n) = ⊥
+OnLowSide f (northCap k n) = (k ≤ f) × (f < k + n)
+
+pub record Regular (mesh : Mesh) : Type 0 where
+  -- a cell's faces are the mesh's, and lie on it
+  pub meets : (c : ℕ) → c < mesh .cells → Meets mesh c (mesh .sides c)
+  -- a face joins two cells of the mesh, and is among the faces of both
+  pub lowIn : (f : ℕ) → f < mesh .faces → mesh .lowCell f < mesh .cells
+  pub highIn : (f : ℕ) → f < mesh .faces → mesh .highCell f < mesh .cells
+  pub lowHas : (f : ℕ) → f < mesh .faces → OnHighSide f (mesh .sides (mesh .lowCell f))
+  pub highHas : (f : ℕ) → f < mesh .faces → OnLowSide f (mesh .sides (mesh .highCell f))
+  -- what leaves the cells enters them
+  pub passesOn : (flow : Flow) → sum (mesh .cells) (entering mesh flow) ≡ sum (mesh .cells) (leaving mesh flow)
