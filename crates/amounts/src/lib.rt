@@ -3,6 +3,7 @@ ghost use mathlib.Core.Path.{_≡_};
 ghost use Rattle.model.specs.Step.{step, load as load-call, emission as emission-call, withdrawal as withdrawal-call, total as total-call, reading as reading-call};
 ghost use Rattle.units.specs.Grid.{worldOf};
 ghost use Rattle.units.specs.Answer.{Agrees};
+ghost use Rattle.amounts.specs.Calls.{IsNamed};
 use places::Lent;
 use places::common_places;
 use units::Answer;
@@ -36,23 +37,57 @@ pub fn total(g: Grid, air: &[u32], tracers: &[u32], tracer: u32) -> Answer
     Answer::Accepted(sums[t] as u32)
 }
 
-// A cell's amount of a tracer, the cell numbered over all layers.
-pub fn cell(g: Grid, air: &[u32], tracers: &[u32], tracer: u32, cell: u32) -> Answer
-    ensures { λ r. ⌜ Agrees (step (worldOf g (now (air .entry)) (now (tracers .entry))) (reading-call tracer cell)) r (now (air .entry)) (now (tracers .entry)) ⌝ }
+// The answer of places 1 to 5 to a call that names a tracer and a cell; where the cell's amount stands, and the tracer's total.
+pub struct Named {
+    pub answer: Answer,
+    pub at: usize,
+    pub total: u64,
+}
+
+fn not_named(answer: Answer) -> Named
+    ensures { λ r. ⌜ r .answer ≡ answer ⌝ }
+{
+    Named {
+        answer,
+        at: 0,
+        total: 0,
+    }
+}
+
+fn amount_place(g: Grid, air: &[u32], tracers: &[u32], tracer: u32, cell: u32) -> Named
+    ensures { λ r. ⌜ IsNamed (worldOf g (now (air .entry)) (now (tracers .entry))) tracer cell (r .answer) (r .at) (r .total) ⌝ }
 {
     let tested = common_places(g, air, tracers, Lent::Nothing);
     let answer = tested.answer;
     if number(answer) == 0 {} else {
-        return answer;
+        return not_named(answer);
     }
     if tracer < g.n {} else {
-        return Answer::Refused(Refusal::Index);
+        return not_named(Answer::Refused(Refusal::Index));
     }
     let cells = world_cells(g);
     if cell < cells {} else {
-        return Answer::Refused(Refusal::Index);
+        return not_named(Answer::Refused(Refusal::Index));
     }
-    let i = (tracer as usize) * (cells as usize) + (cell as usize);
+    let t = tracer as usize;
+    let sums = tested.totals;
+    Named {
+        answer: Answer::Accepted(0),
+        at: t * (cells as usize) + (cell as usize),
+        total: sums[t],
+    }
+}
+
+// A cell's amount of a tracer, the cell numbered over all layers.
+pub fn cell(g: Grid, air: &[u32], tracers: &[u32], tracer: u32, cell: u32) -> Answer
+    ensures { λ r. ⌜ Agrees (step (worldOf g (now (air .entry)) (now (tracers .entry))) (reading-call tracer cell)) r (now (air .entry)) (now (tracers .entry)) ⌝ }
+{
+    let named = amount_place(g, air, tracers, tracer, cell);
+    let answer = named.answer;
+    if number(answer) == 0 {} else {
+        return answer;
+    }
+    let i = named.at;
     Answer::Accepted(tracers[i])
 }
 
@@ -67,24 +102,15 @@ pub fn emission(
 ) -> Answer
     ensures { λ r. ⌜ Agrees (step (worldOf g (now (air .entry)) (now (tracers .entry))) (emission-call tracer cell amount)) r (now (air .entry)) (now (tracers .exit)) ⌝ }
 {
-    let tested = common_places(g, air, tracers, Lent::Nothing);
-    let answer = tested.answer;
+    let named = amount_place(g, air, tracers, tracer, cell);
+    let answer = named.answer;
     if number(answer) == 0 {} else {
         return answer;
     }
-    if tracer < g.n {} else {
-        return Answer::Refused(Refusal::Index);
-    }
-    let cells = world_cells(g);
-    if cell < cells {} else {
-        return Answer::Refused(Refusal::Index);
-    }
-    let t = tracer as usize;
-    let sums = tested.totals;
-    if sums[t] + (amount as u64) <= 268435455 {} else {
+    if named.total + (amount as u64) <= 268435455 {} else {
         return Answer::Refused(Refusal::Emission);
     }
-    let i = t * (cells as usize) + (cell as usize);
+    let i = named.at;
     tracers[i] = tracers[i] + amount;
     Answer::Accepted(0)
 }
@@ -100,19 +126,12 @@ pub fn withdrawal(
 ) -> Answer
     ensures { λ r. ⌜ Agrees (step (worldOf g (now (air .entry)) (now (tracers .entry))) (withdrawal-call tracer cell amount)) r (now (air .entry)) (now (tracers .exit)) ⌝ }
 {
-    let tested = common_places(g, air, tracers, Lent::Nothing);
-    let answer = tested.answer;
+    let named = amount_place(g, air, tracers, tracer, cell);
+    let answer = named.answer;
     if number(answer) == 0 {} else {
         return answer;
     }
-    if tracer < g.n {} else {
-        return Answer::Refused(Refusal::Index);
-    }
-    let cells = world_cells(g);
-    if cell < cells {} else {
-        return Answer::Refused(Refusal::Index);
-    }
-    let i = (tracer as usize) * (cells as usize) + (cell as usize);
+    let i = named.at;
     let had = tracers[i];
     if amount <= had {} else {
         return Answer::Refused(Refusal::Withdrawal);

@@ -1,30 +1,30 @@
--- What `common_places` gives: the number of the first of places 1 to 4 that applies, and, where none does, what they tell of the world.
+-- What `common_places` gives: the first of places 1 to 4 that applies, and, where none does, what they tell of the world.
 -- Assumes nothing.
 use Prim.Native.Nat.{ℕ, _+_, _*_, _≤_, _<_}
 use mathlib.Core.List.{List}
-use mathlib.Core.Bool.{Bool, true, false, not, _&&_}
-use mathlib.Core.Path.{_≡_, refl, sym, ap, _∙_}
+use mathlib.Core.Bool.{Bool, true, false, not, _&&_, and-eq-true-iff}
+use mathlib.Core.Path.{_≡_, sym, ap, _∙_}
 use native.Mathlib.Nat.{le-of-eq}
 use native.Mathlib.Omega.{arith}
 use borrow.Author.Tests.{eqb-true, leb-true}
 use lib.Dec.{leb, eqb}
 use lib.ListN.{length}
-use Rattle.places.specs.Totals.{TracersFit, AreTotals}
-use Rattle.places.specs.declared.Lent.{Lent}
-use Rattle.places.specs.declared.Lent.the-variants.{Nothing, RowFluxes, LayerFluxes, Table}
+use Rattle.model.specs.Limits.{totalLimit}
+use Rattle.model.specs.Basic.{at, every}
+use Rattle.model.specs.World.{Grid, World, worldCells, gasTotal, airFits}
+use Rattle.model.specs.Step.{Call, commonPlaces, refusal, gridFits, lengthsFit, lentFits}
+use Rattle.model.specs.Laws.Basic.{every-at, every-ext}
+use Rattle.model.specs.Laws.Step.{Fits, passes, stops}
 use Rattle.units.specs.declared.Answer.{Answer}
 use Rattle.units.specs.declared.Answer.the-variants.{Accepted, Refused}
 use Rattle.units.specs.declared.Refusal.{Refusal}
 use Rattle.units.specs.declared.Refusal.the-variants.{GridRange, Lengths, AirRange, Totals}
 use Rattle.units.specs.Answer.{refusalNumber, numberOf, countOf}
-use Rattle.model.specs.Limits.{totalLimit}
-use Rattle.model.specs.Basic.{at, every}
-use Rattle.model.specs.World.{Grid, World, worldCells, gasTotal, airFits}
-use Rattle.model.specs.Laws.Basic.{both, every-at, every-ext}
-use Rattle.model.specs.Laws.Places.{applies, passes, none-left}
-use Rattle.model.specs.Step.{Call, firstOf, commonPlaces, gridFits, lengthsFit, lentFits}
+use Rattle.places.specs.Totals.{TracersFit, AreTotals}
+use Rattle.places.specs.declared.Lent.{Lent}
+use Rattle.places.specs.declared.Lent.the-variants.{Nothing, RowFluxes, LayerFluxes, Table}
 
--- place 2, by what else is lent
+-- place 2, by the length of what else is lent
 abbrev pub lentServes : Grid → Lent → Bool
 lentServes g Nothing = true
 lentServes g (RowFluxes n) = eqb n (g .W)
@@ -41,55 +41,33 @@ airTest w = every (length (w .air)) (λ i. airFits (at (w .air) i))
 abbrev pub totalsTest : World → Bool
 totalsTest w = every (w .grid .N) (λ t. leb (gasTotal w t) totalLimit)
 
-module _ (w : World) (call : Call) where
-  pub place-1 : gridFits (w .grid) ≡ false → firstOf (commonPlaces call) w ≡ 1
-  unfolding commonPlaces
-  place-1 a = applies _ _ w (ap not a)
-
-  pub place-2 : gridFits (w .grid) ≡ true → lengthsFit w call ≡ false → firstOf (commonPlaces call) w ≡ 2
-  unfolding commonPlaces
-  place-2 a b = passes _ _ w (ap not a) ∙ applies _ _ w (ap not b)
-
-  pub place-3 : gridFits (w .grid) ≡ true → lengthsFit w call ≡ true → airTest w ≡ false → firstOf (commonPlaces call) w ≡ 3
-  unfolding commonPlaces
-  place-3 a b c = passes _ _ w (ap not a) ∙ passes _ _ w (ap not b) ∙ applies _ _ w (ap not c)
-
-  pub place-4 : gridFits (w .grid) ≡ true → lengthsFit w call ≡ true → airTest w ≡ true → totalsTest w ≡ false → firstOf (commonPlaces call) w ≡ 4
-  unfolding commonPlaces
-  place-4 a b c d =
-      passes _ _ w (ap not a) ∙ passes _ _ w (ap not b) ∙ passes _ _ w (ap not c) ∙ applies _ _ w (ap not d)
-
-  pub places-passed : gridFits (w .grid) ≡ true → lengthsFit w call ≡ true → airTest w ≡ true → totalsTest w ≡ true → firstOf (commonPlaces call) w ≡ 0
-  unfolding commonPlaces
-  places-passed a b c d =
-      passes _ _ w (ap not a) ∙ passes _ _ w (ap not b) ∙ passes _ _ w (ap not c) ∙ passes _ _ w (ap not d) ∙
-      none-left w
-
 -- what places 1 to 4 tell of a world, with its totals
-pub record Passed (w : World) (sums : List ℕ) : Type 0 where
-  pub gridIn : gridFits (w .grid) ≡ true
-  pub airLong : length (w .air) ≡ worldCells (w .grid)
-  pub tracersLong : length (w .tracers) ≡ w .grid .N * worldCells (w .grid)
+pub record Passed (w : World) (lent : Lent) (sums : List ℕ) : Type 0 where
+  pub fits : Fits w
+  pub lentFit : lentServes (w .grid) lent ≡ true
   pub total : (t : ℕ) → t < w .grid .N → at sums t ≡ gasTotal w t
-  pub totalIn : (t : ℕ) → t < w .grid .N → gasTotal w t ≤ totalLimit
 
--- the answer of places 1 to 4 for every call that is lent a list of the length `lent`
+-- the answer of places 1 to 4 to every call that is lent a list of the length `lent`
 pub record IsTested (w : World) (lent : Lent) (answer : Answer) (sums : List ℕ) : Type 0 where
-  pub number : (call : Call) → lentFits (w .grid) call ≡ lentServes (w .grid) lent → numberOf answer ≡ firstOf (commonPlaces call) w
+  pub refused : (numberOf answer ≡ 0 → ⊥) → (call : Call) → lentFits (w .grid) call ≡ lentServes (w .grid) lent → refusal w call ≡ numberOf answer
   pub count : countOf answer ≡ 0
-  pub passed : numberOf answer ≡ 0 → Passed w sums
+  pub passed : numberOf answer ≡ 0 → Passed w lent sums
 
 -- what the passed lengths tell
 module _ (w : World) (lent : Lent) (b : lengthsServe (w .grid) (length (w .air)) (length (w .tracers)) lent ≡ true) where
-  lengths-true : (length (w .air) ≡ worldCells (w .grid)) × (length (w .tracers) ≡ w .grid .N * worldCells (w .grid))
+  lengths-true : (length (w .air) ≡ worldCells (w .grid)) × (length (w .tracers) ≡ w .grid .N * worldCells (w .grid)) × (lentServes (w .grid) lent ≡ true)
   lengths-true =
-      let p = both _ (lentServes (w .grid) lent) b in
-      let q = both (eqb (length (w .air)) (worldCells (w .grid))) _ (p .0) in
-      (eqb-true _ _ (q .0), eqb-true _ _ (q .1))
+      let p = and-eq-true-iff _ (lentServes (w .grid) lent) .0 b in
+      let q = and-eq-true-iff (eqb (length (w .air)) (worldCells (w .grid))) _ .0 (p .0) in
+      (eqb-true _ _ (q .0), eqb-true _ _ (q .1), p .1)
 
   pub tracers-fit : (cells : ℕ) → cells ≡ worldCells (w .grid) → cells ≤ 101440 → w .grid .N ≤ 8 → TracersFit (w .tracers) cells (w .grid .N)
   tracers-fit cells e few n =
-      record { fewCells = few; fewTracers = n; long = le-of-eq (ap (λ (k : ℕ). w .grid .N * k) e ∙ sym (lengths-true .1)) }
+      record {
+        fewCells = few;
+        fewTracers = n;
+        long = le-of-eq (ap (λ (k : ℕ). w .grid .N * k) e ∙ sym (lengths-true .1));
+      }
 
 -- the totals are the gas totals, and their test is place 4's
 module _ (w : World) (cells : ℕ) (e : cells ≡ worldCells (w .grid)) (sums : List ℕ) (sure : AreTotals (w .tracers) cells (w .grid .N) sums) where
@@ -98,16 +76,17 @@ module _ (w : World) (cells : ℕ) (e : cells ≡ worldCells (w .grid)) (sums : 
 
   pub totals-test : every (w .grid .N) (λ t. leb (at sums t) totalLimit) ≡ totalsTest w
   totals-test =
-      every-ext (w .grid .N) (λ t. leb (at sums t) totalLimit) (λ t. leb (gasTotal w t) totalLimit) (λ t h. ap (λ (x : ℕ). leb x totalLimit) (gas-totals t h))
+      every-ext (w .grid .N) (λ t. leb (at sums t) totalLimit) (λ t. leb (gasTotal w t) totalLimit)
+      (λ t h. ap (λ (x : ℕ). leb x totalLimit) (gas-totals t h))
 
 -- ---- the answers of `common_places`, from the tests that led there
 module _ (w : World) (lent : Lent) (answer : Answer) (sums : List ℕ) where
-  refused-by : (r : Refusal) → answer ≡ Refused r → (refusalNumber r ≡ 0 → ⊥) → ((call : Call) → lentFits (w .grid) call ≡ lentServes (w .grid) lent → firstOf (commonPlaces call) w ≡ refusalNumber r) → IsTested w lent answer sums
+  refused-by : (r : Refusal) → answer ≡ Refused r → (refusalNumber r ≡ 0 → ⊥) → ((call : Call) → lentFits (w .grid) call ≡ lentServes (w .grid) lent → refusal w call ≡ refusalNumber r) → IsTested w lent answer sums
   refused-by r e nonzero first =
       record {
-        number = λ call fit. ap numberOf e ∙ sym (first call fit);
+        refused = λ _ call fit. first call fit ∙ sym (ap numberOf e);
         count = ap countOf e;
-        passed = λ zero. absurd (nonzero (sym (ap numberOf e) ∙ zero));
+        passed = λ z. absurd (nonzero (sym (ap numberOf e) ∙ z));
       }
 
   -- place 2 is the same for every call that is lent a list of that length
@@ -118,32 +97,46 @@ module _ (w : World) (lent : Lent) (answer : Answer) (sums : List ℕ) where
       fit
 
   pub tested-1 : gridFits (w .grid) ≡ false → answer ≡ Refused GridRange → IsTested w lent answer sums
-  tested-1 a e = refused-by GridRange e (λ q. omega arith) (λ call fit. place-1 w call a)
+  unfolding refusal commonPlaces
+  tested-1 a e = refused-by GridRange e (λ z. omega arith) (λ call fit. stops _ _ w (ap not a))
 
   module _ (a : gridFits (w .grid) ≡ true) where
     pub tested-2 : lengthsServe (w .grid) (length (w .air)) (length (w .tracers)) lent ≡ false → answer ≡ Refused Lengths → IsTested w lent answer sums
+    unfolding refusal commonPlaces
     tested-2 b e =
-        refused-by Lengths e (λ q. omega arith) (λ call fit. place-2 w call a (lengths-same call fit ∙ b))
+        refused-by Lengths e (λ z. omega arith)
+        (λ call fit. passes _ _ w (ap not a) ∙ stops _ _ w (ap not (lengths-same call fit ∙ b)))
 
     module _ (b : lengthsServe (w .grid) (length (w .air)) (length (w .tracers)) lent ≡ true) where
       pub tested-3 : airTest w ≡ false → answer ≡ Refused AirRange → IsTested w lent answer sums
+      unfolding refusal commonPlaces
       tested-3 c e =
-          refused-by AirRange e (λ q. omega arith) (λ call fit. place-3 w call a (lengths-same call fit ∙ b) c)
+          refused-by AirRange e (λ z. omega arith)
+          (λ call fit. passes _ _ w (ap not a) ∙ passes _ _ w (ap not (lengths-same call fit ∙ b)) ∙ stops _ _ w (ap not c))
 
       pub tested-4 : airTest w ≡ true → totalsTest w ≡ false → answer ≡ Refused Totals → IsTested w lent answer sums
+      unfolding refusal commonPlaces
       tested-4 c d e =
-          refused-by Totals e (λ q. omega arith) (λ call fit. place-4 w call a (lengths-same call fit ∙ b) c d)
+          refused-by Totals e (λ z. omega arith)
+          (λ call fit.
+          passes _ _ w (ap not a) ∙ passes _ _ w (ap not (lengths-same call fit ∙ b)) ∙ passes _ _ w (ap not c) ∙
+          stops _ _ w (ap not d))
+
+      passed-fits : airTest w ≡ true → totalsTest w ≡ true → Fits w
+      passed-fits c d =
+          let lengths = lengths-true w lent b in
+          record {
+            grid = a;
+            airLength = lengths .0;
+            tracersLength = lengths .1;
+            air = λ i h. every-at _ _ c i (rw (lengths .0) h);
+            totals = λ t h. leb-true _ _ (every-at _ _ d t h);
+          }
 
       pub tested-5 : airTest w ≡ true → totalsTest w ≡ true → answer ≡ Accepted 0 → ((t : ℕ) → t < w .grid .N → at sums t ≡ gasTotal w t) → IsTested w lent answer sums
       tested-5 c d e each =
           record {
-            number = λ call fit. ap numberOf e ∙ sym (places-passed w call a (lengths-same call fit ∙ b) c d);
+            refused = λ nonzero. absurd (nonzero (ap numberOf e));
             count = ap countOf e;
-            passed = λ zero. record {
-              gridIn = a;
-              airLong = lengths-true w lent b .0;
-              tracersLong = lengths-true w lent b .1;
-              total = each;
-              totalIn = λ t h. leb-true (gasTotal w t) totalLimit (every-at (w .grid .N) (λ t. leb (gasTotal w t) totalLimit) d t h);
-            };
+            passed = λ z. record { fits = passed-fits c d; lentFit = lengths-true w lent b .2; total = each };
           }

@@ -3,19 +3,21 @@
 use Prim.Native.Nat.{ℕ, zero, suc}
 use mathlib.Core.List.{List}
 use mathlib.Core.Path.{_≡_, refl, sym, ap, _∙_}
-use native.Mathlib.Omega.{arith}
 use Rattle.model.specs.World.{World}
 use Rattle.model.specs.Step.{Call, Result, refusal, accepted, refused, step}
-use Rattle.model.specs.Laws.Places.{step-accepts, step-refuses, accepted-answer}
+use Rattle.model.specs.Laws.Step.{step-accepted, step-refused, answer-is}
 use Rattle.units.specs.declared.Answer.{Answer}
-use Rattle.units.specs.Answer.{numberOf, countOf, Agrees}
+use Rattle.units.specs.declared.Answer.the-variants.{Refused}
+use Rattle.units.specs.declared.Refusal.{Refusal}
+use Rattle.units.specs.Answer.{refusalNumber, numberOf, countOf, Agrees}
 
-module _ (w : World) (call : Call) (answer : Answer) where
-  by-number : (n : ℕ) → refusal w call ≡ n → numberOf answer ≡ n → (numberOf answer ≡ 0 → ⊥) → countOf answer ≡ 0 → Agrees (step w call) answer (w .air) (w .tracers)
+module _ (w : World) (call : Call) where
+  -- a refusal has count 0 and leaves every lent list as it was
+  by-number : (answer : Answer) (n : ℕ) → refusal w call ≡ n → (n ≡ 0 → ⊥) → numberOf answer ≡ n → countOf answer ≡ 0 → Agrees (step w call) answer (w .air) (w .tracers)
   unfolding refused
-  by-number zero e same nonzero count = absurd (nonzero same)
-  by-number (suc n) e same nonzero count =
-      let is = sym (step-refuses w call n e) in
+  by-number answer zero e nonzero same count = absurd (nonzero refl)
+  by-number answer (suc n) e nonzero same count =
+      let is = sym (step-refused w call n e) in
       record {
         number = same ∙ ap (λ (r : Result). r .answer) is;
         count = count ∙ ap (λ (r : Result). r .count) is;
@@ -23,16 +25,19 @@ module _ (w : World) (call : Call) (answer : Answer) where
         tracersLeft = ap (λ (r : Result). r .next .tracers) is;
       }
 
-  -- a refusal leaves every lent list as it was
-  pub refused-agrees : numberOf answer ≡ refusal w call → (numberOf answer ≡ 0 → ⊥) → countOf answer ≡ 0 → Agrees (step w call) answer (w .air) (w .tracers)
-  refused-agrees same nonzero count = by-number (refusal w call) refl same nonzero count
+  pub refused-agrees : (answer : Answer) → refusal w call ≡ numberOf answer → (numberOf answer ≡ 0 → ⊥) → countOf answer ≡ 0 → Agrees (step w call) answer (w .air) (w .tracers)
+  refused-agrees answer e nonzero count = by-number answer (numberOf answer) e nonzero refl count
+
+  -- refused by a place of its own
+  pub place-agrees : (r : Refusal) → refusal w call ≡ refusalNumber r → (refusalNumber r ≡ 0 → ⊥) → Agrees (step w call) (Refused r) (w .air) (w .tracers)
+  place-agrees r e nonzero = refused-agrees (Refused r) e nonzero refl
 
   -- an accepted call leaves what `accepted` says
-  pub accepted-agrees : (air tracers : List ℕ) → refusal w call ≡ 0 → numberOf answer ≡ 0 → countOf answer ≡ accepted w call .count → air ≡ accepted w call .next .air → tracers ≡ accepted w call .next .tracers → Agrees (step w call) answer air tracers
-  accepted-agrees air tracers e number count a t =
-      let is = sym (step-accepts w call e) in
+  pub accepted-agrees : (answer : Answer) (air tracers : List ℕ) → refusal w call ≡ 0 → numberOf answer ≡ 0 → countOf answer ≡ accepted w call .count → air ≡ accepted w call .next .air → tracers ≡ accepted w call .next .tracers → Agrees (step w call) answer air tracers
+  accepted-agrees answer air tracers e number count a t =
+      let is = sym (step-accepted w call e) in
       record {
-        number = number ∙ sym (accepted-answer w call) ∙ ap (λ (r : Result). r .answer) is;
+        number = number ∙ sym (answer-is w call ∙ e);
         count = count ∙ ap (λ (r : Result). r .count) is;
         airLeft = a ∙ ap (λ (r : Result). r .next .air) is;
         tracersLeft = t ∙ ap (λ (r : Result). r .next .tracers) is;

@@ -5,15 +5,10 @@ use Rattle.amounts.specs.Calls.{load-agrees}
 use borrow.Author.Needs.{needs}
 use Rattle.amounts.proofs.load.Statement.{statement}
 use Rattle.amounts.proofs.load.Tie as tie
-use Rattle.amounts.proofs.load.Reads as reads
-use Rattle.amounts.proofs.load.Lts as lts
-use Rattle.places.proofs.common_places.Reads as common-places-reads
 
--- src/lib.rt:18:9
 common-places-requires : tie.Need-common-places-requires
 common-places-requires c κs = search needs
 
--- src/lib.rt:15:1
 returns : tie.Need-returns
 returns c = load-agrees _ _ _ (c .common-places .ensures) _ refl
 

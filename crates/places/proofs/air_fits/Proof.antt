@@ -11,9 +11,6 @@ use Rattle.model.specs.World.{airFits}
 use Rattle.model.specs.Laws.Basic.{every-none, every-more}
 use Rattle.places.proofs.air_fits.Statement.{statement}
 use Rattle.places.proofs.air_fits.Tie as tie
-use Rattle.places.proofs.air_fits.Reads as reads
-use Rattle.places.proofs.air_fits.Lts as lts
-use Rattle.places.proofs.air_in_range.Reads as air-in-range-reads
 
 abbrev Inv-loop : tie.InvT-loop
 Inv-loop air ok₀ i₀ ok i = (i ≤ length air) × (ok ≡ every i (λ k. airFits (at air k)))
@@ -21,38 +18,30 @@ Inv-loop air ok₀ i₀ ok i = (i ≤ length air) × (ok ≡ every i (λ k. airF
 abbrev μ-loop : tie.MeasureT-loop
 μ-loop air ok₀ i₀ ok i = length air - i
 
--- src/lib.rt:26:5
 loop-holds : tie.Need-loop-holds Inv-loop μ-loop
 loop-holds c = (search needs, sym (every-none _))
 
--- src/lib.rt:27:36
 mul-t4 : tie.Need-mul-t4 Inv-loop μ-loop
 mul-t4 c = search needs
 
--- src/lib.rt:27:36
 shared-slice-read-t7 : tie.Need-shared-slice-read-t7 Inv-loop μ-loop
 shared-slice-read-t7 c = search needs
 
--- src/lib.rt:27:19
 air-in-range-requires : tie.Need-air-in-range-requires Inv-loop μ-loop
 air-in-range-requires c κs = search needs
 
--- src/lib.rt:28:9
 add-i : tie.Need-add-i Inv-loop μ-loop
 add-i c = search needs
 
--- src/lib.rt:26:5
 loop-less : tie.Need-loop-less Inv-loop μ-loop
 loop-less c = search needs
 
--- src/lib.rt:26:5
 loop-again : tie.Need-loop-again Inv-loop μ-loop
 loop-again c = (
   search needs,
   ap₂ _&&_ (c .before .before .before .loop .inv .1) (c .air-in-range .ensures) ∙ sym (every-more (c .before .before .before .loop .i) _),
 )
 
--- src/lib.rt:21:1
 returns : tie.Need-returns Inv-loop μ-loop
 returns c =
     c .before .loop .inv .1 ∙

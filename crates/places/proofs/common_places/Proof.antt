@@ -6,79 +6,54 @@ use Rattle.places.specs.Tested.{tested-1, tested-2, tested-3, tested-4, 
 use borrow.Author.Needs.{needs}
 use Rattle.places.proofs.common_places.Statement.{statement}
 use Rattle.places.proofs.common_places.Tie as tie
-use Rattle.places.proofs.common_places.Reads as reads
-use Rattle.places.proofs.common_places.Lts as lts
-use Rattle.places.proofs.air_fits.Reads as air-fits-reads
-use Rattle.places.proofs.lengths_fit.Reads as lengths-fit-reads
-use Rattle.places.proofs.refused.Reads as refused-reads
-use Rattle.places.proofs.totals.Reads as totals-reads
-use Rattle.places.proofs.totals_fit.Reads as totals-fit-reads
-use Rattle.units.proofs.grid_fits.Reads as grid-fits-reads
-use Rattle.units.proofs.world_cells.Reads as world-cells-reads
 
--- src/lib.rt:138:8
 grid-fits-requires : tie.Need-grid-fits-requires
 grid-fits-requires c κs = search needs
 
--- src/lib.rt:139:9
 refused-requires : tie.Need-refused-requires
 refused-requires c κs = search needs
 
--- src/lib.rt:139:9
 returns : tie.Need-returns
 returns c = tested-1 _ _ _ _ (cc) (c .refused .ensures)
 
--- src/lib.rt:141:8
 lengths-fit-requires : tie.Need-lengths-fit-requires
 lengths-fit-requires c κs = in-range _ (cc)
 
--- src/lib.rt:142:9
 refused-requires-2 : tie.Need-refused-requires-2
 refused-requires-2 c κs = search needs
 
--- src/lib.rt:142:9
 returns-2 : tie.Need-returns-2
 returns-2 c = tested-2 _ _ _ _ (cc) (cc) (c .refused2 .ensures)
 
--- src/lib.rt:144:8
 air-fits-requires : tie.Need-air-fits-requires
 air-fits-requires c κs = search needs
 
--- src/lib.rt:145:9
 refused-requires-3 : tie.Need-refused-requires-3
 refused-requires-3 c κs = search needs
 
--- src/lib.rt:145:9
 returns-3 : tie.Need-returns-3
 returns-3 c = tested-3 _ _ _ _ (cc) (cc) (cc) (c .refused3 .ensures)
 
--- src/lib.rt:147:13
 cast-n : tie.Need-cast-n
 cast-n c = search needs
 
--- src/lib.rt:148:32
 world-cells-requires : tie.Need-world-cells-requires
 world-cells-requires c κs = in-range _ (cc)
 
--- src/lib.rt:148:32
 cast-totals : tie.Need-cast-totals
 cast-totals c = search needs
 
--- src/lib.rt:148:9
 totals-requires : tie.Need-totals-requires
 totals-requires c κs =
     let args = c .before .before .before .before .before .before .before .before .before .before .args in
     tracers-fit (worldOf (args .g) (args .air .now) (args .tracers .now)) (args .lent) (cc) _ (c .world-cells .ensures .0) (c .world-cells .ensures .1) (in-range (args .g) (cc) .highN)
 
--- src/lib.rt:149:8
 totals-fit-requires : tie.Need-totals-fit-requires
 totals-fit-requires c κs = in-range (c .before .before .before .before .before .before .before .before .before .before .before .args .g) (cc) .highN
 
--- src/lib.rt:150:9
 refused-requires-4 : tie.Need-refused-requires-4
 refused-requires-4 c κs = search needs
 
--- src/lib.rt:150:9
 returns-4 : tie.Need-returns-4
 returns-4 c =
     let args = c .before .before .before .before .before .before .before .before .before .before .before .before .before .before .args in
@@ -86,7 +61,6 @@ returns-4 c =
     let test = totals-test w _ (c .before .before .before .before .world-cells .ensures .0) _ (c .before .before .before .totals .ensures) in
     tested-4 w _ _ _ (cc) (cc) (cc) (cc) (c .refused4 .ensures)
 
--- src/lib.rt:135:1
 returns-5 : tie.Need-returns-5
 returns-5 c =
     let args = c .before .before .before .before .before .before .before .before .before .before .before .before .before .args in

@@ -9,8 +9,6 @@ use Rattle.model.specs.Basic.{at, sum as total}
 use Rattle.model.specs.Laws.Basic.{sum-none, sum-more}
 use Rattle.places.proofs.gas_total.Statement.{statement}
 use Rattle.places.proofs.gas_total.Tie as tie
-use Rattle.places.proofs.gas_total.Reads as reads
-use Rattle.places.proofs.gas_total.Lts as lts
 
 abbrev Inv-loop : tie.InvT-loop
 Inv-loop gas sum₀ i₀ sum i = (i ≤ length gas) × (sum ≡ total i (at gas)) × (sum ≤ i * 4294967295)
@@ -18,35 +16,27 @@ Inv-loop gas sum₀ i₀ sum i = (i ≤ length gas) × (sum ≡ total i (at gas)
 abbrev μ-loop : tie.MeasureT-loop
 μ-loop gas sum₀ i₀ sum i = length gas - i
 
--- src/lib.rt:40:5
 loop-holds : tie.Need-loop-holds Inv-loop μ-loop
 loop-holds c = (search needs, sym (sum-none _), search needs)
 
--- src/lib.rt:41:16
 mul-sum : tie.Need-mul-sum Inv-loop μ-loop
 mul-sum c = search needs
 
--- src/lib.rt:41:16
 shared-slice-read-sum : tie.Need-shared-slice-read-sum Inv-loop μ-loop
 shared-slice-read-sum c = search needs
 
--- src/lib.rt:41:16
 cast-sum : tie.Need-cast-sum Inv-loop μ-loop
 cast-sum c = omega (arith, c .shared-slice-known .given (c .before .before .loop .i))
 
--- src/lib.rt:41:9
 add-sum : tie.Need-add-sum Inv-loop μ-loop
 add-sum c = omega (arith, c .shared-slice-known .given (c .before .before .loop .i))
 
--- src/lib.rt:42:9
 add-i : tie.Need-add-i Inv-loop μ-loop
 add-i c = search needs
 
--- src/lib.rt:40:5
 loop-less : tie.Need-loop-less Inv-loop μ-loop
 loop-less c = search needs
 
--- src/lib.rt:40:5
 loop-again : tie.Need-loop-again Inv-loop μ-loop
 loop-again c = (
   search needs,
@@ -55,7 +45,6 @@ loop-again c = (
   omega (arith, c .shared-slice-known .given (c .before .before .loop .i)),
 )
 
--- src/lib.rt:34:1
 returns : tie.Need-returns Inv-loop μ-loop
 returns c = (
   c .before .loop .inv .1 ∙ ap (λ (n : ℕ). total n (at (c .before .before .args .gas .now))) (omega arith),

@@ -5,68 +5,51 @@ use native.Mathlib.Omega.{arith}
 use borrow.Author.Needs.{needs}
 use Rattle.places.proofs.lent_fits.Statement.{statement}
 use Rattle.places.proofs.lent_fits.Tie as tie
-use Rattle.places.proofs.lent_fits.Reads as reads
-use Rattle.places.proofs.lent_fits.Lts as lts
 
--- src/lib.rt:97:13
 cast-w : tie.Need-cast-w
 cast-w c = search needs
 
--- src/lib.rt:98:16
 cast-rows : tie.Need-cast-rows
 cast-rows c = search needs
 
--- src/lib.rt:99:13
 cast-k : tie.Need-cast-k
 cast-k c = search needs
 
--- src/lib.rt:101:26
 enum-told : tie.Need-enum-told
 enum-told c = search needs
 
--- src/lib.rt:102:25
 enum-known-lent : tie.Need-enum-known-lent
 enum-known-lent c = search needs
 
--- src/lib.rt:103:27
 enum-known-lent-2 : tie.Need-enum-known-lent-2
 enum-known-lent-2 c = search needs
 
--- src/lib.rt:103:43
 add-result : tie.Need-add-result
 add-result c = search needs
 
--- src/lib.rt:103:38
 mul-result : tie.Need-mul-result
 mul-result c =
     let g = c .before .before .before .before .before .before .pre in
     record { fits = omega (arith, mul-le-mul (g .highW) (g .highR), g .highW) }
 
--- src/lib.rt:104:21
 enum-known-lent-3 : tie.Need-enum-known-lent-3
 enum-known-lent-3 c = search needs
 
--- src/lib.rt:104:37
 add-result-2 : tie.Need-add-result-2
 add-result-2 c = search needs
 
--- src/lib.rt:104:32
 mul-result-2 : tie.Need-mul-result-2
 mul-result-2 c = search needs
 
--- src/lib.rt:93:1
 returns : tie.Need-returns
 returns c = search needs
 
--- src/lib.rt:93:1
 returns-2 : tie.Need-returns-2
 returns-2 c = cc
 
--- src/lib.rt:93:1
 returns-3 : tie.Need-returns-3
 returns-3 c = cc
 
--- src/lib.rt:93:1
 returns-4 : tie.Need-returns-4
 returns-4 c = cc
 

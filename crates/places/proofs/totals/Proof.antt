@@ -8,9 +8,6 @@ use borrow.Author.Needs.{needs}
 use Rattle.places.specs.Totals.{AreTotals, totals-none, totals-more, tracer-room, part-total}
 use Rattle.places.proofs.totals.Statement.{statement}
 use Rattle.places.proofs.totals.Tie as tie
-use Rattle.places.proofs.totals.Reads as reads
-use Rattle.places.proofs.totals.Lts as lts
-use Rattle.places.proofs.gas_total.Reads as gas-total-reads
 
 abbrev Inv-loop : tie.InvT-loop
 Inv-loop tracers cells n sums₀ t₀ sums t = (t ≤ n) × (length sums ≡ 8) × AreTotals tracers cells t sums
@@ -18,55 +15,42 @@ Inv-loop tracers cells n sums₀ t₀ sums t = (t ≤ n) × (length sums ≡ 8) 
 abbrev μ-loop : tie.MeasureT-loop
 μ-loop tracers cells n sums₀ t₀ sums t = n - t
 
--- src/lib.rt:55:5
 loop-holds : tie.Need-loop-holds Inv-loop μ-loop
 loop-holds c = (search needs, search needs, totals-none _ _ _)
 
--- src/lib.rt:56:17
 mul-a : tie.Need-mul-a Inv-loop μ-loop
 mul-a c = let room = tracer-room (c .before .before .before .pre) (c .before .loop .t) (search needs) in search needs
 
--- src/lib.rt:57:17
 add-e : tie.Need-add-e Inv-loop μ-loop
 add-e c = let room = tracer-room (c .before .before .before .pre) (c .before .loop .t) (search needs) in search needs
 
--- src/lib.rt:58:29
 mul-gas-total : tie.Need-mul-gas-total Inv-loop μ-loop
 mul-gas-total c = let room = tracer-room (c .before .before .before .pre) (c .before .loop .t) (search needs) in search needs
 
--- src/lib.rt:58:29
 sub-gas-total : tie.Need-sub-gas-total Inv-loop μ-loop
 sub-gas-total c = search needs
 
--- src/lib.rt:58:29
 part-gas-total-start : tie.Need-part-gas-total-start Inv-loop μ-loop
 part-gas-total-start c = search needs
 
--- src/lib.rt:58:29
 part-gas-total-end : tie.Need-part-gas-total-end Inv-loop μ-loop
 part-gas-total-end c = let room = tracer-room (c .before .before .before .pre) (c .before .loop .t) (search needs) in search needs
 
--- src/lib.rt:58:19
 gas-total-requires : tie.Need-gas-total-requires Inv-loop μ-loop
 gas-total-requires c κs = search needs
 
--- src/lib.rt:58:9
 mul-sums : tie.Need-mul-sums Inv-loop μ-loop
 mul-sums c = search needs
 
--- src/lib.rt:58:9
 array-write-sums : tie.Need-array-write-sums Inv-loop μ-loop
 array-write-sums c = search needs
 
--- src/lib.rt:59:9
 add-t : tie.Need-add-t Inv-loop μ-loop
 add-t c = search needs
 
--- src/lib.rt:55:5
 loop-less : tie.Need-loop-less Inv-loop μ-loop
 loop-less c = search needs
 
--- src/lib.rt:55:5
 loop-again : tie.Need-loop-again Inv-loop μ-loop
 loop-again c =
     let room = tracer-room (c .before .before .before .before .before .pre) (c .before .before .before .loop .t) (search needs) in (
@@ -75,7 +59,6 @@ loop-again c =
       totals-more _ _ _ _ _ (search needs) (c .before .before .before .loop .inv .2) (part-total _ _ _ _ (room .0) (c .gas-total .ensures .0), c .gas-total .ensures .1),
     )
 
--- src/lib.rt:49:1
 returns : tie.Need-returns Inv-loop μ-loop
 returns c =
     let done : c .before .loop .t ≡ c .before .before .before .args .n = omega arith in

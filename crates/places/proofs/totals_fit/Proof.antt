@@ -11,8 +11,6 @@ use Rattle.model.specs.Basic.{at, every}
 use Rattle.model.specs.Laws.Basic.{every-none, every-more}
 use Rattle.places.proofs.totals_fit.Statement.{statement}
 use Rattle.places.proofs.totals_fit.Tie as tie
-use Rattle.places.proofs.totals_fit.Reads as reads
-use Rattle.places.proofs.totals_fit.Lts as lts
 
 abbrev Inv-loop : tie.InvT-loop
 Inv-loop n sums ok₀ t₀ ok t = (t ≤ n) × (ok ≡ every t (λ k. leb (at sums k) totalLimit))
@@ -20,27 +18,21 @@ Inv-loop n sums ok₀ t₀ ok t = (t ≤ n) × (ok ≡ every t (λ k. leb (at su
 abbrev μ-loop : tie.MeasureT-loop
 μ-loop n sums ok₀ t₀ ok t = n - t
 
--- src/lib.rt:71:5
 loop-holds : tie.Need-loop-holds Inv-loop μ-loop
 loop-holds c = (search needs, sym (every-none _))
 
--- src/lib.rt:72:20
 mul-ok : tie.Need-mul-ok Inv-loop μ-loop
 mul-ok c = search needs
 
--- src/lib.rt:72:20
 array-read-ok : tie.Need-array-read-ok Inv-loop μ-loop
 array-read-ok c = search needs
 
--- src/lib.rt:73:9
 add-t : tie.Need-add-t Inv-loop μ-loop
 add-t c = search needs
 
--- src/lib.rt:71:5
 loop-less : tie.Need-loop-less Inv-loop μ-loop
 loop-less c = search needs
 
--- src/lib.rt:71:5
 loop-again : tie.Need-loop-again Inv-loop μ-loop
 loop-again c = (
   search needs,
@@ -48,7 +40,6 @@ loop-again c = (
       sym (every-more (c .before .loop .t) (λ k. leb (at (c .before .before .args .t1) k) totalLimit)),
 )
 
--- src/lib.rt:65:1
 returns : tie.Need-returns Inv-loop μ-loop
 returns c =
     c .before .loop .inv .1 ∙

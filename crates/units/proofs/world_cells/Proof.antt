@@ -7,7 +7,6 @@ use native.Mathlib.Omega.{arith}
 use borrow.Author.Needs.{needs}
 use Rattle.units.proofs.world_cells.Statement.{statement}
 use Rattle.units.proofs.world_cells.Tie as tie
-use Rattle.units.proofs.world_cells.Lts as lts
 
 layer-cells-requires : tie.Need-layer-cells-requires
 layer-cells-requires c κs = search needs
