@@ -16,8 +16,8 @@ use units::world_cells;
 pub fn load(g: Grid, air: &[u32], tracers: &[u32]) -> Answer
     ensures { λ r. ⌜ Agrees (step (worldOf g (now (air .entry)) (now (tracers .entry))) load-call) r (now (air .entry)) (now (tracers .entry)) ⌝ }
 {
-    let tested = common_places(g, air, tracers, Lent::Nothing);
-    tested.answer
+    let loaded = common_places(g, air, tracers, Lent::Nothing);
+    loaded.answer
 }
 
 // A tracer's total.
@@ -32,9 +32,9 @@ pub fn total(g: Grid, air: &[u32], tracers: &[u32], tracer: u32) -> Answer
     if tracer < g.n {} else {
         return Answer::Refused(Refusal::Index);
     }
-    let t = tracer as usize;
+    let which = tracer as usize;
     let sums = tested.totals;
-    Answer::Accepted(sums[t] as u32)
+    Answer::Accepted(sums[which] as u32)
 }
 
 // The answer of places 1 to 5 to a call that names a tracer and a cell; where the cell's amount stands, and the tracer's total.
@@ -112,7 +112,7 @@ pub fn emission(
     }
     let i = named.at;
     tracers[i] = tracers[i] + amount;
-    Answer::Accepted(0)
+    Answer::Accepted(0) // counts not named are 0
 }
 
 // Takes an amount of a tracer from one cell.

@@ -1,6 +1,6 @@
 -- `amounts::amount_place` meets its contract: each answer from the tests that led there.
 -- Assumes nothing.
-use mathlib.Core.Path.{refl}
+use mathlib.Core.Path.{refl, sym, _∙_}
 use native.Mathlib.Omega.{arith}
 use Rattle.units.specs.Grid.{in-range}
 use Rattle.amounts.specs.Calls.{named-common, named-no-tracer, named-no-cell, named-found, found-there}
@@ -26,17 +26,17 @@ not-named-requires-2 c κs = search needs
 
 returns-2 : tie.Need-returns-2
 returns-2 c =
-    named-no-tracer _ _ _ _ _ _ (c .before .before .before .before .before .common-places .ensures .passed (cc) .fits) (search needs) (c .not-named2 .ensures)
+    named-no-tracer _ _ _ _ _ _ (c .before .before .before .before .before .common-places .ensures .passed (sym (c .before .before .before .before .number .ensures) ∙ c .before .before .before .if1 .taken) .fits) (search needs) (c .not-named2 .ensures)
 
 world-cells-requires : tie.Need-world-cells-requires
-world-cells-requires c κs = in-range _ (c .before .before .before .before .common-places .ensures .passed (cc) .fits .grid)
+world-cells-requires c κs = in-range _ (c .before .before .before .before .common-places .ensures .passed (sym (c .before .before .before .number .ensures) ∙ c .before .before .if1 .taken) .fits .grid)
 
 not-named-requires-3 : tie.Need-not-named-requires-3
 not-named-requires-3 c κs = search needs
 
 returns-3 : tie.Need-returns-3
 returns-3 c =
-    named-no-cell _ _ _ _ _ _ (c .before .before .before .before .before .before .before .common-places .ensures .passed (cc) .fits) (search needs) (search needs) (c .not-named3 .ensures)
+    named-no-cell _ _ _ _ _ _ (c .before .before .before .before .before .before .before .common-places .ensures .passed (sym (c .before .before .before .before .before .before .number .ensures) ∙ c .before .before .before .before .before .if1 .taken) .fits) (search needs) (search needs) (c .not-named3 .ensures)
 
 cast-t19 : tie.Need-cast-t19
 cast-t19 c = search needs
@@ -44,7 +44,7 @@ cast-t19 c = search needs
 mul-t20 : tie.Need-mul-t20
 mul-t20 c =
     let args = c .before .before .before .before .before .before .before .before .before .before .args in
-    let passed = c .before .before .before .before .before .before .before .common-places .ensures .passed (cc) in
+    let passed = c .before .before .before .before .before .before .before .common-places .ensures .passed (sym (c .before .before .before .before .before .before .number .ensures) ∙ c .before .before .before .before .before .if1 .taken) in
     let cells = c .before .before .world-cells .ensures in
     let found = found-there _ (passed .fits) (args .tracer) (args .cell) _ _ (search needs) (search needs) (cells .0) (cells .1) (in-range (args .g) (passed .fits .grid) .highN) (passed .total (args .tracer) (search needs)) in
     omega (arith, found .near)
@@ -52,7 +52,7 @@ mul-t20 c =
 add-t22 : tie.Need-add-t22
 add-t22 c =
     let args = c .before .before .before .before .before .before .before .before .before .before .args in
-    let passed = c .before .before .before .before .before .before .before .common-places .ensures .passed (cc) in
+    let passed = c .before .before .before .before .before .before .before .common-places .ensures .passed (sym (c .before .before .before .before .before .before .number .ensures) ∙ c .before .before .before .before .before .if1 .taken) in
     let cells = c .before .before .world-cells .ensures in
     let found = found-there _ (passed .fits) (args .tracer) (args .cell) _ _ (search needs) (search needs) (cells .0) (cells .1) (in-range (args .g) (passed .fits .grid) .highN) (passed .total (args .tracer) (search needs)) in
     omega (arith, found .near)
@@ -62,13 +62,13 @@ mul-t23 c = search needs
 
 array-read-t26 : tie.Need-array-read-t26
 array-read-t26 c =
-    let passed = c .before .before .before .before .before .before .before .common-places .ensures .passed (cc) in
+    let passed = c .before .before .before .before .before .before .before .common-places .ensures .passed (sym (c .before .before .before .before .before .before .number .ensures) ∙ c .before .before .before .before .before .if1 .taken) in
     omega (arith, in-range (c .before .before .before .before .before .before .before .before .before .before .args .g) (passed .fits .grid) .highN)
 
 returns-4 : tie.Need-returns-4
 returns-4 c =
     let args = c .before .before .before .before .before .before .before .before .before .before .args in
-    let passed = c .before .before .before .before .before .before .before .common-places .ensures .passed (cc) in
+    let passed = c .before .before .before .before .before .before .before .common-places .ensures .passed (sym (c .before .before .before .before .before .before .number .ensures) ∙ c .before .before .before .before .before .if1 .taken) in
     let cells = c .before .before .world-cells .ensures in
     let found = found-there _ (passed .fits) (args .tracer) (args .cell) _ _ (search needs) (search needs) (cells .0) (cells .1) (in-range (args .g) (passed .fits .grid) .highN) (passed .total (args .tracer) (search needs)) in
     named-found _ _ _ _ _ _ found refl

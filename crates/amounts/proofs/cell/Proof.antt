@@ -1,6 +1,6 @@
 -- `amounts::cell` meets its contract: the amount where `amount_place` found it.
 -- Assumes nothing.
-use mathlib.Core.Path.{refl}
+use mathlib.Core.Path.{refl, sym, _∙_}
 use native.Mathlib.Omega.{arith}
 use mathlib.Core.List.{[]}
 use Rattle.model.specs.Step.{reading}
@@ -20,13 +20,13 @@ returns c =
     c .before .before .amount-place .ensures .refused (λ z. omega (arith, c .before .number .ensures)) (reading (c .before .before .before .before .before .args .tracer) (c .before .before .before .before .before .args .cell)) [] refl (reading-places _ _)
 
 mul-t11 : tie.Need-mul-t11
-mul-t11 c = omega (arith, c .before .before .amount-place .ensures .found (cc) .near)
+mul-t11 c = omega (arith, c .before .before .amount-place .ensures .found (sym (c .before .number .ensures) ∙ c .if1 .taken) .near)
 
 shared-slice-read-t9 : tie.Need-shared-slice-read-t9
-shared-slice-read-t9 c = c .before .before .before .amount-place .ensures .found (cc) .inside
+shared-slice-read-t9 c = c .before .before .before .amount-place .ensures .found (sym (c .before .before .number .ensures) ∙ c .before .if1 .taken) .inside
 
 returns-2 : tie.Need-returns-2
-returns-2 c = reading-agrees _ _ _ _ _ (c .before .before .before .amount-place .ensures .found (cc))
+returns-2 c = reading-agrees _ _ _ _ _ (c .before .before .before .amount-place .ensures .found (sym (c .before .before .number .ensures) ∙ c .before .if1 .taken))
 
 pub cell-spec : {M : Type 1} → statement M
 cell-spec =

@@ -1,6 +1,6 @@
 -- `amounts::withdrawal` meets its contract: what is taken is at most the cell's amount.
 -- Assumes nothing.
-use mathlib.Core.Path.{refl}
+use mathlib.Core.Path.{refl, sym, _∙_}
 use native.Mathlib.Omega.{arith}
 use Rattle.model.specs.Step.{withdrawal}
 use Rattle.amounts.specs.Calls.{withdrawal-places, withdrawal-refused, withdrawal-agrees}
@@ -22,28 +22,28 @@ returns c =
     c .before .before .amount-place .ensures .refused (λ z. omega (arith, c .before .number .ensures)) (withdrawal (c .before .before .before .before .before .before .args .tracer) (c .before .before .before .before .before .before .args .cell) (c .before .before .before .before .before .before .args .amount)) _ refl (withdrawal-places _ _ _)
 
 mul-had : tie.Need-mul-had
-mul-had c = omega (arith, c .before .before .amount-place .ensures .found (cc) .near)
+mul-had c = omega (arith, c .before .before .amount-place .ensures .found (sym (c .before .number .ensures) ∙ c .if1 .taken) .near)
 
 slice-read-had : tie.Need-slice-read-had
-slice-read-had c = c .before .before .before .amount-place .ensures .found (cc) .inside
+slice-read-had c = c .before .before .before .amount-place .ensures .found (sym (c .before .before .number .ensures) ∙ c .before .if1 .taken) .inside
 
 same-length-2 : tie.Need-same-length-2
 same-length-2 c = search needs
 
 returns-2 : tie.Need-returns-2
-returns-2 c = withdrawal-refused _ _ _ _ _ _ (c .before .before .before .before .amount-place .ensures .found (cc)) (search needs)
+returns-2 c = withdrawal-refused _ _ _ _ _ _ (c .before .before .before .before .amount-place .ensures .found (sym (c .before .before .before .number .ensures) ∙ c .before .before .if1 .taken)) (search needs)
 
 mul-tracers : tie.Need-mul-tracers
-mul-tracers c = omega (arith, c .before .before .before .before .amount-place .ensures .found (cc) .near)
+mul-tracers c = omega (arith, c .before .before .before .before .amount-place .ensures .found (sym (c .before .before .before .number .ensures) ∙ c .before .before .if1 .taken) .near)
 
 slice-write-tracers : tie.Need-slice-write-tracers
-slice-write-tracers c = c .before .before .before .before .amount-place .ensures .found (cc) .inside
+slice-write-tracers c = c .before .before .before .before .amount-place .ensures .found (sym (c .before .before .before .number .ensures) ∙ c .before .before .if1 .taken) .inside
 
 same-length-3 : tie.Need-same-length-3
 same-length-3 c = search needs
 
 returns-3 : tie.Need-returns-3
-returns-3 c = withdrawal-agrees _ _ _ _ _ _ (c .before .before .before .before .amount-place .ensures .found (cc)) (search needs)
+returns-3 c = withdrawal-agrees _ _ _ _ _ _ (c .before .before .before .before .amount-place .ensures .found (sym (c .before .before .before .number .ensures) ∙ c .before .before .if1 .taken)) (search needs)
 
 pub withdrawal-spec : {M : Type 1} → statement M
 withdrawal-spec =

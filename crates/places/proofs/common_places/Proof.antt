@@ -1,6 +1,6 @@
 -- `places::common_places` meets its contract: each answer from the tests that led there.
 -- Assumes nothing.
-use mathlib.Core.Path.{refl}
+use mathlib.Core.Path.{refl, sym, _∙_}
 use Rattle.units.specs.Grid.{worldOf, in-range}
 use Rattle.places.specs.Tested.{tested-1, tested-2, tested-3, tested-4, tested-5, tracers-fit, gas-totals, totals-test}
 use borrow.Author.Needs.{needs}
@@ -14,16 +14,19 @@ refused-requires : tie.Need-refused-requires
 refused-requires c κs = search needs
 
 returns : tie.Need-returns
-returns c = tested-1 _ _ _ _ (cc) (c .refused .ensures)
+returns c =
+    tested-1 _ _ _ _ (sym (c .before .before .grid-fits .ensures) ∙ c .before .if1 .left) (c .refused .ensures)
 
 lengths-fit-requires : tie.Need-lengths-fit-requires
-lengths-fit-requires c κs = in-range _ (cc)
+lengths-fit-requires c κs =
+    in-range _ (sym (c .before .grid-fits .ensures) ∙ c .if1 .taken)
 
 refused-requires-2 : tie.Need-refused-requires-2
 refused-requires-2 c κs = search needs
 
 returns-2 : tie.Need-returns-2
-returns-2 c = tested-2 _ _ _ _ (cc) (cc) (c .refused2 .ensures)
+returns-2 c =
+    tested-2 _ _ _ _ (sym (c .before .before .before .before .grid-fits .ensures) ∙ c .before .before .before .if1 .taken) (sym (c .before .before .lengths-fit .ensures) ∙ c .before .if2 .left) (c .refused2 .ensures)
 
 air-fits-requires : tie.Need-air-fits-requires
 air-fits-requires c κs = search needs
@@ -32,13 +35,14 @@ refused-requires-3 : tie.Need-refused-requires-3
 refused-requires-3 c κs = search needs
 
 returns-3 : tie.Need-returns-3
-returns-3 c = tested-3 _ _ _ _ (cc) (cc) (cc) (c .refused3 .ensures)
+returns-3 c =
+    tested-3 _ _ _ _ (sym (c .before .before .before .before .before .before .grid-fits .ensures) ∙ c .before .before .before .before .before .if1 .taken) (sym (c .before .before .before .before .lengths-fit .ensures) ∙ c .before .before .before .if2 .taken) (sym (c .before .before .air-fits .ensures) ∙ c .before .if3 .left) (c .refused3 .ensures)
 
 cast-n : tie.Need-cast-n
 cast-n c = search needs
 
 world-cells-requires : tie.Need-world-cells-requires
-world-cells-requires c κs = in-range _ (cc)
+world-cells-requires c κs = in-range _ (sym (c .before .before .before .before .before .before .grid-fits .ensures) ∙ c .before .before .before .before .before .if1 .taken)
 
 cast-totals : tie.Need-cast-totals
 cast-totals c = search needs
@@ -46,10 +50,12 @@ cast-totals c = search needs
 totals-requires : tie.Need-totals-requires
 totals-requires c κs =
     let args = c .before .before .before .before .before .before .before .before .before .before .args in
-    tracers-fit (worldOf (args .g) (args .air .now) (args .tracers .now)) (args .lent) (cc) _ (c .world-cells .ensures .0) (c .world-cells .ensures .1) (in-range (args .g) (cc) .highN)
+    tracers-fit (worldOf (args .g) (args .air .now) (args .tracers .now)) (args .lent)
+    (sym (c .before .before .before .before .before .lengths-fit .ensures) ∙ c .before .before .before .before .if2 .taken) _ (c .world-cells .ensures .0) (c .world-cells .ensures .1)
+    (in-range (args .g) (sym (c .before .before .before .before .before .before .before .grid-fits .ensures) ∙ c .before .before .before .before .before .before .if1 .taken) .highN)
 
 totals-fit-requires : tie.Need-totals-fit-requires
-totals-fit-requires c κs = in-range (c .before .before .before .before .before .before .before .before .before .before .before .args .g) (cc) .highN
+totals-fit-requires c κs = in-range (c .before .before .before .before .before .before .before .before .before .before .before .args .g) (sym (c .before .before .before .before .before .before .before .before .grid-fits .ensures) ∙ c .before .before .before .before .before .before .before .if1 .taken) .highN
 
 refused-requires-4 : tie.Need-refused-requires-4
 refused-requires-4 c κs = search needs
@@ -58,8 +64,10 @@ returns-4 : tie.Need-returns-4
 returns-4 c =
     let args = c .before .before .before .before .before .before .before .before .before .before .before .before .before .before .args in
     let w = worldOf (args .g) (args .air .now) (args .tracers .now) in
-    let test = totals-test w _ (c .before .before .before .before .world-cells .ensures .0) _ (c .before .before .before .totals .ensures) in
-    tested-4 w _ _ _ (cc) (cc) (cc) (cc) (c .refused4 .ensures)
+    let cells = c .before .before .before .before .world-cells .ensures .0 in
+    let sums = c .before .before .before .totals .ensures in
+    tested-4 w _ _ _ (sym (c .before .before .before .before .before .before .before .before .before .before .before .grid-fits .ensures) ∙ c .before .before .before .before .before .before .before .before .before .before .if1 .taken) (sym (c .before .before .before .before .before .before .before .before .before .lengths-fit .ensures) ∙ c .before .before .before .before .before .before .before .before .if2 .taken) (sym (c .before .before .before .before .before .before .before .air-fits .ensures) ∙ c .before .before .before .before .before .before .if3 .taken)
+    (sym (totals-test w _ cells _ sums) ∙ sym (c .before .before .totals-fit .ensures) ∙ c .before .if4 .left) (c .refused4 .ensures)
 
 returns-5 : tie.Need-returns-5
 returns-5 c =
@@ -67,8 +75,8 @@ returns-5 c =
     let w = worldOf (args .g) (args .air .now) (args .tracers .now) in
     let cells = c .before .before .before .world-cells .ensures .0 in
     let sums = c .before .before .totals .ensures in
-    let test = totals-test w _ cells _ sums in
-    tested-5 w _ _ _ (cc) (cc) (cc) (cc) refl (gas-totals w _ cells _ sums)
+    tested-5 w _ _ _ (sym (c .before .before .before .before .before .before .before .before .before .before .grid-fits .ensures) ∙ c .before .before .before .before .before .before .before .before .before .if1 .taken) (sym (c .before .before .before .before .before .before .before .before .lengths-fit .ensures) ∙ c .before .before .before .before .before .before .before .if2 .taken) (sym (c .before .before .before .before .before .before .air-fits .ensures) ∙ c .before .before .before .before .before .if3 .taken)
+    (sym (totals-test w _ cells _ sums) ∙ sym (c .before .totals-fit .ensures) ∙ c .if4 .taken) refl (gas-totals w _ cells _ sums)
 
 pub common-places-spec : {M : Type 1} → statement M
 common-places-spec =
