@@ -64,9 +64,11 @@ module _ (qa q qb : ℕ) where
   mismatch-towards-low b =
       leaning-le b _ _ q qa qb (sorted _ refl .1) (rw (min-comm qb qa) (mismatch-low qa q qb)) (rw (max-comm qb qa) (mismatch-high qa q qb))
 
-pub plain-towards : (q r : ℕ) → Towards plain q r
-plain-towards q r true = omega arith
-plain-towards q r false = omega arith
+pub level-towards : (s : Bool) (q r : ℕ) → Towards (record { size = 0; positive = s }) q r
+level-towards true q r true = omega arith
+level-towards true q r false = omega arith
+level-towards false q r true = omega arith
+level-towards false q r false = omega arith
 
 -- ---- inside: a cell of air M and tracer T does not pass the fraction H/L
 abbrev pub Inside : Bool → ℕ → ℕ → ℕ → ℕ → Type 0
