@@ -92,7 +92,7 @@ abbrev CellRoom : Bool → ℕ → ℕ → ℕ → ℕ → ℕ → Type 0
 CellRoom b H L M T d = Room b (2 * scale * T * L) (d * L * M) (2 * scale * H * M) (2 * L * M)
 
 -- g takes q to r
-abbrev Apart : Bool → ℕ → ℕ → ℕ → Type 0
+abbrev pub Apart : Bool → ℕ → ℕ → ℕ → Type 0
 Apart true q r g = q + g ≡ r
 Apart false q r g = r + g ≡ q
 

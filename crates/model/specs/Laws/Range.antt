@@ -15,10 +15,10 @@ use Rattle.model.specs.World.{airFits}
 use Rattle.model.specs.Scheme.{ratio, Mismatch, mismatch, plain, opposite, highPiece, lowPiece}
 use Rattle.model.specs.Sweep.{Mesh, Sides, between, southCap, northCap, Flow, leaving, entering, afterFlow, allowed, parts, cellRatio, cellMismatch, pieces, airAfter, gasAfter, serves}
 use Rattle.model.specs.Range.{inRange, isNear, faceCount, substepInRange, SweepInRange}
-use Rattle.model.specs.Laws.Basic.{sum-ext, both, every-at, some-true, at-tab, term-le-sum}
+use Rattle.model.specs.Laws.Basic.{sum-ext, both, every-at, some-true, some-unless, at-tab, term-le-sum}
 use Rattle.model.specs.Laws.Scheme.{Safe, mismatch-safe, plain-safe}
 use Rattle.model.specs.Laws.Mesh.{Regular, Meets, OnHighSide, OnLowSide}
-use Rattle.model.specs.Laws.Fractions.{Within, lost, Towards, mismatch-towards-high, mismatch-towards-low, level-towards, Inside, Bound, Near, bound-add, bound-sum, Leaves, piece-near, ends-leave, plains-leave, replaced}
+use Rattle.model.specs.Laws.Fractions.{Within, lost, Towards, mismatch-towards-high, mismatch-towards-low, level-towards, Inside, Apart, Bound, Near, bound-add, bound-sum, Leaves, piece-near, ends-leave, plains-leave, replaced}
 
 -- face f is one of the n faces from face k on
 among : (cell : ℕ → ℕ) (k n f : ℕ) → k ≤ f → f < k + n → some n (λ i. eqb (cell f) (cell (k + i))) ≡ true
@@ -189,3 +189,104 @@ module _ (mesh : Mesh) (regular : Regular mesh) (flow : Flow) (air gas : List �
         (stays (mesh .sides c) refl (regular .meets c hc))
         (omega (arith, gives c hc, at-tab (mesh .cells) (λ c. at air c + entering mesh flow c - leaving mesh flow c) c hc))
         (sym (at-tab (mesh .cells) (λ c. at gas c + entering mesh (pieces mesh flow air gas) c - leaving mesh (pieces mesh flow air gas) c) c hc))
+
+-- ---- document 01's e: one unit more than the faces
+limit-below-scale : (M : ℕ) → M ≤ airLimit → M < scale
+limit-below-scale M h = omega arith
+
+-- a fraction that the cell passes by that much, h/M with h and its tracer T so far apart, has air of the scale's size
+unit-passed : (b : Bool) (M T f h : ℕ) → 0 < M → Apart b h T (f + 1) → Near b h M M T f → scale ≤ M
+unit-passed true M T f h hM e near =
+    le-of-mul-le-mul-right (omega (arith, ap (λ (x : ℕ). x * M) e)) hM
+unit-passed false M T f h hM e near =
+    le-of-mul-le-mul-right (omega (arith, ap (λ (x : ℕ). x * M) e)) hM
+
+-- a cell that fails document 01's test, with air M and tracer T where M' and T' are the new amounts, does not pass h/M'
+fails-below : (M T M' T' e : ℕ) → ltb (T * M') ((T' + e) * M) ≡ false → Inside false (T' + e) M' M T
+fails-below M T M' T' e t = omega (arith, ltb-false (T * M') ((T' + e) * M) t)
+
+fails-above : (M T M' T' e h : ℕ) → h + e ≡ T' → ltb (T' * M) (T * M' + e * M) ≡ false → Inside true h M' M T
+fails-above M T M' T' e h eq t =
+    omega (arith, ltb-false (T' * M) (T * M' + e * M) t, ap (λ (x : ℕ). x * M) eq)
+
+-- .. and e is then at most T'
+fails-most : (M T M' T' e : ℕ) → 0 < M → ltb (T' * M) (T * M' + e * M) ≡ false → e ≤ T'
+fails-most M T M' T' e hM t =
+    le-of-mul-le-mul-right (omega (arith, ltb-false (T' * M) (T * M' + e * M) t)) hM
+
+and-false : (a b : Bool) → a && b ≡ false → a ≡ true → b ≡ false
+and-false a b e h = rw h at e
+
+some-near : (mesh : Mesh) (c : ℕ) (test : ℕ → Bool) → (((d : ℕ) → d < mesh .cells → isNear mesh c d ≡ true → test d ≡ false) → ⊥) → some (mesh .cells) (λ d. isNear mesh c d && test d) ≡ true
+some-near mesh c test h =
+    some-unless (mesh .cells) (λ d. isNear mesh c d && test d) (λ none. h (λ d hd near. and-false (isNear mesh c d) (test d) (none d hd) near))
+
+-- what `allowed` tests
+module _ (mesh : Mesh) (flow : Flow) (air : List ℕ) (ok : allowed mesh flow air ≡ true) (c : ℕ) (hc : c < mesh .cells) where
+  allowed-at : (leb (leaving mesh flow c) (at air c) ≡ true) × (airFits (at (afterFlow mesh flow air) c) ≡ true)
+  unfolding allowed
+  allowed-at = both _ _ (every-at (mesh .cells) _ ok c hc)
+
+  pub allowed-gives : leaving mesh flow c ≤ at air c
+  allowed-gives = leb-true _ _ (allowed-at .0)
+
+  pub allowed-fits : (1 ≤ at (afterFlow mesh flow air) c) × (at (afterFlow mesh flow air) c ≤ airLimit)
+  allowed-fits =
+      let p = both _ _ (allowed-at .1) in
+      (leb-true _ _ (p .0), leb-true _ _ (p .1))
+
+-- ---- every cell is in range after an allowed substep
+module _ (mesh : Mesh) (regular : Regular mesh) (flow : Flow) (air gas : List ℕ) (has : (c : ℕ) → c < mesh .cells → 1 ≤ at air c) (ok : allowed mesh flow air ≡ true) (c : ℕ) (hc : c < mesh .cells) where
+  newAir : ℕ
+  newAir = at (afterFlow mesh flow air) c
+
+  newGas : ℕ
+  newGas = at (afterFlow mesh (pieces mesh flow air gas) gas) c
+
+  e : ℕ
+  e = faceCount (mesh .sides c) + 1
+
+  none-passed : (b : Bool) (h : ℕ) → Apart b h newGas (faceCount (mesh .sides c) + 1) → ((d : ℕ) → d < mesh .cells → isNear mesh c d ≡ true → Inside b h newAir (at air d) (at gas d)) → ⊥
+  unfolding newAir newGas
+  none-passed b h e inside =
+      let fits = allowed-fits mesh flow air ok c hc in
+      let m = unit-passed b newAir newGas (faceCount (mesh .sides c)) h (fits .0) e (near-after mesh regular flow air gas has (allowed-gives mesh flow air ok) b h newAir c hc inside) in
+      omega (arith, limit-below-scale newAir (fits .1))
+
+  not-below : some (mesh .cells) (λ d. isNear mesh c d && ltb (at gas d * newAir) ((newGas + e) * at air d)) ≡ true
+  unfolding e
+  not-below =
+      some-near mesh c _
+      (λ none.
+      none-passed false (newGas + e) refl
+      (λ d hd near. fails-below (at air d) (at gas d) newAir newGas e (none d hd near)))
+
+  not-above : some (mesh .cells) (λ d. isNear mesh c d && ltb (newGas * at air d) (at gas d * newAir + e * at air d)) ≡ true
+  unfolding e
+  not-above =
+      some-near mesh c _
+      (λ none.
+      let most : e ≤ newGas = fails-most (at air c) (at gas c) newAir newGas e (has c hc) (none c hc (near-self mesh c)) in
+      let apart : newGas - e + e ≡ newGas = omega arith in
+      none-passed true (newGas - e) apart
+      (λ d hd near. fails-above (at air d) (at gas d) newAir newGas e (newGas - e) apart (none d hd near)))
+
+  pub substep-in-range : inRange (mesh .cells) (isNear mesh c) air gas (faceCount (mesh .sides c) + 1) (at (afterFlow mesh flow air) c) (at (afterFlow mesh (pieces mesh flow air gas) gas) c) ≡ true
+  unfolding inRange newAir newGas e
+  substep-in-range = rw (not-below, not-above)
+
+-- ---- and so after every substep of a sweep in which all are allowed
+module _ (mesh : Mesh) (regular : Regular mesh) (fluxes : List ℤ) (n : ℕ) (air gas : List ℕ) (has : (c : ℕ) → c < mesh .cells → 1 ≤ at air c) (ok : serves mesh fluxes air n ≡ true) where
+  substep-allowed : (s : ℕ) → s < n → allowed mesh (parts fluxes n (suc s)) (airAfter mesh fluxes n air s) ≡ true
+  unfolding serves
+  substep-allowed s h = every-at n _ ok s h
+
+  has-after : (s : ℕ) → s ≤ n → (c : ℕ) → c < mesh .cells → 1 ≤ at (airAfter mesh fluxes n air s) c
+  unfolding airAfter
+  has-after zero h c hc = has c hc
+  has-after (suc s) h c hc = allowed-fits mesh _ _ (substep-allowed s h) c hc .0
+
+  pub sweep-in-range : SweepInRange mesh fluxes n air gas
+  unfolding substepInRange airAfter gasAfter
+  sweep-in-range s c h hc =
+      substep-in-range mesh regular _ _ _ (has-after s (omega arith)) (substep-allowed s h) c hc
