@@ -1,16 +1,18 @@
--- How far the tracer in some air can pass a fraction H/L of tracer to air: parts of a cell that leans, their floors, and sums of parts. Above and below at once, by a Bool: true is "at most", false is "at least".
--- Of the scale they use that it is above 0; of a limiter that its mismatch leans towards each neighbour at most twice as far as that neighbour's ratio.
+-- How far the tracer in some air can pass a fraction H/L of tracer to air: the pieces of a cell, what they leave of it, their sums; and document 01's range from that. From above and from below at once, by a Bool: true where H/L bounds from above.
+-- Of the scale they use that it is above 0, and in the last section that the air limit is below it; of a limiter what `Towards` says.
 use Prim.Native.Nat.{ℕ, zero, suc, _+_, _*_, _-_, _/_, _≤_, _<_, min, max}
-use mathlib.Core.Bool.{Bool, true, false, not}
+use mathlib.Core.List.{List}
+use mathlib.Core.Bool.{Bool, true, false, not, true-and, _&&_}
 use mathlib.Core.Path.{_≡_, refl, ap, _∙_}
 use native.Mathlib.Nat.{zero-mul, suc-mul, add-mul, sub-add-cancel, div-mul-le-self, lt-div-mul-add, min-comm, max-comm, mul-le-mul-right, le-of-mul-le-mul-right}
 use native.Mathlib.Omega.{arith}
-use borrow.Author.Tests.{leb-true, leb-false}
-use lib.Dec.{leb}
-use Rattle.model.specs.Limits.{scale}
-use Rattle.model.specs.Basic.{sum}
-use Rattle.model.specs.Scheme.{ratio, Mismatch, mismatch, plain, opposite, highPiece, lowPiece}
-use Rattle.model.specs.Laws.Basic.{sum-ext}
+use borrow.Author.Tests.{leb-true, leb-false, ltb-false}
+use lib.Dec.{leb, ltb}
+use Rattle.model.specs.Limits.{scale, airLimit}
+use Rattle.model.specs.Basic.{at, sum, some}
+use Rattle.model.specs.Scheme.{ratio, Mismatch, mismatch, opposite, highPiece, lowPiece}
+use Rattle.model.specs.Range.{inRange}
+use Rattle.model.specs.Laws.Basic.{sum-ext, some-unless}
 use Rattle.model.specs.Laws.Scheme.{Safe, numerator, piece-is, tilt-le-level, mismatch-low, mismatch-high}
 
 -- x is past y by at most s: above it, or below it
@@ -39,7 +41,7 @@ abbrev pub gap : Bool → ℕ → ℕ → ℕ
 gap true q r = r - q
 gap false q r = q - r
 
--- what the range needs of a limiter: in a cell of ratio q, D leans towards a neighbour of ratio r at its high end at most twice as far as that; for one at its low end, the same of - D
+-- what the range needs of a limiter: in a cell of ratio q, with a neighbour of ratio r at its high end, D is at most 2·(r − q) if positive and 2·(q − r) if negative; at its low end, the same of − D
 abbrev pub Towards : Mismatch → ℕ → ℕ → Type 0
 Towards D q r = (b : Bool) → leaning b (D .positive) (D .size) ≤ 2 * gap b q r
 
@@ -92,7 +94,7 @@ abbrev CellRoom : Bool → ℕ → ℕ → ℕ → ℕ → ℕ → Type 0
 CellRoom b H L M T d = Room b (2 * scale * T * L) (d * L * M) (2 * scale * H * M) (2 * L * M)
 
 -- g takes q to r
-abbrev pub Apart : Bool → ℕ → ℕ → ℕ → Type 0
+abbrev Apart : Bool → ℕ → ℕ → ℕ → Type 0
 Apart true q r g = q + g ≡ r
 Apart false q r g = r + g ≡ q
 
@@ -159,33 +161,30 @@ middle-within false true M τ m₁ m₂ r δ n₁ n₂ u v e e₁ e₂ h =
 middle-within false false M τ m₁ m₂ r δ n₁ n₂ u v e e₁ e₂ h =
     omega (arith, ap (λ (x : ℕ). x * τ) e, ap (λ (x : ℕ). x * (δ * r)) e, mul-le-mul-right r h)
 
--- ---- p units of tracer in m units of air are past B/A by at most C/A for each unit of air, and j units in all
-abbrev pub Bound : Bool → ℕ → ℕ → ℕ → ℕ → ℕ → ℕ → Type 0
-Bound b A B C m p j = Within b (p * A) (m * B) (m * C + j * A)
-
--- past H/L by at most 1/scale for each unit of air, and j units in all
+-- ---- near: p units of tracer in m units of air pass H/L by at most 1/scale for each unit of air, and j units in all
 abbrev pub Near : Bool → ℕ → ℕ → ℕ → ℕ → ℕ → Type 0
-Near b H L m p j = Bound b (scale * L) (scale * H) L m p j
+Near b H L m p j = Within b (p * (scale * L)) (m * (scale * H)) (m * L + j * (scale * L))
 
-pub bound-add : (b : Bool) (A B C m p j m' p' j' : ℕ) → Bound b A B C m p j → Bound b A B C m' p' j' → Bound b A B C (m + m') (p + p') (j + j')
-bound-add true A B C m p j m' p' j' h h' = omega arith
-bound-add false A B C m p j m' p' j' h h' = omega arith
+pub near-add : (b : Bool) (H L m p j m' p' j' : ℕ) → Near b H L m p j → Near b H L m' p' j' → Near b H L (m + m') (p + p') (j + j')
+near-add true H L m p j m' p' j' h h' = omega arith
+near-add false H L m p j m' p' j' h h' = omega arith
 
-bound-none : (b : Bool) (A B C : ℕ) → Bound b A B C 0 0 0
-bound-none true A B C = omega arith
-bound-none false A B C = omega arith
+near-none : (b : Bool) (H L : ℕ) → Near b H L 0 0 0
+near-none true H L = omega arith
+near-none false H L = omega arith
 
-pub bound-sum : (b : Bool) (A B C j n : ℕ) (m p : ℕ → ℕ) → ((i : ℕ) → i < n → Bound b A B C (m i) (p i) j) → Bound b A B C (sum n m) (sum n p) (n * j)
+pub near-sum : (b : Bool) (H L j n : ℕ) (m p : ℕ → ℕ) → ((i : ℕ) → i < n → Near b H L (m i) (p i) j) → Near b H L (sum n m) (sum n p) (n * j)
 unfolding sum
-bound-sum b A B C j zero m p h = rw (zero-mul j) (bound-none b A B C)
-bound-sum b A B C j (suc n) m p h =
-    rw (suc-mul n j) (bound-add b A B C (sum n m) (sum n p) (n * j) (m n) (p n) j (bound-sum b A B C j n m p (λ i q. h i (omega arith))) (h n (omega arith)))
+near-sum b H L j zero m p h = rw (zero-mul j) (near-none b H L)
+near-sum b H L j (suc n) m p h =
+    rw (suc-mul n j)
+    (near-add b H L (sum n m) (sum n p) (n * j) (m n) (p n) j (near-sum b H L j n m p (λ i q. h i (omega arith))) (h n (omega arith)))
 
--- p units are left of T, in r units of air, after p₂ were taken: the same
+-- the same of T - p units in r units of air: what p units leave of T
 abbrev pub Leaves : Bool → ℕ → ℕ → ℕ → ℕ → ℕ → ℕ → Type 0
 Leaves b H L r T p j = Within b (T * (scale * L)) (r * (scale * H) + p * (scale * L)) (r * L + j * (scale * L))
 
--- from exact numerators, and the floors p of N, j of them
+-- p is j floors of the numerator N in all: of a piece, and of what pieces leave
 enter : (b : Bool) (H L M m N p j : ℕ) → 0 < M → Within b (N * L) (m * (2 * scale * H * M)) (m * (2 * L * M)) → Within b (p * (2 * scale * M)) N (j * (2 * scale * M)) → Near b H L m p j
 enter true H L M m N p j hM h f = le-of-mul-le-mul-right {k = 2 * M} (omega (arith, mul-le-mul-right L f)) (omega arith)
 enter false H L M m N p j hM h f = le-of-mul-le-mul-right {k = 2 * M} (omega (arith, mul-le-mul-right L f)) (omega arith)
@@ -261,7 +260,7 @@ module _ (b : Bool) (H L M T : ℕ) (hM : 0 < M) (inside : Inside b H L M T) whe
       (level-within b H L M T (sum n m) r e (room-level b H L M T inside))
       (level-floors (not b) (2 * scale * M) (2 * scale * T) n m (omega arith)))
 
--- ---- the cell afterwards: m in p units came in, m₂ units of air stayed
+-- ---- the cell afterwards: p₂ units of tracer left it, r units of air stayed, and m with p units came in; each face cost a unit, of what came in or of what stayed
 pub replaced : (b : Bool) (H L r T m p p₂ f M' T' : ℕ) → Near b H L m p (f * lost b) → Leaves b H L r T p₂ (f * lost (not b)) → r + m ≡ M' → T + p - p₂ ≡ T' → Near b H L M' T' f
 replaced true H L r T m p p₂ f M' zero came stays eM eT = omega arith
 replaced true H L r T m p p₂ f M' (suc t) came stays eM eT =
@@ -270,3 +269,58 @@ replaced true H L r T m p p₂ f M' (suc t) came stays eM eT =
 replaced false H L r T m p p₂ f M' T' came stays eM eT =
     let e : T + p ≤ T' + p₂ = omega arith in
     omega (arith, mul-le-mul-right (scale * L) e, ap (λ (x : ℕ). x * (scale * H)) eM, ap (λ (x : ℕ). x * L) eM)
+
+-- ---- the range at every scale: M' and T' pass no fraction that bounds the cells `there`, but for 1/scale and f units
+abbrev pub Bounded : ℕ → (ℕ → Bool) → List ℕ → List ℕ → ℕ → ℕ → ℕ → Type 0
+Bounded n there air gas f M' T' =
+    (b : Bool) (H L : ℕ) → ((d : ℕ) → d < n → there d ≡ true → Inside b H L (at air d) (at gas d)) → Near b H L M' T' f
+
+-- ---- document 01's e is f + 1: were it passed, (T' - e)/M' or (T' + e)/M' would bound the cells there, and M' would be the scale or more
+limit-below-scale : (M : ℕ) → M ≤ airLimit → M < scale
+limit-below-scale M h = omega arith
+
+unit-passed : (b : Bool) (M' T' f h : ℕ) → 0 < M' → Apart b h T' (f + 1) → Near b h M' M' T' f → scale ≤ M'
+unit-passed true M' T' f h hM e near = le-of-mul-le-mul-right (omega (arith, ap (λ (x : ℕ). x * M') e)) hM
+unit-passed false M' T' f h hM e near = le-of-mul-le-mul-right (omega (arith, ap (λ (x : ℕ). x * M') e)) hM
+
+-- what a cell that fails the test tells
+fails-below : (M T M' T' e : ℕ) → ltb (T * M') ((T' + e) * M) ≡ false → Inside false (T' + e) M' M T
+fails-below M T M' T' e t = omega (arith, ltb-false (T * M') ((T' + e) * M) t)
+
+fails-above : (M T M' T' e h : ℕ) → h + e ≡ T' → ltb (T' * M) (T * M' + e * M) ≡ false → Inside true h M' M T
+fails-above M T M' T' e h eq t =
+    omega (arith, ltb-false (T' * M) (T * M' + e * M) t, ap (λ (x : ℕ). x * M) eq)
+
+fails-most : (M T M' T' e : ℕ) → 0 < M → ltb (T' * M) (T * M' + e * M) ≡ false → e ≤ T'
+fails-most M T M' T' e hM t =
+    le-of-mul-le-mul-right (omega (arith, ltb-false (T' * M) (T * M' + e * M) t)) hM
+
+-- a cell c there, with air
+module _ (n : ℕ) (there : ℕ → Bool) (air gas : List ℕ) (c : ℕ) (hc : c < n) (isThere : there c ≡ true) (has : 1 ≤ at air c) where
+  some-there : (test : ℕ → Bool) → (((d : ℕ) → d < n → there d ≡ true → test d ≡ false) → ⊥) → some n (λ d. there d && test d) ≡ true
+  some-there test h =
+      some-unless n (λ d. there d && test d) (λ none. h (λ d hd e. rw (e, true-and) at (none d hd)))
+
+  module _ (f M' T' : ℕ) (least : 1 ≤ M') (most : M' ≤ airLimit) (bounded : Bounded n there air gas f M' T') where
+    none-bounds : (b : Bool) (h : ℕ) → Apart b h T' (f + 1) → ((d : ℕ) → d < n → there d ≡ true → Inside b h M' (at air d) (at gas d)) → ⊥
+    none-bounds b h e inside =
+        omega (arith, unit-passed b M' T' f h least e (bounded b h M' inside), limit-below-scale M' most)
+
+    pub in-range : inRange n there air gas (f + 1) M' T' ≡ true
+    unfolding inRange
+    in-range = rw (not-below, not-above)
+      where
+        not-below : some n (λ d. there d && ltb (at gas d * M') ((T' + (f + 1)) * at air d)) ≡ true
+        not-below =
+            some-there _
+            (λ none.
+            none-bounds false (T' + (f + 1)) refl (λ d hd e. fails-below (at air d) (at gas d) M' T' (f + 1) (none d hd e)))
+
+        not-above : some n (λ d. there d && ltb (T' * at air d) (at gas d * M' + (f + 1) * at air d)) ≡ true
+        not-above =
+            some-there _
+            (λ none.
+            let le : f + 1 ≤ T' = fails-most (at air c) (at gas c) M' T' (f + 1) has (none c hc isThere) in
+            let apart : T' - (f + 1) + (f + 1) ≡ T' = omega arith in
+            none-bounds true (T' - (f + 1)) apart
+            (λ d hd e. fails-above (at air d) (at gas d) M' T' (f + 1) (T' - (f + 1)) apart (none d hd e)))

@@ -1,24 +1,24 @@
 -- The range of document 01 after a substep, and after every substep of a sweep, over any regular mesh.
--- Assumes air in every cell and that the substep is allowed. Of the scale it uses that the air limit is below it, and that only from the bound to document 01's e.
+-- Assumes air in every cell before it, and that the substeps are allowed. The flow may pass a face in both directions.
 use Prim.Native.Nat.{ℕ, zero, suc, _+_, _*_, _-_, _≤_, _<_}
 use mathlib.Core.List.{List}
-use mathlib.Core.Bool.{Bool, true, false, not, _&&_, _||_, or-true}
-use mathlib.Core.Path.{_≡_, refl, sym, _∙_, ap}
-use native.Mathlib.Nat.{two-mul, mul-le-mul-right, le-of-mul-le-mul-right}
+use mathlib.Core.Bool.{Bool, true, false, not, or-true}
+use mathlib.Core.Path.{_≡_, refl, sym, ap}
+use native.Mathlib.Nat.{two-mul}
 use native.Mathlib.Omega.{arith}
-use borrow.Author.Tests.{leb-true, ltb-false, eq-eqb}
-use lib.Dec.{leb, ltb, eqb}
+use borrow.Author.Tests.{leb-true, eq-eqb}
+use lib.Dec.{leb, eqb}
 use lib.IntN.{ℤ}
-use Rattle.model.specs.Limits.{scale, airLimit}
-use Rattle.model.specs.Basic.{at, sum, every, some}
+use Rattle.model.specs.Limits.{airLimit}
+use Rattle.model.specs.Basic.{at, sum, some}
 use Rattle.model.specs.World.{airFits}
-use Rattle.model.specs.Scheme.{ratio, Mismatch, mismatch, plain, opposite, highPiece, lowPiece}
+use Rattle.model.specs.Scheme.{opposite, highPiece, lowPiece}
 use Rattle.model.specs.Sweep.{Mesh, Sides, between, southCap, northCap, Flow, leaving, entering, afterFlow, allowed, parts, cellRatio, cellMismatch, pieces, airAfter, gasAfter, serves}
 use Rattle.model.specs.Range.{inRange, isNear, faceCount, substepInRange, SweepInRange}
-use Rattle.model.specs.Laws.Basic.{sum-ext, both, every-at, some-true, some-unless, at-tab, term-le-sum}
+use Rattle.model.specs.Laws.Basic.{sum-ext, both, every-at, some-true, at-tab, term-le-sum}
 use Rattle.model.specs.Laws.Scheme.{Safe, mismatch-safe, plain-safe}
 use Rattle.model.specs.Laws.Mesh.{Regular, Meets, OnHighSide, OnLowSide}
-use Rattle.model.specs.Laws.Fractions.{Within, lost, Towards, mismatch-towards-high, mismatch-towards-low, level-towards, Inside, Apart, Bound, Near, bound-add, bound-sum, Leaves, piece-near, ends-leave, plains-leave, replaced}
+use Rattle.model.specs.Laws.Fractions.{lost, Towards, mismatch-towards-high, mismatch-towards-low, level-towards, Inside, Near, near-add, near-sum, Leaves, piece-near, ends-leave, plains-leave, replaced, Bounded, in-range}
 
 -- face f is one of the n faces from face k on
 among : (cell : ℕ → ℕ) (k n f : ℕ) → k ≤ f → f < k + n → some n (λ i. eqb (cell f) (cell (k + i))) ≡ true
@@ -140,13 +140,13 @@ module _ (mesh : Mesh) (regular : Regular mesh) (flow : Flow) (air gas : List �
     comes-in : (s : Sides) → mesh .sides c ≡ s → Meets mesh c s → Near b H L (entering mesh flow c) (entering mesh (pieces mesh flow air gas) c) (faceCount s * lost b)
     unfolding leaving
     comes-in (between l h) e m =
-        rw (e, leaving, two-mul) (bound-add b _ _ _ _ _ _ _ _ _ (from-low l (m .0) (m .2) (rw e refl)) (from-high h (m .1) (m .3) (rw e refl)))
+        rw (e, leaving, two-mul) (near-add b H L _ _ _ _ _ _ (from-low l (m .0) (m .2) (rw e refl)) (from-high h (m .1) (m .3) (rw e refl)))
     comes-in (southCap k n) e m =
         rw (e, leaving)
-        (bound-sum b _ _ _ (lost b) n _ _ (λ i h. from-high (k + i) (m i h .0) (m i h .1) (rw e (omega arith))))
+        (near-sum b H L (lost b) n _ _ (λ i h. from-high (k + i) (m i h .0) (m i h .1) (rw e (omega arith))))
     comes-in (northCap k n) e m =
         rw (e, leaving)
-        (bound-sum b _ _ _ (lost b) n _ _ (λ i h. from-low (k + i) (m i h .0) (m i h .1) (rw e (omega arith))))
+        (near-sum b H L (lost b) n _ _ (λ i h. from-low (k + i) (m i h .0) (m i h .1) (rw e (omega arith))))
 
     -- what it gives through a face
     given-high : (f : ℕ) → mesh .lowCell f ≡ c → pieces mesh flow air gas .toHigh f ≡ highPiece (cellMismatch mesh air gas c) (at air c) (at gas c) (flow .toHigh f)
@@ -180,8 +180,7 @@ module _ (mesh : Mesh) (regular : Regular mesh) (flow : Flow) (air gas : List �
         rw (e, leaving, sum-ext n _ _ (λ i h. given-low (k + i) (m i h .1)))
         (plains-leave b H L (at air c) (at gas c) (has c hc) self-inside (opposite (cellMismatch mesh air gas c)) n _ (λ i. flow .toLow (k + i)) (cap-level mesh air gas c (rw e tt)) (omega arith))
 
-    -- the range at every scale: afterwards the cell passes H/L by at most 1/scale, and a unit for each face
-    pub near-after : Near b H L (at (afterFlow mesh flow air) c) (at (afterFlow mesh (pieces mesh flow air gas) gas) c) (faceCount (mesh .sides c))
+    near-after : Near b H L (at (afterFlow mesh flow air) c) (at (afterFlow mesh (pieces mesh flow air gas) gas) c) (faceCount (mesh .sides c))
     unfolding afterFlow
     near-after =
         replaced b H L (at air c - leaving mesh flow c) (at gas c) (entering mesh flow c) _ _ (faceCount (mesh .sides c)) _ _
@@ -190,36 +189,9 @@ module _ (mesh : Mesh) (regular : Regular mesh) (flow : Flow) (air gas : List �
         (omega (arith, gives c hc, at-tab (mesh .cells) (λ c. at air c + entering mesh flow c - leaving mesh flow c) c hc))
         (sym (at-tab (mesh .cells) (λ c. at gas c + entering mesh (pieces mesh flow air gas) c - leaving mesh (pieces mesh flow air gas) c) c hc))
 
--- ---- document 01's e: one unit more than the faces
-limit-below-scale : (M : ℕ) → M ≤ airLimit → M < scale
-limit-below-scale M h = omega arith
-
--- a fraction that the cell passes by that much, h/M with h and its tracer T so far apart, has air of the scale's size
-unit-passed : (b : Bool) (M T f h : ℕ) → 0 < M → Apart b h T (f + 1) → Near b h M M T f → scale ≤ M
-unit-passed true M T f h hM e near =
-    le-of-mul-le-mul-right (omega (arith, ap (λ (x : ℕ). x * M) e)) hM
-unit-passed false M T f h hM e near =
-    le-of-mul-le-mul-right (omega (arith, ap (λ (x : ℕ). x * M) e)) hM
-
--- a cell that fails document 01's test, with air M and tracer T where M' and T' are the new amounts, does not pass h/M'
-fails-below : (M T M' T' e : ℕ) → ltb (T * M') ((T' + e) * M) ≡ false → Inside false (T' + e) M' M T
-fails-below M T M' T' e t = omega (arith, ltb-false (T * M') ((T' + e) * M) t)
-
-fails-above : (M T M' T' e h : ℕ) → h + e ≡ T' → ltb (T' * M) (T * M' + e * M) ≡ false → Inside true h M' M T
-fails-above M T M' T' e h eq t =
-    omega (arith, ltb-false (T' * M) (T * M' + e * M) t, ap (λ (x : ℕ). x * M) eq)
-
--- .. and e is then at most T'
-fails-most : (M T M' T' e : ℕ) → 0 < M → ltb (T' * M) (T * M' + e * M) ≡ false → e ≤ T'
-fails-most M T M' T' e hM t =
-    le-of-mul-le-mul-right (omega (arith, ltb-false (T' * M) (T * M' + e * M) t)) hM
-
-and-false : (a b : Bool) → a && b ≡ false → a ≡ true → b ≡ false
-and-false a b e h = rw h at e
-
-some-near : (mesh : Mesh) (c : ℕ) (test : ℕ → Bool) → (((d : ℕ) → d < mesh .cells → isNear mesh c d ≡ true → test d ≡ false) → ⊥) → some (mesh .cells) (λ d. isNear mesh c d && test d) ≡ true
-some-near mesh c test h =
-    some-unless (mesh .cells) (λ d. isNear mesh c d && test d) (λ none. h (λ d hd near. and-false (isNear mesh c d) (test d) (none d hd) near))
+  -- the range at every scale
+  pub substep-bounded : (c : ℕ) → c < mesh .cells → Bounded (mesh .cells) (isNear mesh c) air gas (faceCount (mesh .sides c)) (at (afterFlow mesh flow air) c) (at (afterFlow mesh (pieces mesh flow air gas) gas) c)
+  substep-bounded c hc b H L inside = near-after b H L c hc inside
 
 -- what `allowed` tests
 module _ (mesh : Mesh) (flow : Flow) (air : List ℕ) (ok : allowed mesh flow air ≡ true) (c : ℕ) (hc : c < mesh .cells) where
@@ -237,43 +209,11 @@ module _ (mesh : Mesh) (flow : Flow) (air : List ℕ) (ok : allowed mesh flow ai
 
 -- ---- every cell is in range after an allowed substep
 module _ (mesh : Mesh) (regular : Regular mesh) (flow : Flow) (air gas : List ℕ) (has : (c : ℕ) → c < mesh .cells → 1 ≤ at air c) (ok : allowed mesh flow air ≡ true) (c : ℕ) (hc : c < mesh .cells) where
-  newAir : ℕ
-  newAir = at (afterFlow mesh flow air) c
-
-  newGas : ℕ
-  newGas = at (afterFlow mesh (pieces mesh flow air gas) gas) c
-
-  e : ℕ
-  e = faceCount (mesh .sides c) + 1
-
-  none-passed : (b : Bool) (h : ℕ) → Apart b h newGas (faceCount (mesh .sides c) + 1) → ((d : ℕ) → d < mesh .cells → isNear mesh c d ≡ true → Inside b h newAir (at air d) (at gas d)) → ⊥
-  unfolding newAir newGas
-  none-passed b h e inside =
-      let fits = allowed-fits mesh flow air ok c hc in
-      let m = unit-passed b newAir newGas (faceCount (mesh .sides c)) h (fits .0) e (near-after mesh regular flow air gas has (allowed-gives mesh flow air ok) b h newAir c hc inside) in
-      omega (arith, limit-below-scale newAir (fits .1))
-
-  not-below : some (mesh .cells) (λ d. isNear mesh c d && ltb (at gas d * newAir) ((newGas + e) * at air d)) ≡ true
-  unfolding e
-  not-below =
-      some-near mesh c _
-      (λ none.
-      none-passed false (newGas + e) refl
-      (λ d hd near. fails-below (at air d) (at gas d) newAir newGas e (none d hd near)))
-
-  not-above : some (mesh .cells) (λ d. isNear mesh c d && ltb (newGas * at air d) (at gas d * newAir + e * at air d)) ≡ true
-  unfolding e
-  not-above =
-      some-near mesh c _
-      (λ none.
-      let most : e ≤ newGas = fails-most (at air c) (at gas c) newAir newGas e (has c hc) (none c hc (near-self mesh c)) in
-      let apart : newGas - e + e ≡ newGas = omega arith in
-      none-passed true (newGas - e) apart
-      (λ d hd near. fails-above (at air d) (at gas d) newAir newGas e (newGas - e) apart (none d hd near)))
-
   pub substep-in-range : inRange (mesh .cells) (isNear mesh c) air gas (faceCount (mesh .sides c) + 1) (at (afterFlow mesh flow air) c) (at (afterFlow mesh (pieces mesh flow air gas) gas) c) ≡ true
-  unfolding inRange newAir newGas e
-  substep-in-range = rw (not-below, not-above)
+  substep-in-range =
+      let fits = allowed-fits mesh flow air ok c hc in
+      in-range (mesh .cells) (isNear mesh c) air gas c hc (near-self mesh c) (has c hc) (faceCount (mesh .sides c)) _ _ (fits .0) (fits .1)
+      (substep-bounded mesh regular flow air gas has (allowed-gives mesh flow air ok) c hc)
 
 -- ---- and so after every substep of a sweep in which all are allowed
 module _ (mesh : Mesh) (regular : Regular mesh) (fluxes : List ℤ) (n : ℕ) (air gas : List ℕ) (has : (c : ℕ) → c < mesh .cells → 1 ≤ at air c) (ok : serves mesh fluxes air n ≡ true) where
