@@ -1,9 +1,23 @@
 -- What the laws of a sweep need of its mesh: that faces and cells meet, and that what leaves a cell enters another.
 -- Assumes nothing.
 use Prim.Native.Nat.{ℕ, _+_, _≤_, _<_}
-use mathlib.Core.Path.{_≡_}
+use mathlib.Core.Path.{_≡_, refl}
+use native.Mathlib.Omega.{arith}
 use Rattle.model.specs.Basic.{sum}
-use Rattle.model.specs.Sweep.{Mesh, Sides, between, southCap, northCap, Flow, leaving, entering}
+use Rattle.model.specs.Sweep.{Mesh, Sides, between, southCap, northCap, Flow, reversed, leaving, entering}
+
+-- what leaves a cell with these sides
+abbrev pub out : Flow → Sides → ℕ
+out flow s =
+    elim s [
+      | between l h ↦ flow .toLow l + flow .toHigh h
+      | southCap k n ↦ sum n (λ i. flow .toHigh (k + i))
+      | northCap k n ↦ sum n (λ i. flow .toLow (k + i))
+    ]
+
+pub leaving-is : (mesh : Mesh) (flow : Flow) (c : ℕ) → leaving mesh flow c ≡ out flow (mesh .sides c)
+unfolding leaving
+leaving-is mesh flow c = refl
 
 -- the faces of cell c lie on it, and are faces of the mesh
 abbrev pub Meets : Mesh → ℕ → Sides → Type 0
@@ -33,3 +47,7 @@ pub record Regular (mesh : Mesh) : Type 0 where
   pub highHas : (f : ℕ) → f < mesh .faces → OnLowSide f (mesh .sides (mesh .highCell f))
   -- what leaves the cells enters them
   pub passesOn : (flow : Flow) → sum (mesh .cells) (entering mesh flow) ≡ sum (mesh .cells) (leaving mesh flow)
+
+-- where what leaves all cells is what passes all faces, it is what enters all cells
+pub passes-on : (mesh : Mesh) → ((flow : Flow) → sum (mesh .cells) (leaving mesh flow) ≡ sum (mesh .faces) (flow .toHigh) + sum (mesh .faces) (flow .toLow)) → (flow : Flow) → sum (mesh .cells) (entering mesh flow) ≡ sum (mesh .cells) (leaving mesh flow)
+passes-on mesh all flow = omega (arith, all flow, all (reversed flow))
