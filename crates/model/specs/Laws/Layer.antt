@@ -106,10 +106,19 @@ module _ (W R : ℕ) where
         let faces : W * (R + 1) ≡ W + n = omega arith in
         let faces' : W * (R + 1) ≡ n + W = omega arith in
         let inner : sum n (λ j. out (1 + j)) ≡ sum n (λ j. flow .toLow j + flow .toHigh (W + j)) = sum-ext n _ _ leaving-inner in
-        omega (arith, ap (λ (m : ℕ). sum m out) cells, sum-split 1 n out, inner, leaving-north, leaving-south,
+        omega (
+          arith,
+          ap (λ (m : ℕ). sum m out) cells,
+          sum-split 1 n out,
+          inner,
+          leaving-north,
+          leaving-south,
           sum-add n (flow .toLow) (λ j. flow .toHigh (W + j)),
-          ap (λ (m : ℕ). sum m (flow .toHigh)) faces, sum-split W n (flow .toHigh),
-          ap (λ (m : ℕ). sum m (flow .toLow)) faces', sum-split n W (flow .toLow))
+          ap (λ (m : ℕ). sum m (flow .toHigh)) faces,
+          sum-split W n (flow .toHigh),
+          ap (λ (m : ℕ). sum m (flow .toLow)) faces',
+          sum-split n W (flow .toLow),
+        )
 
   pub layer-regular : Regular (layer W R)
   unfolding layer
