@@ -136,6 +136,14 @@ module _ (mesh : Mesh) (regular : Regular mesh) (flow : Flow) (air gas : List �
           rw (sum-ext n _ _ (λ i p. piece-down mesh flow air gas (k + i) c (m i p .1)))
           (plain-pieces-le (opposite D) M T (ap (λ (d : Mismatch). d .size) (mismatch-north mesh air gas c k n e)) n (λ i. flow .toLow (k + i)) hM room)
 
+  -- so the gas total is kept, and no amount passes it
+  module _ (covers : Covers mesh flow air) where
+    pub gas-total-after-flow : sum (mesh .cells) (at (afterFlow mesh (pieces mesh flow air gas) gas)) ≡ sum (mesh .cells) (at gas)
+    gas-total-after-flow = total-after-flow mesh (pieces mesh flow air gas) gas (pieces-covered covers) regular
+
+    pub gas-after-flow-le : (c : ℕ) → c < mesh .cells → at (afterFlow mesh (pieces mesh flow air gas) gas) c ≤ sum (mesh .cells) (at gas)
+    gas-after-flow-le c h = rw (← gas-total-after-flow) (term-le-sum (mesh .cells) _ c h)
+
   -- ---- where every cell has z units of gas for each unit of air
   module _ (z : ℕ) (even : (c : ℕ) → c < mesh .cells → at gas c ≡ z * at air c) where
     even-ratio : (c : ℕ) → c < mesh .cells → cellRatio air gas c ≡ scale * z
