@@ -103,6 +103,17 @@ unfolding refusal commonPlaces
 lent-refusal w call fits lent =
     passes _ _ w (ap not (fits .grid)) ∙ stops _ _ w (ap not (fitting-lengths w call fits ∙ lent))
 
+-- where such a call is accepted, the list that it lends fits and none of its own places applies
+pub accepted-lent : (w : World) (call : Call) → Fits w → refusal w call ≡ 0 → lentFits (w .grid) call ≡ true
+accepted-lent w call fits e = go (lentFits (w .grid) call) refl
+  where
+    go : (b : Bool) → lentFits (w .grid) call ≡ b → b ≡ true
+    go true q = refl
+    go false q = absurd (omega (arith, lent-refusal w call fits q))
+
+pub accepted-own : (w : World) (call : Call) → Fits w → refusal w call ≡ 0 → firstOf (ownPlaces call) w ≡ 0
+accepted-own w call fits e = sym (own-refusal w call fits (accepted-lent w call fits e)) ∙ e
+
 pub fits-loaded : (w : World) → Fits w → Loaded w
 unfolding ownPlaces firstOf
 fits-loaded w fits = answer-is w load ∙ own-refusal w load fits refl

@@ -9,8 +9,9 @@ use native.Mathlib.Nat.{le-refl}
 use native.Mathlib.Omega.{arith}
 use lib.ListN.{length}
 use lib.IntN.{ℤ}
+use Rattle.model.specs.Limits.{mostSubsteps}
 use Rattle.model.specs.Basic.{at, part, written, sum}
-use Rattle.model.specs.World.{World, worldCells, gas, airFits}
+use Rattle.model.specs.World.{Grid, World, worldCells, gas, airFits}
 use Rattle.model.specs.Sweep.{Mesh, airAfter, gasAfter, serves, swept}
 use Rattle.model.specs.Lists.{Alike}
 use Rattle.model.specs.Laws.Basic.{length-part, at-part, Within, Outside, within-or-outside, length-written, at-written-within, at-written-outside, part-written, sum-written}
@@ -112,6 +113,14 @@ module _ (mesh : Mesh) (a : ℕ) (fluxes : List ℤ) (n cells : ℕ) (inside : a
           evenKept = λ had z all even c h. even-kept had z all even c h (within-or-outside a (mesh .cells) c);
         }
 
+-- ---- what is known of a sweep that is accepted: its mesh, where its cells lie, and its count
+pub record Sweeps (w : World) (mesh : Mesh) (a : ℕ) (fluxes : List ℤ) (n : ℕ) : Type 0 where
+  pub regular : Regular mesh
+  pub inside : a + mesh .cells ≤ worldCells (w .grid)
+  pub positive : 1 ≤ n
+  pub most : n ≤ mostSubsteps
+  pub serving : serves mesh fluxes (part (w .air) a (mesh .cells)) n ≡ true
+
 -- ---- the world after a sweep
 module _ (w : World) (fits : Fits w) (mesh : Mesh) (a : ℕ) (inside : a + mesh .cells ≤ worldCells (w .grid)) (fluxes : List ℤ) (n : ℕ) where
   pub swept-air : swept w mesh a fluxes n .air ≡ sweptAir mesh a fluxes n (w .air)
@@ -126,19 +135,38 @@ module _ (w : World) (fits : Fits w) (mesh : Mesh) (a : ℕ) (inside : a + mesh 
   unfolding swept
   swept-gas = gas-moved w (sweptAir mesh a fluxes n (w .air)) (sweptGas mesh a fluxes n (w .air)) swept-as-many
 
-  pub swept-kept : Regular mesh → serves mesh fluxes (part (w .air) a (mesh .cells)) n ≡ true → Kept w (swept w mesh a fluxes n) (λ t. 0) (λ t. 0)
-  unfolding swept
-  swept-kept regular serving =
-      moved-kept w fits _ _ (sweep-conserves mesh a fluxes n (worldCells (w .grid)) inside (w .air) (fits .airLength) (fits .air) regular serving)
-
-pub swept-alike : (own : ℕ → Bool) (w v : World) → Fits w → Fits v → Alike own w v → (mesh : Mesh) (a : ℕ) → a + mesh .cells ≤ worldCells (w .grid) → (fluxes : List ℤ) (n : ℕ) → Alike own (swept w mesh a fluxes n) (swept v mesh a fluxes n)
+pub swept-kept : (w : World) → Fits w → (mesh : Mesh) (a : ℕ) (fluxes : List ℤ) (n : ℕ) → Sweeps w mesh a fluxes n → Kept w (swept w mesh a fluxes n) (λ t. 0) (λ t. 0)
 unfolding swept
-swept-alike own w v fw fv alike mesh a inside fluxes n =
-    moved-alike own w v _ _
-    (sweptGas mesh a fluxes n (w .air))
-    (sweptGas mesh a fluxes n (v .air))
-    (swept-as-many w fw mesh a inside fluxes n)
-    (swept-as-many v fv mesh a (rw (← (alike .sameGrid)) inside) fluxes n)
-    (alike .sameGrid)
-    (ap (sweptAir mesh a fluxes n) (alike .sameAir))
-    (λ t h o. ap₂ (sweptGas mesh a fluxes n) (alike .sameAir) (alike .sameGas t o))
+swept-kept w fits mesh a fluxes n s =
+    moved-kept w fits _ _
+    (sweep-conserves mesh a fluxes n (worldCells (w .grid)) (s .inside) (w .air) (fits .airLength) (fits .air) (s .regular) (s .serving))
+
+-- ---- in two worlds alike, where mesh and start come from the grid, and the count from grid and air
+module _ (meshOf : Grid → Mesh) (startOf : Grid → ℕ) (countOf : Grid → List ℕ → ℕ) (fluxes : List ℤ) where
+  abbrev sweptIn : World → Grid → List ℕ → World
+  sweptIn w g air = swept w (meshOf g) (startOf g) fluxes (countOf g air)
+
+  pub swept-alike : (own : ℕ → Bool) (w v : World) → Fits w → Fits v → Alike own w v → startOf (w .grid) + meshOf (w .grid) .cells ≤ worldCells (w .grid) → Alike own (swept w (meshOf (w .grid)) (startOf (w .grid)) fluxes (countOf (w .grid) (w .air))) (swept v (meshOf (v .grid)) (startOf (v .grid)) fluxes (countOf (v .grid) (v .air))) × (countOf (w .grid) (w .air) ≡ countOf (v .grid) (v .air))
+  unfolding swept
+  swept-alike own w v fw fv alike inside =
+      (rw (ap₂ (sweptIn v) (sym (alike .sameGrid)) (sym (alike .sameAir))) same, ap₂ countOf (alike .sameGrid) (alike .sameAir))
+    where
+      mesh : Mesh
+      mesh = meshOf (w .grid)
+
+      a : ℕ
+      a = startOf (w .grid)
+
+      n : ℕ
+      n = countOf (w .grid) (w .air)
+
+      same : Alike own (swept w mesh a fluxes n) (swept v mesh a fluxes n)
+      same =
+          moved-alike own w v _ _
+          (sweptGas mesh a fluxes n (w .air))
+          (sweptGas mesh a fluxes n (v .air))
+          (swept-as-many w fw mesh a inside fluxes n)
+          (swept-as-many v fv mesh a (rw (← (alike .sameGrid)) inside) fluxes n)
+          (alike .sameGrid)
+          (ap (sweptAir mesh a fluxes n) (alike .sameAir))
+          (λ t h o. ap₂ (sweptGas mesh a fluxes n) (alike .sameAir) (alike .sameGas t o))

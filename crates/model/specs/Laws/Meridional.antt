@@ -1,0 +1,49 @@
+-- What an accepted meridional sweep keeps.
+-- Assumes a world that fits, as one does after an accepted load; its range is taken from elsewhere.
+use Prim.Native.Nat.{ℕ, _+_, _*_, _≤_, _<_}
+use mathlib.Core.List.{List}
+use mathlib.Core.Bool.{Bool, true, false, true≢false}
+use mathlib.Core.Path.{_≡_}
+use native.Mathlib.Nat.{mul-le-mul-right}
+use native.Mathlib.Omega.{arith}
+use borrow.Author.Tests.{not-false}
+use lib.Dec.{lit<}
+use lib.IntN.{ℤ}
+use Rattle.model.specs.World.{Grid, World, worldCells, layerCells, layerStart}
+use Rattle.model.specs.Sweep.{layer, swept}
+use Rattle.model.specs.Step.{Call, meridional, ownPlaces, accepted, refusal}
+use Rattle.model.specs.Lists.{CallInRange}
+use Rattle.model.specs.Laws.Layer.{layer-regular}
+use Rattle.model.specs.Laws.Step.{Fits, passed, found, accepted-own}
+use Rattle.model.specs.Laws.Keeps.{AcceptedKeeps}
+use Rattle.model.specs.Laws.Sweep.{Sweeps, swept-kept, swept-alike}
+
+-- a layer lies in the world
+pub layer-inside : (g : Grid) (k : ℕ) → k < g .K → layerStart g k + layerCells g ≤ worldCells g
+layer-inside g k h = omega (arith, mul-le-mul-right (layerCells g) h)
+
+module _ (k : ℕ) (fluxes : List ℤ) (w : World) (fits : Fits w) (e : refusal w (meridional k fluxes) ≡ 0) where
+  -- what the places of a meridional sweep tell, where it is accepted
+  pub meridional-sweeps : Sweeps w (layer (w .grid .W) (w .grid .R)) (layerStart (w .grid) k) fluxes 1
+  unfolding ownPlaces layer
+  meridional-sweeps =
+      let p = found k (λ g. g .K) _ w (accepted-own w (meridional k fluxes) fits e) in
+      let small = passed _ _ w (lit< tt) (p .1) in
+      let one = passed _ _ w (lit< tt) (small .1) in
+      record {
+        regular = layer-regular (w .grid .W) (w .grid .R);
+        inside = layer-inside (w .grid) k (p .0);
+        positive = omega arith;
+        most = omega arith;
+        serving = not-false _ (one .0);
+      }
+
+  pub meridional-keeps : ((t : ℕ) → t < w .grid .N → CallInRange w t (meridional k fluxes)) → AcceptedKeeps w (meridional k fluxes)
+  unfolding accepted
+  meridional-keeps range =
+      record {
+        kept = swept-kept w fits _ _ fluxes 1 meridional-sweeps;
+        inRange = range;
+        alike = λ own v fv a named. swept-alike (λ g. layer (g .W) (g .R)) (λ g. layerStart g k) (λ g air. 1) fluxes own w v fits fv a (meridional-sweeps .inside);
+        apart = λ own other. absurd (true≢false other);
+      }
