@@ -1,6 +1,6 @@
 -- Laws of the chain of a sweep over any regular mesh, from the amounts before it to those that it leaves, and of the substep count.
 -- Assumes air of 1 to 65,535 in every cell, and a count that serves.
-use Prim.Native.Nat.{ℕ, zero, suc, _+_, _*_, _≤_, _<_}
+use Prim.Native.Nat.{ℕ, zero, suc, _*_, _≤_, _<_}
 use mathlib.Core.List.{List}
 use mathlib.Core.Bool.{Bool, true, false, true≢false}
 use mathlib.Core.Path.{_≡_, refl, sym, _∙_}
@@ -13,10 +13,10 @@ use lib.ListN.{length}
 use lib.IntN.{ℤ}
 use Rattle.model.specs.Limits.{mostSubsteps}
 use Rattle.model.specs.Basic.{at, sum}
-use Rattle.model.specs.Sweep.{Mesh, parts, pieces, airAfter, gasAfter, serves, substepCount}
+use Rattle.model.specs.Sweep.{Mesh, parts, airAfter, gasAfter, serves, substepCount}
 use Rattle.model.specs.Laws.Basic.{every-at, term-le-sum, Smallest, none, found, smallest-is}
 use Rattle.model.specs.Laws.Mesh.{Regular}
-use Rattle.model.specs.Laws.Substep.{AirIn, Covers, Allowed, allowed-is, length-after-flow, total-after-flow, pieces-covered, gas-total-after-flow, even-after}
+use Rattle.model.specs.Laws.Substep.{AirIn, Allowed, allowed-is, length-after-flow, total-after-flow, gas-total-after-flow, even-after}
 
 -- ---- the lists keep their length
 module _ (mesh : Mesh) (fluxes : List ℤ) (n : ℕ) (air : List ℕ) where

@@ -2,13 +2,13 @@
 -- Assumes nothing of W and R.
 use Prim.Native.Nat.{ℕ, zero, suc, _+_, _*_, _-_, _≤_, _<_}
 use mathlib.Core.Bool.{Bool, true, false}
-use mathlib.Core.Path.{_≡_, refl, sym, _∙_, ap, ap₂}
+use mathlib.Core.Path.{_≡_, refl, _∙_, ap}
 use native.Mathlib.Nat.{zero-add}
 use native.Mathlib.Omega.{arith}
 use borrow.Author.Tests.{ltb-true, ltb-false, lt-ltb, le-ltb}
 use lib.Dec.{ltb}
 use Rattle.model.specs.Basic.{sum}
-use Rattle.model.specs.Sweep.{Sides, between, southCap, northCap, Flow, layer, southOf, northOf, layerSides, leaving}
+use Rattle.model.specs.Sweep.{between, northCap, Flow, layer, southOf, northOf, layerSides, leaving}
 use Rattle.model.specs.Laws.Basic.{sum-add, sum-split, sum-ext}
 use Rattle.model.specs.Laws.Mesh.{out, leaving-is, Regular, Meets, OnHighSide, OnLowSide, passes-on}
 

@@ -1,8 +1,8 @@
 -- What a sweep of some of the world's cells keeps, over any regular mesh: inside the swept cells, outside them, and in two worlds alike.
 -- Assumes a world that fits, the swept cells inside it, and for what is kept a count that serves.
-use Prim.Native.Nat.{ℕ, _+_, _*_, _≤_, _<_}
+use Prim.Native.Nat.{ℕ, zero, suc, _+_, _*_, _≤_, _<_}
 use mathlib.Core.List.{List}
-use mathlib.Core.Bool.{Bool, true, false}
+use mathlib.Core.Bool.{Bool, true}
 use mathlib.Core.Path.{_≡_, refl, sym, _∙_, ap, ap₂}
 use mathlib.Core.Logic.{_⊎_, inl, inr}
 use native.Mathlib.Nat.{le-refl}
@@ -13,13 +13,14 @@ use Rattle.model.specs.Limits.{mostSubsteps}
 use Rattle.model.specs.Basic.{at, part, written, sum}
 use Rattle.model.specs.World.{Grid, World, worldCells, gas, airFits}
 use Rattle.model.specs.Sweep.{Mesh, airAfter, gasAfter, serves, swept}
+use Rattle.model.specs.Step.{Call, accepted, refused, refusal, step}
 use Rattle.model.specs.Lists.{Alike}
 use Rattle.model.specs.Laws.Basic.{length-part, at-part, Within, Outside, within-or-outside, length-written, at-written-within, at-written-outside, part-written, sum-written}
 use Rattle.model.specs.Laws.Mesh.{Regular}
 use Rattle.model.specs.Laws.Substep.{AirIn}
 use Rattle.model.specs.Laws.Chain.{length-air-after, length-gas-after, air-after-in, air-after-total, gas-after-total, even-chain}
 use Rattle.model.specs.Laws.World.{length-gas, gas-moved}
-use Rattle.model.specs.Laws.Step.{Fits}
+use Rattle.model.specs.Laws.Step.{Fits, step-accepted, step-refused}
 use Rattle.model.specs.Laws.Keeps.{Kept}
 use Rattle.model.specs.Laws.Moved.{Even, Conserves, moved-kept, moved-alike}
 
@@ -30,6 +31,9 @@ sweptAir mesh a fluxes n air = written air a (airAfter mesh fluxes n (part air a
 abbrev pub sweptGas : Mesh → ℕ → List ℤ → ℕ → List ℕ → List ℕ → List ℕ
 sweptGas mesh a fluxes n air had =
     written had a (gasAfter mesh fluxes n (part air a (mesh .cells)) (part had a (mesh .cells)) n)
+
+cells-in : (a m cells : ℕ) → a + m ≤ cells → (air : List ℕ) → AirIn cells air → AirIn m (part air a m)
+cells-in a m cells inside air fits i h = rw (at-part air a m i h) (fits (a + i) (omega arith))
 
 module _ (mesh : Mesh) (a : ℕ) (fluxes : List ℤ) (n cells : ℕ) (inside : a + mesh .cells ≤ cells) (air : List ℕ) where
   -- inside the swept cells stands the end of the chain, outside them what stood there: the air
@@ -66,7 +70,7 @@ module _ (mesh : Mesh) (a : ℕ) (fluxes : List ℤ) (n cells : ℕ) (inside : a
   -- ---- a sweep conserves
   module _ (whole : length air ≡ cells) (fits : AirIn cells air) (regular : Regular mesh) (serving : serves mesh fluxes (part air a (mesh .cells)) n ≡ true) where
     old-in : AirIn (mesh .cells) (part air a (mesh .cells))
-    old-in i h = rw (at-part air a (mesh .cells) i h) (fits (a + i) (omega arith))
+    old-in = cells-in a (mesh .cells) cells inside air fits
 
     new-in : (c : ℕ) → c < cells → Within a (mesh .cells) c ⊎ Outside a (mesh .cells) c → airFits (at (sweptAir mesh a fluxes n air) c) ≡ true
     new-in c h (inl (i, p, e)) =
@@ -141,15 +145,67 @@ swept-kept w fits mesh a fluxes n s =
     moved-kept w fits _ _
     (sweep-conserves mesh a fluxes n (worldCells (w .grid)) (s .inside) (w .air) (fits .airLength) (fits .air) (s .regular) (s .serving))
 
--- ---- in two worlds alike, where mesh and start come from the grid, and the count from grid and air
-module _ (meshOf : Grid → Mesh) (startOf : Grid → ℕ) (countOf : Grid → List ℕ → ℕ) (fluxes : List ℤ) where
-  abbrev sweptIn : World → Grid → List ℕ → World
-  sweptIn w g air = swept w (meshOf g) (startOf g) fluxes (countOf g air)
+-- the air of the swept cells is 1 to 65,535
+pub swept-cells-in : (w : World) → Fits w → (mesh : Mesh) (a : ℕ) (fluxes : List ℤ) (n : ℕ) → Sweeps w mesh a fluxes n → AirIn (mesh .cells) (part (w .air) a (mesh .cells))
+swept-cells-in w fits mesh a fluxes n s = cells-in a (mesh .cells) (worldCells (w .grid)) (s .inside) (w .air) (fits .air)
 
-  pub swept-alike : (own : ℕ → Bool) (w v : World) → Fits w → Fits v → Alike own w v → startOf (w .grid) + meshOf (w .grid) .cells ≤ worldCells (w .grid) → Alike own (swept w (meshOf (w .grid)) (startOf (w .grid)) fluxes (countOf (w .grid) (w .air))) (swept v (meshOf (v .grid)) (startOf (v .grid)) fluxes (countOf (v .grid) (v .air))) × (countOf (w .grid) (w .air) ≡ countOf (v .grid) (v .air))
+-- ---- nothing changes but the m cells from cell a on, in the air and in each tracer
+pub record ChangesOnly (w next : World) (a m : ℕ) : Type 0 where
+  pub sameGrid : next .grid ≡ w .grid
+  pub airLength : length (next .air) ≡ length (w .air)
+  pub tracersLength : length (next .tracers) ≡ length (w .tracers)
+  pub airOutside : (c : ℕ) → Outside a m c → at (next .air) c ≡ at (w .air) c
+  pub gasOutside : (t : ℕ) → t < w .grid .N → (c : ℕ) → Outside a m c → at (gas next t) c ≡ at (gas w t) c
+
+pub swept-changes-only : (w : World) → Fits w → (mesh : Mesh) (a : ℕ) (fluxes : List ℤ) (n : ℕ) → Sweeps w mesh a fluxes n → ChangesOnly w (swept w mesh a fluxes n) a (mesh .cells)
+unfolding swept
+swept-changes-only w fits mesh a fluxes n s =
+    let kept = swept-kept w fits mesh a fluxes n s in
+    let cells : ℕ = worldCells (w .grid) in
+    record {
+      sameGrid = refl;
+      airLength = kept .fits .airLength ∙ sym (fits .airLength);
+      tracersLength = kept .fits .tracersLength ∙ sym (fits .tracersLength);
+      airOutside = air-outside mesh a fluxes n cells (s .inside) (w .air) (fits .airLength);
+      gasOutside =
+          λ t h c out.
+          rw (swept-gas w fits mesh a (s .inside) fluxes n t h)
+          (gas-outside mesh a fluxes n cells (s .inside) (w .air) (gas w t) (length-gas w t (fits .tracersLength) h) c out);
+    }
+
+-- a call changes no more than it does where it is accepted: a refused one changes nothing
+pub step-changes-only : (w : World) (call : Call) (a m : ℕ) → (refusal w call ≡ 0 → ChangesOnly w (accepted w call .next) a m) → ChangesOnly w (step w call .next) a m
+unfolding refused
+step-changes-only w call a m when = go (refusal w call) refl
+  where
+    go : (n : ℕ) → refusal w call ≡ n → ChangesOnly w (step w call .next) a m
+    go zero e = rw (step-accepted w call e) (when e)
+    go (suc n) e =
+        rw (step-refused w call n e)
+        (record { sameGrid = refl; airLength = refl; tracersLength = refl; airOutside = λ c out. refl; gasOutside = λ t h c out. refl })
+
+-- ---- two worlds of the same grid with the same air, and the same amounts of each tracer, in some of their cells
+pub record SameCells (start many : Grid → ℕ) (w v : World) : Type 0 where
+  pub sameGrid : w .grid ≡ v .grid
+  pub sameAir : part (w .air) (start (w .grid)) (many (w .grid)) ≡ part (v .air) (start (v .grid)) (many (v .grid))
+  pub sameGas : (t : ℕ) → t < w .grid .N → part (gas w t) (start (w .grid)) (many (w .grid)) ≡ part (gas v t) (start (v .grid)) (many (v .grid))
+
+-- ---- a sweep in two worlds, where mesh and start come from the grid, and the count from the grid and the air of the swept cells
+module _ (meshOf : Grid → Mesh) (startOf : Grid → ℕ) (countOf : Grid → List ℕ → ℕ) (fluxes : List ℤ) where
+  abbrev cellsIn : Grid → List ℕ → List ℕ
+  cellsIn g l = part l (startOf g) (meshOf g .cells)
+
+  abbrev sweptBy : World → Grid → List ℕ → World
+  sweptBy w g row = swept w (meshOf g) (startOf g) fluxes (countOf g row)
+
+  abbrev sweptOf : World → World
+  sweptOf w = sweptBy w (w .grid) (cellsIn (w .grid) (w .air))
+
+  -- worlds alike stay alike
+  pub swept-alike : (own : ℕ → Bool) (w v : World) → Fits w → Fits v → Alike own w v → startOf (w .grid) + meshOf (w .grid) .cells ≤ worldCells (w .grid) → Alike own (sweptOf w) (sweptOf v) × (countOf (w .grid) (cellsIn (w .grid) (w .air)) ≡ countOf (v .grid) (cellsIn (v .grid) (v .air)))
   unfolding swept
   swept-alike own w v fw fv alike inside =
-      (rw (ap₂ (sweptIn v) (sym (alike .sameGrid)) (sym (alike .sameAir))) same, ap₂ countOf (alike .sameGrid) (alike .sameAir))
+      (rw (ap₂ (sweptBy v) (sym (alike .sameGrid)) (sym row)) same, ap₂ countOf (alike .sameGrid) row)
     where
       mesh : Mesh
       mesh = meshOf (w .grid)
@@ -158,7 +214,10 @@ module _ (meshOf : Grid → Mesh) (startOf : Grid → ℕ) (countOf : Grid → L
       a = startOf (w .grid)
 
       n : ℕ
-      n = countOf (w .grid) (w .air)
+      n = countOf (w .grid) (cellsIn (w .grid) (w .air))
+
+      row : cellsIn (w .grid) (w .air) ≡ cellsIn (v .grid) (v .air)
+      row = ap₂ cellsIn (alike .sameGrid) (alike .sameAir)
 
       same : Alike own (swept w mesh a fluxes n) (swept v mesh a fluxes n)
       same =
@@ -170,3 +229,37 @@ module _ (meshOf : Grid → Mesh) (startOf : Grid → ℕ) (countOf : Grid → L
           (alike .sameGrid)
           (ap (sweptAir mesh a fluxes n) (alike .sameAir))
           (λ t h o. ap₂ (sweptGas mesh a fluxes n) (alike .sameAir) (alike .sameGas t o))
+
+  -- the swept cells afterwards come from the swept cells before
+  abbrev chainAir : Grid → List ℕ → List ℕ
+  chainAir g row = airAfter (meshOf g) fluxes (countOf g row) row (countOf g row)
+
+  abbrev chainGas : Grid → List ℕ → List ℕ → List ℕ
+  chainGas g row had = gasAfter (meshOf g) fluxes (countOf g row) row had (countOf g row)
+
+  module _ (w : World) (fits : Fits w) (inside : startOf (w .grid) + meshOf (w .grid) .cells ≤ worldCells (w .grid)) where
+    swept-row : cellsIn (w .grid) (sweptOf w .air) ≡ chainAir (w .grid) (cellsIn (w .grid) (w .air))
+    unfolding swept
+    swept-row = air-within (meshOf (w .grid)) _ fluxes _ (worldCells (w .grid)) inside (w .air) (fits .airLength)
+
+    swept-row-gas : (t : ℕ) → t < w .grid .N → cellsIn (w .grid) (gas (sweptOf w) t) ≡ chainGas (w .grid) (cellsIn (w .grid) (w .air)) (cellsIn (w .grid) (gas w t))
+    swept-row-gas t h =
+        rw (swept-gas w fits (meshOf (w .grid)) _ inside fluxes _ t h)
+        (gas-within (meshOf (w .grid)) _ fluxes _ (worldCells (w .grid)) inside (w .air) (gas w t) (length-gas w t (fits .tracersLength) h))
+
+  pub swept-same : (w v : World) → Fits w → Fits v → startOf (w .grid) + meshOf (w .grid) .cells ≤ worldCells (w .grid) → SameCells startOf (λ g. meshOf g .cells) w v → SameCells startOf (λ g. meshOf g .cells) (sweptOf w) (sweptOf v)
+  unfolding swept
+  swept-same w v fw fv inside s =
+      record {
+        sameGrid = s .sameGrid;
+        sameAir = swept-row w fw inside ∙ ap₂ chainAir (s .sameGrid) (s .sameAir) ∙ sym (swept-row v fv inside-v);
+        sameGas =
+            λ t h.
+            swept-row-gas w fw inside t h ∙
+            ap₂ (λ (g : Grid) (row : List ℕ). chainGas g row (cellsIn (w .grid) (gas w t))) (s .sameGrid) (s .sameAir) ∙
+            ap (chainGas (v .grid) (cellsIn (v .grid) (v .air))) (s .sameGas t h) ∙
+            sym (swept-row-gas v fv inside-v t (rw (← (s .sameGrid)) h));
+      }
+    where
+      inside-v : startOf (v .grid) + meshOf (v .grid) .cells ≤ worldCells (v .grid)
+      inside-v = rw (← (s .sameGrid)) inside
