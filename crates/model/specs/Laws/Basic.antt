@@ -173,16 +173,16 @@ pub part-set-before : (l : List ℕ) (a n i x : ℕ) → i < a → part (set l i
 part-set-before l a n i x h = rw drop-set-lt
 
 -- entry c is one of the m entries from entry a on, or it is not
-abbrev pub Within : ℕ → ℕ → ℕ → Type 0
-Within a m c = (i : ℕ) × (i < m) × (a + i ≡ c)
+abbrev pub InPart : ℕ → ℕ → ℕ → Type 0
+InPart a m c = (i : ℕ) × (i < m) × (a + i ≡ c)
 
 abbrev pub Outside : ℕ → ℕ → ℕ → Type 0
 Outside a m c = (c < a) ⊎ (a + m ≤ c)
 
-pub within-or-outside : (a m c : ℕ) → Within a m c ⊎ Outside a m c
-within-or-outside a m c = go (ltb c a) (ltb c (a + m)) refl refl
+pub part-or-outside : (a m c : ℕ) → InPart a m c ⊎ Outside a m c
+part-or-outside a m c = go (ltb c a) (ltb c (a + m)) refl refl
   where
-    go : (b d : Bool) → ltb c a ≡ b → ltb c (a + m) ≡ d → Within a m c ⊎ Outside a m c
+    go : (b d : Bool) → ltb c a ≡ b → ltb c (a + m) ≡ d → InPart a m c ⊎ Outside a m c
     go true d e f = inr (inl (ltb-true c a e))
     go false true e f =
         let low = ltb-false c a e in

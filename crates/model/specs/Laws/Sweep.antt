@@ -15,7 +15,7 @@ use Rattle.model.specs.World.{Grid, World, worldCells, gas, airFits}
 use Rattle.model.specs.Sweep.{Mesh, airAfter, gasAfter, serves, swept}
 use Rattle.model.specs.Step.{Call, accepted, refused, refusal, step}
 use Rattle.model.specs.Lists.{Alike}
-use Rattle.model.specs.Laws.Basic.{length-part, at-part, Within, Outside, within-or-outside, length-written, at-written-within, at-written-outside, part-written, sum-written}
+use Rattle.model.specs.Laws.Basic.{length-part, at-part, InPart, Outside, part-or-outside, length-written, at-written-within, at-written-outside, part-written, sum-written}
 use Rattle.model.specs.Laws.Mesh.{Regular}
 use Rattle.model.specs.Laws.Substep.{AirIn}
 use Rattle.model.specs.Laws.Chain.{length-air-after, length-gas-after, air-after-in, air-after-total, gas-after-total, even-chain}
@@ -72,7 +72,7 @@ module _ (mesh : Mesh) (a : ℕ) (fluxes : List ℤ) (n cells : ℕ) (inside : a
     old-in : AirIn (mesh .cells) (part air a (mesh .cells))
     old-in = cells-in a (mesh .cells) cells inside air fits
 
-    new-in : (c : ℕ) → c < cells → Within a (mesh .cells) c ⊎ Outside a (mesh .cells) c → airFits (at (sweptAir mesh a fluxes n air) c) ≡ true
+    new-in : (c : ℕ) → c < cells → InPart a (mesh .cells) c ⊎ Outside a (mesh .cells) c → airFits (at (sweptAir mesh a fluxes n air) c) ≡ true
     new-in c h (inl (i, p, e)) =
         rw (← e, air-at whole i p) (air-after-in mesh regular fluxes _ n old-in serving n (le-refl n) i p)
     new-in c h (inr out) = rw (air-outside whole c out) (fits c h)
@@ -100,7 +100,7 @@ module _ (mesh : Mesh) (a : ℕ) (fluxes : List ℤ) (n cells : ℕ) (inside : a
     even-part had z even i h =
         rw (at-part had a (mesh .cells) i h, at-part air a (mesh .cells) i h) (even (a + i) (omega arith))
 
-    even-kept : (had : List ℕ) (z : ℕ) → length had ≡ cells → Even cells z air had → (c : ℕ) → c < cells → Within a (mesh .cells) c ⊎ Outside a (mesh .cells) c → at (sweptGas mesh a fluxes n air had) c ≡ z * at (sweptAir mesh a fluxes n air) c
+    even-kept : (had : List ℕ) (z : ℕ) → length had ≡ cells → Even cells z air had → (c : ℕ) → c < cells → InPart a (mesh .cells) c ⊎ Outside a (mesh .cells) c → at (sweptGas mesh a fluxes n air had) c ≡ z * at (sweptAir mesh a fluxes n air) c
     even-kept had z all even c h (inl (i, p, e)) =
         rw (← e, air-at whole i p, gas-at had all i p)
         (even-chain mesh regular fluxes _ n old-in serving _ z (even-part had z even) n (le-refl n) i p)
@@ -110,11 +110,11 @@ module _ (mesh : Mesh) (a : ℕ) (fluxes : List ℤ) (n cells : ℕ) (inside : a
     sweep-conserves =
         record {
           airLength = length-written air _ a (mesh .cells) cells whole (length-new-air whole) inside;
-          airIn = λ c h. new-in c h (within-or-outside a (mesh .cells) c);
+          airIn = λ c h. new-in c h (part-or-outside a (mesh .cells) c);
           airKept = air-total;
           gasLength = length-swept-gas;
           gasKept = gas-total;
-          evenKept = λ had z all even c h. even-kept had z all even c h (within-or-outside a (mesh .cells) c);
+          evenKept = λ had z all even c h. even-kept had z all even c h (part-or-outside a (mesh .cells) c);
         }
 
 -- ---- what is known of a sweep that is accepted: its mesh, where its cells lie, and its count
