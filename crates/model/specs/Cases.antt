@@ -2,6 +2,7 @@
 -- Assumes nothing.
 pub mod Marked
 pub mod Further
+pub mod RangeEnds
 use Prim.Native.Nat.{ℕ}
 use Prim.Native.String.{String}
 use mathlib.Core.List.{List, [], _∷_, cons≢nil}

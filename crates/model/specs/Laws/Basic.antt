@@ -136,6 +136,18 @@ some-true zero p i h e = absurd (omega arith)
 some-true (suc n) p i h e =
     ⊎-elim (λ (u : i ≡ n). ap (λ (b : Bool). some n p || b) (rw u at e) ∙ or-true (some n p)) (λ u. ap (λ (b : Bool). b || p n) (some-true n p i u e)) (below-cases h)
 
+-- p holds at some number unless it holds at none
+pub some-unless : (n : ℕ) (p : ℕ → Bool) → (((i : ℕ) → i < n → p i ≡ false) → ⊥) → some n p ≡ true
+some-unless n p h = go (some n p) refl
+  where
+    at-none : some n p ≡ false → (i : ℕ) → i < n → (b : Bool) → p i ≡ b → b ≡ false
+    at-none e i q true u = absurd (false≢true (sym e ∙ some-true n p i q u))
+    at-none e i q false u = refl
+
+    go : (b : Bool) → some n p ≡ b → b ≡ true
+    go true e = refl
+    go false e = absurd (h (λ i q. at-none e i q (p i) refl))
+
 -- ---- the smallest
 -- what `smallest n p` is, by cases: 0, and p holds at none of 1 to n; or a number of 1 to n at which p holds and at no smaller one
 pub data Smallest (n : ℕ) (p : ℕ → Bool) : ℕ → Type 0 where

@@ -15,10 +15,11 @@ use Rattle.model.specs.Sweep.{ring, substepCount}
 use Rattle.model.specs.Step.{zonal, firstOf, fluxTooLarge, commonPlaces, ownPlaces, accepted, refused, refusal, step, rowAir, zonalCount}
 use Rattle.model.specs.Lists.{CallInRange, SameReply}
 use Rattle.model.specs.Laws.Ring.{ring-regular}
+use Rattle.model.specs.Laws.Range.{sweep-in-range}
 use Rattle.model.specs.Laws.Chain.{count-smallest}
 use Rattle.model.specs.Laws.Step.{Fits, firstOf-same, passed, found, step-accepted, step-refused, answer-is, own-refusal, common-passed, accepted-passed}
 use Rattle.model.specs.Laws.Keeps.{AcceptedKeeps}
-use Rattle.model.specs.Laws.Sweep.{Sweeps, swept-kept, swept-alike, SameCells, swept-same, ChangesOnly, swept-changes-only, step-changes-only}
+use Rattle.model.specs.Laws.Sweep.{Sweeps, swept-kept, swept-cells-air, swept-alike, SameCells, swept-same, ChangesOnly, swept-changes-only, step-changes-only}
 
 -- a row of a layer lies in the world
 pub row-inside : (g : Grid) (k r : ℕ) → k < g .K → r < g .R → rowStart g k r + g .W ≤ worldCells g
@@ -41,6 +42,13 @@ zonal-sweeps k r fluxes w e =
       most = count .most;
       serving = count .serving;
     }
+
+-- every cell of the row is in range after each substep
+pub zonal-range : (k r : ℕ) (fluxes : List ℤ) (w : World) → Fits w → refusal w (zonal k r fluxes) ≡ 0 → (t : ℕ) → t < w .grid .N → CallInRange w t (zonal k r fluxes)
+unfolding ring
+zonal-range k r fluxes w fits e t h =
+    let s = zonal-sweeps k r fluxes w e in
+    sweep-in-range _ (s .regular) fluxes _ _ _ (swept-cells-air w fits _ _ fluxes _ s) (s .serving)
 
 pub zonal-keeps : (k r : ℕ) (fluxes : List ℤ) (w : World) → Fits w → refusal w (zonal k r fluxes) ≡ 0 → ((t : ℕ) → t < w .grid .N → CallInRange w t (zonal k r fluxes)) → AcceptedKeeps w (zonal k r fluxes)
 unfolding accepted ring

@@ -1,0 +1,272 @@
+-- How far the tracer in some air can pass a fraction H/L of tracer to air: parts of a cell that leans, their floors, and sums of parts. Above and below at once, by a Bool: true is "at most", false is "at least".
+-- Of the scale they use that it is above 0; of a limiter that its mismatch leans towards each neighbour at most twice as far as that neighbour's ratio.
+use Prim.Native.Nat.{ℕ, zero, suc, _+_, _*_, _-_, _/_, _≤_, _<_, min, max}
+use mathlib.Core.Bool.{Bool, true, false, not}
+use mathlib.Core.Path.{_≡_, refl, ap, _∙_}
+use native.Mathlib.Nat.{zero-mul, suc-mul, add-mul, sub-add-cancel, div-mul-le-self, lt-div-mul-add, min-comm, max-comm, mul-le-mul-right, le-of-mul-le-mul-right}
+use native.Mathlib.Omega.{arith}
+use borrow.Author.Tests.{leb-true, leb-false}
+use lib.Dec.{leb}
+use Rattle.model.specs.Limits.{scale}
+use Rattle.model.specs.Basic.{sum}
+use Rattle.model.specs.Scheme.{ratio, Mismatch, mismatch, plain, opposite, highPiece, lowPiece}
+use Rattle.model.specs.Laws.Basic.{sum-ext}
+use Rattle.model.specs.Laws.Scheme.{Safe, numerator, piece-is, tilt-le-level, mismatch-low, mismatch-high}
+
+-- x is past y by at most s: above it, or below it
+abbrev pub Within : Bool → ℕ → ℕ → ℕ → Type 0
+Within true x y s = x ≤ y + s
+Within false x y s = y ≤ x + s
+
+-- ---- floors: never above, and at most one below
+abbrev pub lost : Bool → ℕ
+lost true = 0
+lost false = 1
+
+pub floor-within : (b : Bool) (N X : ℕ) → 0 < X → Within b (N / X * X) N (lost b * X)
+floor-within true N X h = omega (arith, div-mul-le-self N X)
+floor-within false N X h = omega (arith, lt-div-mul-add {a = N} h)
+
+-- ---- leaning: what a mismatch of sign s and size d adds in the direction b
+abbrev pub leaning : Bool → Bool → ℕ → ℕ
+leaning true true d = d
+leaning true false d = 0
+leaning false true d = 0
+leaning false false d = d
+
+-- how far r is past q
+abbrev pub gap : Bool → ℕ → ℕ → ℕ
+gap true q r = r - q
+gap false q r = q - r
+
+-- what the range needs of a limiter: in a cell of ratio q, D leans towards a neighbour of ratio r at its high end at most twice as far as that; for one at its low end, the same of - D
+abbrev pub Towards : Mismatch → ℕ → ℕ → Type 0
+Towards D q r = (b : Bool) → leaning b (D .positive) (D .size) ≤ 2 * gap b q r
+
+leaning-le : (b s : Bool) (d q r o : ℕ) → Within s o r 0 → d ≤ 2 * (q - min o r) → d ≤ 2 * (max o r - q) → leaning b s d ≤ 2 * gap b q r
+leaning-le true true d q r o h low high = omega arith
+leaning-le true false d q r o h low high = omega arith
+leaning-le false true d q r o h low high = omega arith
+leaning-le false false d q r o h low high = omega arith
+
+module _ (qa q qb : ℕ) where
+  sorted : (s : Bool) → leb qa qb ≡ s → Within s qa qb 0 × Within (not s) qb qa 0
+  sorted true e = omega (arith, leb-true qa qb e)
+  sorted false e = omega (arith, leb-false qa qb e)
+
+  pub mismatch-towards-high : Towards (mismatch qa q qb) q qb
+  unfolding mismatch
+  mismatch-towards-high b =
+      leaning-le b _ _ q qb qa (sorted _ refl .0) (mismatch-low qa q qb) (mismatch-high qa q qb)
+
+  pub mismatch-towards-low : Towards (opposite (mismatch qa q qb)) q qa
+  unfolding mismatch
+  mismatch-towards-low b =
+      leaning-le b _ _ q qa qb (sorted _ refl .1) (rw (min-comm qb qa) (mismatch-low qa q qb)) (rw (max-comm qb qa) (mismatch-high qa q qb))
+
+pub level-towards : (s : Bool) (q r : ℕ) → Towards (record { size = 0; positive = s }) q r
+level-towards true q r true = omega arith
+level-towards true q r false = omega arith
+level-towards false q r true = omega arith
+level-towards false q r false = omega arith
+
+-- ---- inside: a cell of air M and tracer T does not pass the fraction H/L
+abbrev pub Inside : Bool → ℕ → ℕ → ℕ → ℕ → Type 0
+Inside b H L M T = Within b (T * L) (H * M) 0
+
+-- nor does its ratio, but for the floor
+ratio-inside : (b : Bool) (H L M T : ℕ) → 0 < M → Inside b H L M T → Within b (ratio M T * L) (scale * H) (lost b * L)
+unfolding ratio
+ratio-inside true H L M T hM i =
+    le-of-mul-le-mul-right (omega (arith, mul-le-mul-right L (floor-within true (scale * T) M hM), mul-le-mul-right scale i)) hM
+ratio-inside false H L M T hM i =
+    le-of-mul-le-mul-right (omega (arith, mul-le-mul-right L (floor-within false (scale * T) M hM), mul-le-mul-right scale i)) hM
+
+-- ---- room: x may move by g and is then past y by at most s
+abbrev Room : Bool → ℕ → ℕ → ℕ → ℕ → Type 0
+Room true x g y s = x + g ≤ y + s
+Room false x g y s = y + g ≤ x + s
+
+-- a cell may lean by d: its end is past H/L by at most 1/scale
+abbrev CellRoom : Bool → ℕ → ℕ → ℕ → ℕ → ℕ → Type 0
+CellRoom b H L M T d = Room b (2 * scale * T * L) (d * L * M) (2 * scale * H * M) (2 * L * M)
+
+-- g takes q to r
+abbrev pub Apart : Bool → ℕ → ℕ → ℕ → Type 0
+Apart true q r g = q + g ≡ r
+Apart false q r g = r + g ≡ q
+
+gap-apart : (b : Bool) (q r d : ℕ) → suc d ≤ 2 * gap b q r → Apart b q r (gap b q r)
+gap-apart true q r d h = omega arith
+gap-apart false q r d h = omega arith
+
+room-gap : (b : Bool) (H L M T q r g d : ℕ) → Within (not b) (q * M) (scale * T) (lost (not b) * M) → Within b (r * L) (scale * H) (lost b * L) → Apart b q r g → d ≤ 2 * g → CellRoom b H L M T d
+room-gap true H L M T q r g d f h e k =
+    omega (arith, mul-le-mul-right L f, mul-le-mul-right M h, ap (λ (x : ℕ). x * L * M) e, mul-le-mul-right (L * M) k)
+room-gap false H L M T q r g d f h e k =
+    omega (arith, mul-le-mul-right L f, mul-le-mul-right M h, ap (λ (x : ℕ). x * L * M) e, mul-le-mul-right (L * M) k)
+
+room-level : (b : Bool) (H L M T : ℕ) → Inside b H L M T → CellRoom b H L M T 0
+room-level true H L M T i = omega (arith, mul-le-mul-right scale i)
+room-level false H L M T i = omega (arith, mul-le-mul-right scale i)
+
+-- a cell that is inside may lean twice as far as the ratio of a neighbour that is inside
+room : (b : Bool) (H L M T M₂ T₂ d : ℕ) → 0 < M → 0 < M₂ → Inside b H L M T → Inside b H L M₂ T₂ → d ≤ 2 * gap b (ratio M T) (ratio M₂ T₂) → CellRoom b H L M T d
+unfolding ratio
+room b H L M T M₂ T₂ zero hM hM₂ i i₂ h = room-level b H L M T i
+room b H L M T M₂ T₂ (suc d) hM hM₂ i i₂ h =
+    let q = ratio M T in
+    let r = ratio M₂ T₂ in
+    room-gap b H L M T q r (gap b q r) (suc d)
+    (floor-within (not b) (scale * T) M hM)
+    (ratio-inside b H L M₂ T₂ hM₂ i₂)
+    (gap-apart b q r d h)
+    h
+
+-- ---- the numerator n of a part, with its tilt added or taken off
+abbrev Tilted : Bool → ℕ → ℕ → ℕ → Type 0
+Tilted true n level tilt = n ≡ level + tilt
+Tilted false n level tilt = n + tilt ≡ level
+
+numerator-tilted : (D : Mismatch) (L M T m k : ℕ) → Safe D M T → m + k ≡ M → Tilted (D .positive) (numerator D M T m * L) (m * (2 * scale * T * L)) (D .size * L * m * k)
+unfolding numerator
+numerator-tilted D L M T m k safe e =
+    go (D .positive) (D .size * m * (M - m)) (tilt-le-level D M T safe m (omega arith)) (ap (λ (x : ℕ). D .size * m * x) (omega arith))
+  where
+    go : (s : Bool) (tilt : ℕ) → tilt ≤ 2 * scale * m * T → tilt ≡ D .size * m * k → Tilted s ((elim s [ true ↦ 2 * scale * m * T + tilt | false ↦ 2 * scale * m * T - tilt ]) * L) (m * (2 * scale * T * L)) (D .size * L * m * k)
+    go true tilt h e₂ = omega (arith, ap (λ (x : ℕ). x * L) e₂)
+    go false tilt h e₂ = omega (arith, ap (λ (x : ℕ). x * L) (sub-add-cancel h), ap (λ (x : ℕ). x * L) e₂)
+
+-- a part of m units at an end
+end-within : (b s : Bool) (L M τ m k d n u v : ℕ) → m + k ≡ M → Tilted s n (m * τ) (d * L * m * k) → Room b τ (leaning b s d * L * M) u v → Within b n (m * u) (m * v)
+end-within true true L M τ m k d n u v e e₁ h =
+    omega (arith, ap (λ (x : ℕ). x * (d * L * m)) e, mul-le-mul-right m h)
+end-within true false L M τ m k d n u v e e₁ h =
+    omega (arith, ap (λ (x : ℕ). x * (d * L * m)) e, mul-le-mul-right m h)
+end-within false true L M τ m k d n u v e e₁ h =
+    omega (arith, ap (λ (x : ℕ). x * (d * L * m)) e, mul-le-mul-right m h)
+end-within false false L M τ m k d n u v e e₁ h =
+    omega (arith, ap (λ (x : ℕ). x * (d * L * m)) e, mul-le-mul-right m h)
+
+-- the part of r units that m₁ units at the low end and m₂ at the high end leave
+middle-within : (b s : Bool) (M τ m₁ m₂ r δ n₁ n₂ u v : ℕ) → m₁ + m₂ + r ≡ M → Tilted (not s) n₁ (m₁ * τ) (δ * m₁ * (m₂ + r)) → Tilted s n₂ (m₂ * τ) (δ * m₂ * (m₁ + r)) → Room b τ (δ * M) u v → Within b (M * τ) (r * u + (n₁ + n₂)) (r * v)
+middle-within true true M τ m₁ m₂ r δ n₁ n₂ u v e e₁ e₂ h =
+    omega (arith, ap (λ (x : ℕ). x * τ) e, ap (λ (x : ℕ). x * (δ * r)) e, mul-le-mul-right r h)
+middle-within true false M τ m₁ m₂ r δ n₁ n₂ u v e e₁ e₂ h =
+    omega (arith, ap (λ (x : ℕ). x * τ) e, ap (λ (x : ℕ). x * (δ * r)) e, mul-le-mul-right r h)
+middle-within false true M τ m₁ m₂ r δ n₁ n₂ u v e e₁ e₂ h =
+    omega (arith, ap (λ (x : ℕ). x * τ) e, ap (λ (x : ℕ). x * (δ * r)) e, mul-le-mul-right r h)
+middle-within false false M τ m₁ m₂ r δ n₁ n₂ u v e e₁ e₂ h =
+    omega (arith, ap (λ (x : ℕ). x * τ) e, ap (λ (x : ℕ). x * (δ * r)) e, mul-le-mul-right r h)
+
+-- ---- p units of tracer in m units of air are past B/A by at most C/A for each unit of air, and j units in all
+abbrev pub Bound : Bool → ℕ → ℕ → ℕ → ℕ → ℕ → ℕ → Type 0
+Bound b A B C m p j = Within b (p * A) (m * B) (m * C + j * A)
+
+-- past H/L by at most 1/scale for each unit of air, and j units in all
+abbrev pub Near : Bool → ℕ → ℕ → ℕ → ℕ → ℕ → Type 0
+Near b H L m p j = Bound b (scale * L) (scale * H) L m p j
+
+pub bound-add : (b : Bool) (A B C m p j m' p' j' : ℕ) → Bound b A B C m p j → Bound b A B C m' p' j' → Bound b A B C (m + m') (p + p') (j + j')
+bound-add true A B C m p j m' p' j' h h' = omega arith
+bound-add false A B C m p j m' p' j' h h' = omega arith
+
+bound-none : (b : Bool) (A B C : ℕ) → Bound b A B C 0 0 0
+bound-none true A B C = omega arith
+bound-none false A B C = omega arith
+
+pub bound-sum : (b : Bool) (A B C j n : ℕ) (m p : ℕ → ℕ) → ((i : ℕ) → i < n → Bound b A B C (m i) (p i) j) → Bound b A B C (sum n m) (sum n p) (n * j)
+unfolding sum
+bound-sum b A B C j zero m p h = rw (zero-mul j) (bound-none b A B C)
+bound-sum b A B C j (suc n) m p h =
+    rw (suc-mul n j) (bound-add b A B C (sum n m) (sum n p) (n * j) (m n) (p n) j (bound-sum b A B C j n m p (λ i q. h i (omega arith))) (h n (omega arith)))
+
+-- p units are left of T, in r units of air, after p₂ were taken: the same
+abbrev pub Leaves : Bool → ℕ → ℕ → ℕ → ℕ → ℕ → ℕ → Type 0
+Leaves b H L r T p j = Within b (T * (scale * L)) (r * (scale * H) + p * (scale * L)) (r * L + j * (scale * L))
+
+-- from exact numerators, and the floors p of N, j of them
+enter : (b : Bool) (H L M m N p j : ℕ) → 0 < M → Within b (N * L) (m * (2 * scale * H * M)) (m * (2 * L * M)) → Within b (p * (2 * scale * M)) N (j * (2 * scale * M)) → Near b H L m p j
+enter true H L M m N p j hM h f = le-of-mul-le-mul-right {k = 2 * M} (omega (arith, mul-le-mul-right L f)) (omega arith)
+enter false H L M m N p j hM h f = le-of-mul-le-mul-right {k = 2 * M} (omega (arith, mul-le-mul-right L f)) (omega arith)
+
+leave : (b : Bool) (H L M T r N p j : ℕ) → 0 < M → Within b (M * (2 * scale * T * L)) (r * (2 * scale * H * M) + N * L) (r * (2 * L * M)) → Within (not b) (p * (2 * scale * M)) N (j * (2 * scale * M)) → Leaves b H L r T p j
+leave true H L M T r N p j hM h f = le-of-mul-le-mul-right {k = 2 * M} (omega (arith, mul-le-mul-right L f)) (omega arith)
+leave false H L M T r N p j hM h f = le-of-mul-le-mul-right {k = 2 * M} (omega (arith, mul-le-mul-right L f)) (omega arith)
+
+floors-within : (b : Bool) (N₁ N₂ X : ℕ) → 0 < X → Within b ((N₁ / X + N₂ / X) * X) (N₁ + N₂) (2 * lost b * X)
+floors-within true N₁ N₂ X h = omega (arith, floor-within true N₁ X h, floor-within true N₂ X h)
+floors-within false N₁ N₂ X h = omega (arith, floor-within false N₁ X h, floor-within false N₂ X h)
+
+-- a mismatch leans in each direction at one end
+room-ends : (b s : Bool) (H L M T d : ℕ) → CellRoom b H L M T (leaning b (not s) d) → CellRoom b H L M T (leaning b s d) → CellRoom b H L M T d
+room-ends true true H L M T d low high = high
+room-ends true false H L M T d low high = low
+room-ends false true H L M T d low high = low
+room-ends false false H L M T d low high = high
+
+-- plain pieces: n floors of m i·B / X
+level-numerator : (D : Mismatch) (M T m : ℕ) → D .size ≡ 0 → numerator D M T m ≡ m * (2 * scale * T)
+unfolding numerator
+level-numerator D M T m flat = rw flat (go (D .positive))
+  where
+    go : (s : Bool) → elim s [ true ↦ 2 * scale * m * T + 0 * m * (M - m) | false ↦ 2 * scale * m * T - 0 * m * (M - m) ] ≡ m * (2 * scale * T)
+    go true = omega arith
+    go false = omega arith
+
+level-floors : (b : Bool) (X B n : ℕ) (m : ℕ → ℕ) → 0 < X → Within b (sum n (λ i. m i * B / X) * X) (sum n m * B) (n * lost b * X)
+unfolding sum
+level-floors true X B zero m h = omega arith
+level-floors true X B (suc n) m h = omega (arith, level-floors true X B n m h, floor-within true (m n * B) X h)
+level-floors false X B zero m h = omega arith
+level-floors false X B (suc n) m h = omega (arith, level-floors false X B n m h, floor-within false (m n * B) X h)
+
+level-within : (b : Bool) (H L M T m r : ℕ) → m + r ≡ M → CellRoom b H L M T 0 → Within b (M * (2 * scale * T * L)) (r * (2 * scale * H * M) + m * (2 * scale * T) * L) (r * (2 * L * M))
+level-within true H L M T m r e h = omega (arith, ap (λ (x : ℕ). x * (T * L)) e, mul-le-mul-right r h)
+level-within false H L M T m r e h = omega (arith, ap (λ (x : ℕ). x * (T * L)) e, mul-le-mul-right r h)
+
+-- ---- the laws of a cell of air M and tracer T inside H/L
+module _ (b : Bool) (H L M T : ℕ) (hM : 0 < M) (inside : Inside b H L M T) where
+  -- a piece that it gives to a neighbour at its high end
+  pub piece-near : (D : Mismatch) (M₂ T₂ m : ℕ) → 0 < M₂ → Inside b H L M₂ T₂ → Safe D M T → Towards D (ratio M T) (ratio M₂ T₂) → m ≤ M → Near b H L m (highPiece D M T m) (lost b)
+  piece-near D M₂ T₂ m hM₂ inside₂ safe towards h =
+      rw (piece-is D M T m)
+      (enter b H L M m (numerator D M T m) _ (lost b) hM
+      (end-within b (D .positive) L M _ m (M - m) (D .size) _ _ _ (omega arith)
+      (numerator-tilted D L M T m (M - m) safe (omega arith))
+      (room b H L M T M₂ T₂ _ hM hM₂ inside inside₂ (towards b)))
+      (floor-within b _ _ (omega arith)))
+
+  -- what it keeps in r units of air, after a piece from each end, between two neighbours
+  pub ends-leave : (D : Mismatch) (M₁ T₁ M₂ T₂ m₁ m₂ r : ℕ) → 0 < M₁ → 0 < M₂ → Inside b H L M₁ T₁ → Inside b H L M₂ T₂ → Safe D M T → Towards (opposite D) (ratio M T) (ratio M₁ T₁) → Towards D (ratio M T) (ratio M₂ T₂) → m₁ + m₂ + r ≡ M → Leaves b H L r T (lowPiece D M T m₁ + highPiece D M T m₂) (2 * lost (not b))
+  ends-leave D M₁ T₁ M₂ T₂ m₁ m₂ r hM₁ hM₂ inside₁ inside₂ safe low high e =
+      let N₁ = numerator (opposite D) M T m₁ in
+      let N₂ = numerator D M T m₂ in
+      rw (piece-is (opposite D) M T m₁, piece-is D M T m₂)
+      (leave b H L M T r (N₁ + N₂) _ (2 * lost (not b)) hM
+      (rw (add-mul N₁ N₂ L)
+      (middle-within b (D .positive) M _ m₁ m₂ r (D .size * L) _ _ _ _ e
+      (numerator-tilted (opposite D) L M T m₁ (m₂ + r) safe (omega arith))
+      (numerator-tilted D L M T m₂ (m₁ + r) safe (omega arith))
+      (room-ends b (D .positive) H L M T (D .size)
+      (room b H L M T M₁ T₁ _ hM hM₁ inside inside₁ (low b))
+      (room b H L M T M₂ T₂ _ hM hM₂ inside inside₂ (high b)))))
+      (floors-within (not b) N₁ N₂ _ (omega arith)))
+
+  -- and after n plain pieces
+  pub plains-leave : (D : Mismatch) (n r : ℕ) (m : ℕ → ℕ) → D .size ≡ 0 → sum n m + r ≡ M → Leaves b H L r T (sum n (λ i. highPiece D M T (m i))) (n * lost (not b))
+  plains-leave D n r m flat e =
+      rw (sum-ext n (λ i. highPiece D M T (m i)) (λ i. m i * (2 * scale * T) / (2 * scale * M)) (λ i h. piece-is D M T (m i) ∙ rw (level-numerator D M T (m i) flat)))
+      (leave b H L M T r (sum n m * (2 * scale * T)) _ (n * lost (not b)) hM
+      (level-within b H L M T (sum n m) r e (room-level b H L M T inside))
+      (level-floors (not b) (2 * scale * M) (2 * scale * T) n m (omega arith)))
+
+-- ---- the cell afterwards: m in p units came in, m₂ units of air stayed
+pub replaced : (b : Bool) (H L r T m p p₂ f M' T' : ℕ) → Near b H L m p (f * lost b) → Leaves b H L r T p₂ (f * lost (not b)) → r + m ≡ M' → T + p - p₂ ≡ T' → Near b H L M' T' f
+replaced true H L r T m p p₂ f M' zero came stays eM eT = omega arith
+replaced true H L r T m p p₂ f M' (suc t) came stays eM eT =
+    let e : suc t + p₂ ≡ T + p = omega arith in
+    omega (arith, ap (λ (x : ℕ). x * (scale * L)) e, ap (λ (x : ℕ). x * (scale * H)) eM, ap (λ (x : ℕ). x * L) eM)
+replaced false H L r T m p p₂ f M' T' came stays eM eT =
+    let e : T + p ≤ T' + p₂ = omega arith in
+    omega (arith, mul-le-mul-right (scale * L) e, ap (λ (x : ℕ). x * (scale * H)) eM, ap (λ (x : ℕ). x * L) eM)
