@@ -17,7 +17,7 @@ use Rattle.model.specs.Step.{Call, accepted, refused, refusal, step}
 use Rattle.model.specs.Lists.{Alike}
 use Rattle.model.specs.Laws.Basic.{length-part, at-part, InPart, Outside, part-or-outside, length-written, at-written-within, at-written-outside, part-written, sum-written}
 use Rattle.model.specs.Laws.Mesh.{Regular}
-use Rattle.model.specs.Laws.Substep.{AirIn}
+use Rattle.model.specs.Laws.Substep.{AirIn, air-bounds}
 use Rattle.model.specs.Laws.Chain.{length-air-after, length-gas-after, air-after-in, air-after-total, gas-after-total, even-chain}
 use Rattle.model.specs.Laws.World.{length-gas, gas-moved}
 use Rattle.model.specs.Laws.Step.{Fits, step-accepted, step-refused}
@@ -145,9 +145,10 @@ swept-kept w fits mesh a fluxes n s =
     moved-kept w fits _ _
     (sweep-conserves mesh a fluxes n (worldCells (w .grid)) (s .inside) (w .air) (fits .airLength) (fits .air) (s .regular) (s .serving))
 
--- the air of the swept cells is 1 to 65,535
-pub swept-cells-in : (w : World) → Fits w → (mesh : Mesh) (a : ℕ) (fluxes : List ℤ) (n : ℕ) → Sweeps w mesh a fluxes n → AirIn (mesh .cells) (part (w .air) a (mesh .cells))
-swept-cells-in w fits mesh a fluxes n s = cells-in a (mesh .cells) (worldCells (w .grid)) (s .inside) (w .air) (fits .air)
+-- each of the swept cells has air
+pub swept-cells-air : (w : World) → Fits w → (mesh : Mesh) (a : ℕ) (fluxes : List ℤ) (n : ℕ) → Sweeps w mesh a fluxes n → (c : ℕ) → c < mesh .cells → 1 ≤ at (part (w .air) a (mesh .cells)) c
+swept-cells-air w fits mesh a fluxes n s c h =
+    air-bounds _ (cells-in a (mesh .cells) (worldCells (w .grid)) (s .inside) (w .air) (fits .air) c h) .0
 
 -- ---- nothing changes but the m cells from cell a on, in the air and in each tracer
 pub record ChangesOnly (w next : World) (a m : ℕ) : Type 0 where
