@@ -1,5 +1,5 @@
--- What an accepted meridional sweep keeps.
--- Assumes a world that fits, as one does after an accepted load; its range is taken from elsewhere.
+-- What an accepted meridional sweep keeps; and the frame of any meridional sweep.
+-- Assumes for what is kept a world that fits, and takes the range as given; for the frame nothing.
 use Prim.Native.Nat.{ℕ, _+_, _≤_, _<_}
 use mathlib.Core.List.{List}
 use mathlib.Core.Bool.{true≢false}

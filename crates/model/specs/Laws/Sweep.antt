@@ -32,6 +32,7 @@ abbrev pub sweptGas : Mesh → ℕ → List ℤ → ℕ → List ℕ → List �
 sweptGas mesh a fluxes n air had =
     written had a (gasAfter mesh fluxes n (part air a (mesh .cells)) (part had a (mesh .cells)) n)
 
+-- some of the cells have air of 1 to 65,535, where all have
 cells-in : (a m cells : ℕ) → a + m ≤ cells → (air : List ℕ) → AirIn cells air → AirIn m (part air a m)
 cells-in a m cells inside air fits i h = rw (at-part air a m i h) (fits (a + i) (omega arith))
 

@@ -1,5 +1,5 @@
--- What an accepted zonal sweep keeps.
--- Assumes a world that fits, as one does after an accepted load; its range is taken from elsewhere.
+-- What an accepted zonal sweep keeps; and the frame of any zonal sweep: what it changes, and on what its answer, count and new row depend.
+-- Assumes for what is kept a world that fits, and takes the range as given; for the frame nothing, or that places 1 to 4 are passed.
 use Prim.Native.Nat.{ℕ, zero, suc, _+_, _≤_, _<_}
 use mathlib.Core.List.{List, []}
 use mathlib.Core.Bool.{not, true≢false}
