@@ -13,6 +13,8 @@ use Rattle.model.specs.Laws.Step.{Fits, own-refusal, fits-loaded, loaded
 use Rattle.model.specs.Laws.Keeps.{StepKeeps, step-keeps, names-grid}
 use Rattle.model.specs.Laws.Lists.{EachKeeps, points-kept, points-alike, points-ratio}
 use Rattle.model.specs.Laws.Amounts.{load-keeps, emission-keeps, withdrawal-keeps, total-keeps, reading-keeps}
+use Rattle.model.specs.Laws.Zonal.{zonal-range, zonal-keeps}
+use Rattle.model.specs.Laws.Meridional.{meridional-range, meridional-keeps}
 use Rattle.model.specs.Cases.{computes}
 use Rattle.model.specs.Cases.Marked.{row, six, hundreds}
 
@@ -21,8 +23,8 @@ abbrev pub proved : Call → Bool
 proved load = true
 proved (emission t c amount) = true
 proved (withdrawal t c amount) = true
-proved (zonal k r fluxes) = false
-proved (meridional k fluxes) = false
+proved (zonal k r fluxes) = true
+proved (meridional k fluxes) = true
 proved (remap table) = false
 proved (total t) = true
 proved (reading t c) = true
@@ -44,8 +46,8 @@ call-keeps : (call : Call) → proved call ≡ true → (w : World) → Fits w �
 call-keeps load p = step-keeps load load-keeps
 call-keeps (emission t c amount) p = step-keeps (emission t c amount) (emission-keeps t c amount)
 call-keeps (withdrawal t c amount) p = step-keeps (withdrawal t c amount) (withdrawal-keeps t c amount)
-call-keeps (zonal k r fluxes) p = absurd (false≢true p)
-call-keeps (meridional k fluxes) p = absurd (false≢true p)
+call-keeps (zonal k r fluxes) p = step-keeps (zonal k r fluxes) (λ w fits e. zonal-keeps k r fluxes w fits e (zonal-range k r fluxes w fits e))
+call-keeps (meridional k fluxes) p = step-keeps (meridional k fluxes) (λ w fits e. meridional-keeps k fluxes w fits e (meridional-range k fluxes w fits e))
 call-keeps (remap table) p = absurd (false≢true p)
 call-keeps (total t) p = step-keeps (total t) (total-keeps t)
 call-keeps (reading t c) p = step-keeps (reading t c) (reading-keeps t c)

@@ -1,15 +1,17 @@
 -- Laws of the words of Basic.antt: sums, lists of values, every, some, smallest, a part of a list and a part written.
 -- Assumes nothing.
 use Prim.Native.Nat.{ℕ, zero, suc, _+_, _*_, _-_, _≤_, _<_, min}
-use mathlib.Core.List.{List, [], _∷_, _++_}
+use mathlib.Core.List.{List, [], _∷_, _++_, append-assoc}
 use mathlib.Core.Bool.{Bool, true, false, and-eq-true-iff, or-true, _&&_, _||_, false≢true}
 use mathlib.Core.Path.{_≡_, refl, sym, _∙_, ap, ap₂}
 use mathlib.Core.Logic.{_⊎_, inl, inr, ⊎-elim}
-use native.Mathlib.Nat.{zero-add, add-zero, add-assoc, mul-add, mul-zero, le-refl, add-suc, eq-or-lt-of-le}
+use native.Mathlib.Nat.{zero-add, zero-mul, add-zero, add-assoc, mul-add, mul-zero, le-refl, add-suc, eq-or-lt-of-le}
 use native.Mathlib.Numerals.{add-one}
 use native.Mathlib.Omega.{arith}
-use lib.ListN.{length, getD, take, drop, set, length-append, length-take, length-drop}
-use lib.Seq.{getD-take, getD-drop, getD-set-same, getD-set-other, take-set-lt, take-set-le, drop-set-add, drop-set-lt, ext-getD}
+use borrow.Author.Tests.{ltb-true, ltb-false}
+use lib.Dec.{ltb}
+use lib.ListN.{length, getD, take, drop, set, length-append, length-take, length-drop, List·getD-append}
+use lib.Seq.{getD-take, getD-drop, getD-set-same, getD-set-other, take-set-lt, take-set-le, drop-set-add, drop-set-lt, ext-getD, length-take-le, getD-append-add, drop-append-add, take-at, drop-at}
 use Rattle.model.specs.Basic.{at, part, written, joined, tabFrom, tab, sum, every, some, smallest}
 
 -- ---- numbers below n + 1: those below n, and n
@@ -181,6 +183,94 @@ part-set-behind l a n i x h =
 
 pub part-set-before : (l : List ℕ) (a n i x : ℕ) → i < a → part (set l i x) a n ≡ part l a n
 part-set-before l a n i x h = rw drop-set-lt
+
+-- entry c is one of the m entries from entry a on, or it is not
+abbrev pub InPart : ℕ → ℕ → ℕ → Type 0
+InPart a m c = (i : ℕ) × (i < m) × (a + i ≡ c)
+
+abbrev pub Outside : ℕ → ℕ → ℕ → Type 0
+Outside a m c = (c < a) ⊎ (a + m ≤ c)
+
+pub part-or-outside : (a m c : ℕ) → InPart a m c ⊎ Outside a m c
+part-or-outside a m c = go (ltb c a) (ltb c (a + m)) refl refl
+  where
+    go : (b d : Bool) → ltb c a ≡ b → ltb c (a + m) ≡ d → InPart a m c ⊎ Outside a m c
+    go true d e f = inr (inl (ltb-true c a e))
+    go false true e f =
+        let low = ltb-false c a e in
+        let high = ltb-true c (a + m) f in
+        inl (c - a, omega arith, omega arith)
+    go false false e f = inr (inr (ltb-false c (a + m) f))
+
+-- m new entries written from entry a on over a list of n entries
+module _ (l new : List ℕ) (a m n : ℕ) (whole : length l ≡ n) (size : length new ≡ m) (fits : a + m ≤ n) where
+  front : length (take a l) ≡ a
+  front = length-take-le a l (omega arith)
+
+  pub length-written : length (written l a new) ≡ n
+  length-written = simp (length-append, length-take, length-drop) (omega arith)
+
+  head : length (take a l ++ new) ≡ a + m
+  head = length-append (take a l) new ∙ omega (arith, front)
+
+  pub at-written-within : (i : ℕ) → i < m → at (written l a new) (a + i) ≡ at new i
+  at-written-within i h =
+      List·getD-append (take a l ++ new) _ 0 (a + i) (omega (arith, head)) ∙
+      ap (λ (x : ℕ). at (take a l ++ new) (x + i)) (sym front) ∙
+      getD-append-add (take a l) new i 0
+
+  pub at-written-outside : (c : ℕ) → Outside a m c → at (written l a new) c ≡ at l c
+  at-written-outside c (inl h) =
+      List·getD-append (take a l ++ new) _ 0 c (omega (arith, head)) ∙
+      List·getD-append (take a l) new 0 c (omega (arith, front)) ∙
+      getD-take a l c 0 h
+  at-written-outside c (inr h) =
+      let j : ℕ = c - (a + m) in
+      let e : c ≡ length (take a l ++ new) + j = omega (arith, head) in
+      ap (at (written l a new)) e ∙
+      getD-append-add (take a l ++ new) _ j 0 ∙
+      getD-drop (a + length new) l j 0 ∙
+      ap (at l) (omega arith)
+
+  pub part-written : part (written l a new) a m ≡ new
+  part-written = rw (append-assoc, drop-at (take a l) _ a front) (take-at new _ m size)
+
+  -- the sum: with what stood there before, as it was with what stands there now
+  pub sum-written : sum n (at (written l a new)) + sum m (at (part l a m)) ≡ sum n (at l) + sum m (at new)
+  sum-written =
+      let rest : ℕ = n - (a + m) in
+      let e : n ≡ a + m + rest = omega arith in
+      let now : ℕ → ℕ = at (written l a new) in
+      rw e (omega (
+        arith,
+        sum-split (a + m) rest now,
+        sum-split a m now,
+        sum-split (a + m) rest (at l),
+        sum-split a m (at l),
+        sum-ext a now (at l) (λ i h. at-written-outside i (inl h)),
+        sum-ext m (λ i. now (a + i)) (at new) at-written-within,
+        sum-ext m (at (part l a m)) (λ i. at l (a + i)) (at-part l a m),
+        sum-ext rest (λ i. now (a + m + i)) (λ i. at l (a + m + i)) (λ i h. at-written-outside (a + m + i) (inr (omega arith))),
+      ))
+
+-- ---- lists of n entries each, one after the other
+module _ (n : ℕ) where
+  abbrev pub Each : List (List ℕ) → Type 0
+  Each ls = (t : ℕ) → t < length ls → length (getD ls t []) ≡ n
+
+  pub length-joined : (ls : List (List ℕ)) → Each ls → length (joined ls) ≡ length ls * n
+  unfolding joined
+  length-joined [] each = omega arith
+  length-joined (l ∷ ls) each =
+      rw length-append (omega (arith, each 0 (omega arith), length-joined ls (λ t h. each (suc t) (omega arith))))
+
+  pub part-joined : (ls : List (List ℕ)) → Each ls → (t : ℕ) → t < length ls → part (joined ls) (t * n) n ≡ getD ls t []
+  unfolding joined
+  part-joined [] each t h = absurd (omega arith)
+  part-joined (l ∷ ls) each zero h = rw zero-mul (take-at l (joined ls) n (each 0 h))
+  part-joined (l ∷ ls) each (suc t) h =
+      let e : suc t * n ≡ length l + t * n = omega (arith, each 0 (omega arith)) in
+      rw (e, drop-append-add l (joined ls) (t * n)) (part-joined ls (λ i p. each (suc i) (omega arith)) t (omega arith))
 
 -- ---- as a loop meets them: nothing yet, and one more
 pub sum-none : (f : ℕ → ℕ) → sum 0 f ≡ 0

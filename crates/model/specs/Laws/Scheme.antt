@@ -3,12 +3,13 @@
 use Prim.Native.Nat.{ℕ, zero, suc, _+_, _*_, _-_, _/_, _^_, _≤_, _<_, min, max}
 use mathlib.Core.Bool.{Bool, true, false, not}
 use mathlib.Core.Path.{_≡_, refl, _∙_, ap}
-use native.Mathlib.Nat.{le-refl, le-trans, lt-of-le-of-lt, le-div-iff-mul-le, div-mul-le-self, div-le-self, div-le-of-le-mul, div-eq-of-eq-mul-left, div-eq-of-eq-mul-right, zero-div, zero-mul, mul-le-mul, mul-le-mul-left, mul-le-mul-right, min-le-left, min-le-right, sub-self}
+use native.Mathlib.Nat.{le-refl, le-trans, lt-of-le-of-lt, le-div-iff-mul-le, div-mul-le-self, div-le-self, div-le-of-le-mul, div-eq-of-eq-mul-left, div-eq-of-eq-mul-right, zero-div, zero-mul, mul-le-mul, mul-le-mul-left, mul-le-mul-right, le-of-mul-le-mul-left, min-le-left, min-le-right, sub-self}
 use native.Mathlib.Omega.{arith}
 use Rattle.model.specs.Limits.{scale, airLimit, totalLimit}
 use Rattle.model.specs.Basic.{sum, distance}
 use Rattle.model.specs.Scheme.{ratio, Mismatch, mismatch, plain, opposite, highPiece, lowPiece}
 use Rattle.model.specs.Sweep.{fluxPart}
+use Rattle.model.specs.Laws.Basic.{sum-times, sum-le}
 
 -- ---- quotients
 quotient-rises : {a b n : ℕ} → 0 < n → a ≤ b → a / n ≤ b / n
@@ -152,6 +153,23 @@ piece-constant D M T m z hM e eT =
 pub ratio-constant : (M T z : ℕ) → 0 < M → T ≡ z * M → ratio M T ≡ scale * z
 unfolding ratio
 ratio-constant M T z hM e = div-eq-of-eq-mul-left hM (omega arith)
+
+-- ---- plain pieces: with no mismatch a piece has at most its air's share, and pieces that do not overlap are at most what the cell has
+module _ (D : Mismatch) (M T : ℕ) (flat : D .size ≡ 0) where
+  plain-piece-le : (m : ℕ) → M * highPiece D M T m ≤ T * m
+  unfolding numerator
+  plain-piece-le m =
+      rw (piece-is D M T m, flat) (level (D .positive))
+    where
+      level : (b : Bool) → M * (tilted b (2 * scale * m * T) (0 * m * (M - m)) / (2 * scale * M)) ≤ T * m
+      level true = omega (arith, div-mul-le-self (2 * scale * m * T + 0 * m * (M - m)) (2 * scale * M))
+      level false = omega (arith, div-mul-le-self (2 * scale * m * T - 0 * m * (M - m)) (2 * scale * M))
+
+  pub plain-pieces-le : (n : ℕ) (m : ℕ → ℕ) → 0 < M → sum n m ≤ M → sum n (λ i. highPiece D M T (m i)) ≤ T
+  plain-pieces-le n m hM h =
+      le-of-mul-le-mul-left {k = M}
+      (omega (arith, sum-times n M (λ i. highPiece D M T (m i)), sum-times n T m, sum-le n (λ i. M * highPiece D M T (m i)) (λ i. T * m i) (λ i p. plain-piece-le (m i)), mul-le-mul-left T h))
+      hM
 
 -- ---- laws of pieces, for a safe mismatch of a cell with air
 module _ (D : Mismatch) (M T : ℕ) (safe : Safe D M T) (hM : 0 < M) where

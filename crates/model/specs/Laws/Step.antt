@@ -1,7 +1,7 @@
 -- Laws of `step`: the first place that applies, an accepted and a refused call, and what an accepted load tells of a world: none of the refusals 1 to 4 is met there but for a call's own lent list.
 -- Assumes nothing.
 use Prim.Native.Nat.{ℕ, zero, suc, _*_, _≤_, _<_}
-use mathlib.Core.List.{List, _∷_}
+use mathlib.Core.List.{List, _∷_, _++_}
 use mathlib.Core.Bool.{Bool, true, false, not, _&&_, and-eq-true-iff}
 use mathlib.Core.Path.{_≡_, refl, sym, _∙_, ap, ap₂}
 use native.Mathlib.Omega.{arith}
@@ -107,19 +107,31 @@ pub fits-loaded : (w : World) → Fits w → Loaded w
 unfolding ownPlaces firstOf
 fits-loaded w fits = answer-is w load ∙ own-refusal w load fits refl
 
-pub loaded-fits : (w : World) → Loaded w → Fits w
-unfolding refusal commonPlaces ownPlaces
-loaded-fits w start =
-    let p = passed _ _ w (lit< tt) (sym (answer-is w load) ∙ start) in
+-- where none of the places 1 to 4 applies, the world fits and the list that the call lends; the places after them are left
+pub common-passed : (w : World) (call : Call) (ps : List Place) → firstOf (commonPlaces call ++ ps) w ≡ 0 → Fits w × (lentFits (w .grid) call ≡ true) × (firstOf ps w ≡ 0)
+unfolding commonPlaces
+common-passed w call ps e =
+    let p = passed _ _ w (lit< tt) e in
     let q = passed _ _ w (lit< tt) (p .1) in
     let r = passed _ _ w (lit< tt) (q .1) in
     let s = passed _ _ w (lit< tt) (r .1) in
-    let lengths = and-eq-true-iff _ _ .0 (and-eq-true-iff _ _ .0 (not-false _ (q .0)) .0) in
-    let airLength : length (w .air) ≡ worldCells (w .grid) = eqb-true _ _ (lengths .0) in
-    record {
-      grid = not-false _ (p .0);
-      airLength = airLength;
-      tracersLength = eqb-true _ _ (lengths .1);
-      air = λ c h. every-at _ _ (not-false _ (r .0)) c (rw airLength h);
-      totals = λ t h. leb-true _ _ (every-at _ _ (not-false _ (s .0)) t h);
-    }
+    let lengths = and-eq-true-iff _ _ .0 (not-false _ (q .0)) in
+    let lent = and-eq-true-iff _ _ .0 (lengths .0) in
+    let airLength : length (w .air) ≡ worldCells (w .grid) = eqb-true _ _ (lent .0) in (
+      record {
+        grid = not-false _ (p .0);
+        airLength = airLength;
+        tracersLength = eqb-true _ _ (lent .1);
+        air = λ c h. every-at _ _ (not-false _ (r .0)) c (rw airLength h);
+        totals = λ t h. leb-true _ _ (every-at _ _ (not-false _ (s .0)) t h);
+      },
+      lengths .1,
+      s .1,
+    )
+
+pub accepted-passed : (w : World) (call : Call) → refusal w call ≡ 0 → Fits w × (lentFits (w .grid) call ≡ true) × (firstOf (ownPlaces call) w ≡ 0)
+unfolding refusal
+accepted-passed w call e = common-passed w call (ownPlaces call) e
+
+pub loaded-fits : (w : World) → Loaded w → Fits w
+loaded-fits w start = accepted-passed w load (sym (answer-is w load) ∙ start) .0

@@ -1,19 +1,20 @@
--- Laws of the world with another amount of one tracer in one cell: that tracer's amounts and total, and the other tracers' amounts.
+-- Laws of the world with another amount of one tracer in one cell, and of the world after a call that moves air: the tracers' amounts and totals.
 -- Assumes that the cell is one of the world's, and for the total that the tracer's amounts are all there.
 use Prim.Native.Nat.{ℕ, suc, _+_, _*_, _≤_, _<_}
-use mathlib.Core.List.{List}
+use mathlib.Core.List.{List, []}
 use mathlib.Core.Bool.{Bool, true, false}
-use mathlib.Core.Path.{_≡_, refl}
+use mathlib.Core.Path.{_≡_, refl, _∙_, ap}
 use mathlib.Core.Logic.{_≢_}
 use native.Mathlib.Nat.{mul-le-mul-right}
 use native.Mathlib.Omega.{arith}
 use borrow.Author.Tests.{ltb-true, ltb-false}
 use lib.Dec.{ltb}
-use lib.ListN.{length, set}
-use Rattle.model.specs.Basic.{part}
-use Rattle.model.specs.World.{World, worldCells, tracerStart, gas, gasTotal}
+use lib.ListN.{length, set, getD, take, drop-of-length-le}
+use lib.Seq.{take-nil}
+use Rattle.model.specs.Basic.{part, tab}
+use Rattle.model.specs.World.{World, worldCells, tracerStart, gas, gasTotal, moved}
 use Rattle.model.specs.Step.{withAmount, amountAt}
-use Rattle.model.specs.Laws.Basic.{sum-set, length-part, part-set-within, part-set-behind, part-set-before}
+use Rattle.model.specs.Laws.Basic.{sum-set, length-tab, getD-tab, Each, length-joined, part-joined, length-part, part-set-within, part-set-behind, part-set-before}
 
 -- a list of parts of n entries each, with one entry of part t set: part t' is as it was
 part-set-elsewhere : (l : List ℕ) (n t t' c x : ℕ) → c < n → t' ≢ t → part (set l (t * n + c) x) (t' * n) n ≡ part l (t' * n) n
@@ -40,3 +41,33 @@ module _ (w : World) (t c x : ℕ) (inside : c < worldCells (w .grid)) where
 
   pub total-changed : length (gas w t) ≡ worldCells (w .grid) → gasTotal (withAmount w t c x) t + amountAt w t c ≡ gasTotal w t + x
   total-changed fits = rw gas-changed (sum-set (worldCells (w .grid)) (gas w t) c x inside (omega arith))
+
+-- an absent tracer has no amounts
+pub gas-absent : (w : World) (t : ℕ) → length (w .tracers) ≡ w .grid .N * worldCells (w .grid) → w .grid .N ≤ t → gas w t ≡ []
+gas-absent w t fits h =
+    ap (take (worldCells (w .grid))) (drop-of-length-le (w .tracers) {i = tracerStart (w .grid) t} (omega (arith, mul-le-mul-right (worldCells (w .grid)) h))) ∙
+    take-nil (worldCells (w .grid))
+
+-- the world after a call that moves air: each tracer's amounts are the changed ones, if these are as many
+module _ (w : World) (air : List ℕ) (change : List ℕ → List ℕ) (as-many : (t : ℕ) → t < w .grid .N → length (change (gas w t)) ≡ worldCells (w .grid)) where
+  changed : List (List ℕ)
+  changed = tab (w .grid .N) (λ t. change (gas w t))
+
+  many : length changed ≡ w .grid .N
+  unfolding changed
+  many = length-tab (w .grid .N) (λ t. change (gas w t))
+
+  changed-at : (t : ℕ) → t < w .grid .N → getD changed t [] ≡ change (gas w t)
+  unfolding changed
+  changed-at t h = getD-tab (w .grid .N) (λ t. change (gas w t)) t [] h
+
+  each : Each (worldCells (w .grid)) changed
+  each t h = let p : t < w .grid .N = rw many at h in rw (changed-at t p) (as-many t p)
+
+  pub length-moved : length (moved w air change .tracers) ≡ w .grid .N * worldCells (w .grid)
+  unfolding changed
+  length-moved = length-joined (worldCells (w .grid)) changed each ∙ ap (λ (n : ℕ). n * worldCells (w .grid)) many
+
+  pub gas-moved : (t : ℕ) → t < w .grid .N → gas (moved w air change) t ≡ change (gas w t)
+  unfolding changed
+  gas-moved t h = part-joined (worldCells (w .grid)) changed each t (rw many h) ∙ changed-at t h

@@ -1,0 +1,104 @@
+-- What an accepted zonal sweep keeps; and the frame of any zonal sweep: what it changes, and on what its answer, count and new row depend.
+-- Assumes for what is kept a world that fits, and takes the range as given; for the frame nothing, or that places 1 to 4 are passed.
+use Prim.Native.Nat.{ℕ, zero, suc, _+_, _≤_, _<_}
+use mathlib.Core.List.{List, []}
+use mathlib.Core.Bool.{not, true≢false}
+use mathlib.Core.Path.{_≡_, refl, sym, _∙_, ap, ap₂}
+use native.Mathlib.Nat.{mul-le-mul-right}
+use native.Mathlib.Omega.{arith}
+use borrow.Author.Tests.{eqb-false}
+use lib.Dec.{ltb, eqb, lit<}
+use lib.IntN.{ℤ}
+use Rattle.model.specs.Limits.{zonalLimit}
+use Rattle.model.specs.World.{Grid, World, worldCells, layerCells, rowStart}
+use Rattle.model.specs.Sweep.{ring, substepCount}
+use Rattle.model.specs.Step.{zonal, firstOf, fluxTooLarge, commonPlaces, ownPlaces, accepted, refused, refusal, step, rowAir, zonalCount}
+use Rattle.model.specs.Lists.{CallInRange, SameReply}
+use Rattle.model.specs.Laws.Ring.{ring-regular}
+use Rattle.model.specs.Laws.Range.{sweep-in-range}
+use Rattle.model.specs.Laws.Chain.{count-smallest}
+use Rattle.model.specs.Laws.Step.{Fits, firstOf-same, passed, found, step-accepted, step-refused, answer-is, own-refusal, common-passed, accepted-passed}
+use Rattle.model.specs.Laws.Keeps.{AcceptedKeeps}
+use Rattle.model.specs.Laws.Sweep.{Sweeps, swept-kept, swept-cells-air, swept-alike, SameCells, swept-same, ChangesOnly, swept-changes-only, step-changes-only}
+
+-- a row of a layer lies in the world
+pub row-inside : (g : Grid) (k r : ℕ) → k < g .K → r < g .R → rowStart g k r + g .W ≤ worldCells g
+row-inside g k r hk hr =
+    omega (arith, mul-le-mul-right (layerCells g) hk, mul-le-mul-right (g .W) hr)
+
+-- what the places of a zonal sweep tell, where it is accepted
+pub zonal-sweeps : (k r : ℕ) (fluxes : List ℤ) (w : World) → refusal w (zonal k r fluxes) ≡ 0 → Sweeps w (ring (w .grid .W)) (rowStart (w .grid) k r) fluxes (zonalCount w k r fluxes)
+unfolding ownPlaces ring
+zonal-sweeps k r fluxes w e =
+    let p = found k (λ g. g .K) _ w (accepted-passed w (zonal k r fluxes) e .2) in
+    let q = found r (λ g. g .R) _ w (p .1) in
+    let small = passed _ _ w (lit< tt) (q .1) in
+    let some = passed _ _ w (lit< tt) (small .1) in
+    let count = count-smallest (ring (w .grid .W)) fluxes (rowAir w k r) (eqb-false _ _ (some .0)) in
+    record {
+      regular = ring-regular (w .grid .W);
+      inside = row-inside (w .grid) k r (p .0) (q .0);
+      positive = count .positive;
+      most = count .most;
+      serving = count .serving;
+    }
+
+-- every cell of the row is in range after each substep
+pub zonal-range : (k r : ℕ) (fluxes : List ℤ) (w : World) → Fits w → refusal w (zonal k r fluxes) ≡ 0 → (t : ℕ) → t < w .grid .N → CallInRange w t (zonal k r fluxes)
+unfolding ring
+zonal-range k r fluxes w fits e t h =
+    let s = zonal-sweeps k r fluxes w e in
+    sweep-in-range _ (s .regular) fluxes _ _ _ (swept-cells-air w fits _ _ fluxes _ s) (s .serving)
+
+pub zonal-keeps : (k r : ℕ) (fluxes : List ℤ) (w : World) → Fits w → refusal w (zonal k r fluxes) ≡ 0 → ((t : ℕ) → t < w .grid .N → CallInRange w t (zonal k r fluxes)) → AcceptedKeeps w (zonal k r fluxes)
+unfolding accepted ring
+zonal-keeps k r fluxes w fits e range =
+    let sweeps = zonal-sweeps k r fluxes w e in
+    record {
+      kept = swept-kept w fits _ _ fluxes _ sweeps;
+      inRange = range;
+      alike = λ own v fv a named. swept-alike (λ g. ring (g .W)) (λ g. rowStart g k r) (λ g. substepCount (ring (g .W)) fluxes) fluxes own w v fits fv a (sweeps .inside);
+      apart = λ own other. absurd (true≢false other);
+    }
+
+-- ---- the frame: "The sweep writes only that row's cells inside its layer, in the air and in all tracers"; a refused one writes nothing
+pub zonal-changes-only : (k r : ℕ) (fluxes : List ℤ) (w : World) → ChangesOnly w (step w (zonal k r fluxes) .next) (rowStart (w .grid) k r) (w .grid .W)
+unfolding accepted ring
+zonal-changes-only k r fluxes w =
+    step-changes-only w (zonal k r fluxes) _ _ (λ e. swept-changes-only w (accepted-passed w (zonal k r fluxes) e .0) _ _ fluxes _ (zonal-sweeps k r fluxes w e))
+
+-- two worlds of the same grid with the same air and the same amounts of each tracer in row r of layer k
+abbrev pub SameRow : ℕ → ℕ → World → World → Type 0
+SameRow k r w v = SameCells (λ g. rowStart g k r) (λ g. g .W) w v
+
+-- once places 1 to 4 are passed, answer, count and new row depend on that row alone
+module _ (k r : ℕ) (fluxes : List ℤ) (w v : World) (row : SameRow k r w v) where
+  count-row : zonalCount w k r fluxes ≡ zonalCount v k r fluxes
+  count-row = ap₂ (λ (g : Grid) (air : List ℕ). substepCount (ring (g .W)) fluxes air) (row .sameGrid) (row .sameAir)
+
+  own-places-row : firstOf (ownPlaces (zonal k r fluxes)) w ≡ firstOf (ownPlaces (zonal k r fluxes)) v
+  unfolding ownPlaces
+  own-places-row =
+      firstOf-same _ _ w v (ap (λ (g : Grid). not (ltb k (g .K))) (row .sameGrid))
+      (λ layer. firstOf-same _ _ w v (ap (λ (g : Grid). not (ltb r (g .R))) (row .sameGrid))
+      (λ there. firstOf-same (fluxTooLarge fluxes zonalLimit) _ w v refl
+      (λ small. firstOf-same _ [] w v (ap (λ (n : ℕ). eqb n 0) count-row)
+      (λ some. unfold firstOf in refl))))
+
+  same-step : Fits w → Fits v → (n : ℕ) → refusal w (zonal k r fluxes) ≡ n → refusal v (zonal k r fluxes) ≡ n → (step w (zonal k r fluxes) .count ≡ step v (zonal k r fluxes) .count) × SameRow k r (step w (zonal k r fluxes) .next) (step v (zonal k r fluxes) .next)
+  unfolding accepted refused ring
+  same-step fw fv zero e f =
+      rw (step-accepted w (zonal k r fluxes) e, step-accepted v (zonal k r fluxes) f)
+      (count-row, swept-same (λ g. ring (g .W)) (λ g. rowStart g k r) (λ g. substepCount (ring (g .W)) fluxes) fluxes w v fw fv (zonal-sweeps k r fluxes w e .inside) row)
+  same-step fw fv (suc n) e f =
+      rw (step-refused w (zonal k r fluxes) n e, step-refused v (zonal k r fluxes) n f) (refl, row)
+
+  pub row-alone : firstOf (commonPlaces (zonal k r fluxes)) w ≡ 0 → firstOf (commonPlaces (zonal k r fluxes)) v ≡ 0 → SameReply w v (zonal k r fluxes) × SameRow k r (step w (zonal k r fluxes) .next) (step v (zonal k r fluxes) .next)
+  unfolding commonPlaces
+  row-alone cw cv =
+      let pw = common-passed w (zonal k r fluxes) [] cw in
+      let pv = common-passed v (zonal k r fluxes) [] cv in
+      let same : refusal w (zonal k r fluxes) ≡ refusal v (zonal k r fluxes) =
+      own-refusal w (zonal k r fluxes) (pw .0) (pw .1) ∙ own-places-row ∙ sym (own-refusal v (zonal k r fluxes) (pv .0) (pv .1)) in
+      let after = same-step (pw .0) (pv .0) (refusal w (zonal k r fluxes)) refl (sym same) in
+      ((answer-is w (zonal k r fluxes) ∙ same ∙ sym (answer-is v (zonal k r fluxes)), after .0), after .1)
