@@ -2,8 +2,8 @@
 ghost use mathlib.Core.Path.{_≡_};
 ghost use Prim.Native.Nat.{ℕ, _≤_, _<_};
 ghost use lib.ListN.{length};
-ghost use Rattle.model.specs.Sweep.{eastOf, westOf};
-ghost use Rattle.row.specs.Row.{airRow, gasRow, SplitInto, PartsOf, airAt};
+ghost use Rattle.model.specs.Sweep.{eastOf, westOf, parts};
+ghost use Rattle.row.specs.Row.{airRow, gasRow, flowOf, PartsNeed};
 use scheme::flux_part;
 use scheme::split;
 use units::Air;
@@ -42,4 +42,64 @@ pub fn load_air(part: &[u32]) -> [Air; 72]
         i += 1;
     }
     row
+}
+
+// A row's part of a tracer's lent amounts, as an array.
+pub fn load_gas(part: &[u32]) -> [Tracer; 72]
+    requires { ⌜ length (now part) ≤ 72 ⌝ }
+    ensures { λ r. ⌜ gasRow (length (now (part .entry))) r ≡ now (part .entry) ⌝ }
+{
+    let mut row = [Tracer(0); 72];
+    let mut i = 0;
+    while i < part.len() {
+        row[i] = Tracer(part[i]);
+        i += 1;
+    }
+    row
+}
+
+// Writes a row back to its lent part.
+pub fn store_air(row: [Air; 72], part: &mut [u32])
+    requires { ⌜ length (now part) ≤ 72 ⌝ }
+    ensures { λ r. ⌜ now (part .exit) ≡ airRow (length (now (part .entry))) row ⌝ }
+{
+    let mut i = 0;
+    while i < part.len() {
+        let m = row[i];
+        part[i] = m.0;
+        i += 1;
+    }
+}
+
+pub fn store_gas(row: [Tracer; 72], part: &mut [u32])
+    requires { ⌜ length (now part) ≤ 72 ⌝ }
+    ensures { λ r. ⌜ now (part .exit) ≡ gasRow (length (now (part .entry))) row ⌝ }
+{
+    let mut i = 0;
+    while i < part.len() {
+        let m = row[i];
+        part[i] = m.0;
+        i += 1;
+    }
+}
+
+// Part s of n of a row's fluxes, each in its direction.
+pub fn parts_of(fluxes: &[i32], n: u32, s: u32) -> Flows
+    requires { ⌜ PartsNeed (length (now fluxes)) n s ⌝ }
+    ensures { λ r. ⌜ flowOf r ≡ parts (now (fluxes .entry)) n s ⌝ }
+{
+    let mut high = [Air(0); 72];
+    let mut low = [Air(0); 72];
+    let mut i = 0;
+    while i < fluxes.len() {
+        let x = fluxes[i];
+        let f = split(x);
+        high[i] = flux_part(n, s, f.to_high);
+        low[i] = flux_part(n, s, f.to_low);
+        i += 1;
+    }
+    Flows {
+        to_high: high,
+        to_low: low,
+    }
 }

@@ -12,17 +12,17 @@ use Rattle.model.specs.Laws.Basic.{sum-add}
 use Rattle.model.specs.Laws.Mesh.{Regular, passes-on}
 
 -- the column to the west, and to the east, are columns; one undoes the other
-west-in : (W i : ℕ) → i < W → westOf W i < W
+pub west-in : (W i : ℕ) → i < W → westOf W i < W
 west-in W zero h = omega arith
 west-in W (suc i) h = omega arith
 
-east-last : (W i : ℕ) → suc i ≡ W → eastOf W i ≡ 0
+pub east-last : (W i : ℕ) → suc i ≡ W → eastOf W i ≡ 0
 east-last W i e = rw (eq-eqb (suc i) W e, eastOf)
 
-east-inner : (W i : ℕ) → suc i < W → eastOf W i ≡ suc i
+pub east-inner : (W i : ℕ) → suc i < W → eastOf W i ≡ suc i
 east-inner W i h = rw (ne-eqb (suc i) W (λ e. omega arith), eastOf)
 
-east-in : (W i : ℕ) → i < W → eastOf W i < W
+pub east-in : (W i : ℕ) → i < W → eastOf W i < W
 east-in W i h = go (eqb (suc i) W) refl
   where
     go : (b : Bool) → eqb (suc i) W ≡ b → eastOf W i < W
@@ -69,3 +69,11 @@ ring-regular W =
       highHas = west-of-east W;
       passesOn = passes-on (ring W) (ring-leaving W);
     }
+
+pub west-first : (W i : ℕ) → i ≡ 0 → westOf W i ≡ W - 1
+west-first W zero e = refl
+west-first W (suc i) e = absurd (omega arith)
+
+pub west-inner : (W i : ℕ) → (i ≡ 0 → ⊥) → westOf W i ≡ i - 1
+west-inner W zero h = absurd (h refl)
+west-inner W (suc i) h = omega arith

@@ -3,7 +3,7 @@
 use Prim.Native.Nat.{ℕ, zero, suc, _+_, _*_, _-_, _/_, _^_, _≤_, _<_, min, max}
 use mathlib.Core.Bool.{Bool, true, false, not}
 use mathlib.Core.Path.{_≡_, refl, _∙_, ap}
-use native.Mathlib.Nat.{le-refl, le-trans, lt-of-le-of-lt, le-div-iff-mul-le, div-mul-le-self, div-le-self, div-le-of-le-mul, div-eq-of-eq-mul-left, div-eq-of-eq-mul-right, zero-div, zero-mul, mul-le-mul, mul-le-mul-left, mul-le-mul-right, le-of-mul-le-mul-left, min-le-left, min-le-right, sub-self}
+use native.Mathlib.Nat.{mul-zero, le-refl, le-trans, lt-of-le-of-lt, le-div-iff-mul-le, div-mul-le-self, div-le-self, div-le-of-le-mul, div-eq-of-eq-mul-left, div-eq-of-eq-mul-right, zero-div, zero-mul, mul-le-mul, mul-le-mul-left, mul-le-mul-right, le-of-mul-le-mul-left, min-le-left, min-le-right, sub-self}
 use native.Mathlib.Omega.{arith}
 use Rattle.model.specs.Limits.{scale, airLimit, totalLimit}
 use Rattle.model.specs.Basic.{sum, distance}
@@ -230,3 +230,8 @@ flux-parts-sum n F hn = flux-parts-to n F hn n ∙ div-eq-of-eq-mul-right hn ref
 pub flux-part-whole : (F : ℕ) → fluxPart 1 1 F ≡ F
 unfolding sum
 flux-part-whole F = omega (arith, flux-parts-sum 1 F (omega arith))
+
+-- a face that nothing crosses
+pub flux-part-none : (n s : ℕ) → fluxPart n s 0 ≡ 0
+unfolding fluxPart
+flux-part-none n s = rw (mul-zero s, mul-zero (s - 1), zero-div n)
