@@ -1,0 +1,107 @@
+//! The proved library, called as C calls it: `rt staticlib boundary`.
+
+use reference::{Answer, Call, World};
+
+// A slice passes as a pointer and then a length.
+extern "C" {
+    fn puldeho_load(
+        w: u32,
+        r: u32,
+        k: u32,
+        n: u32,
+        air: *const u32,
+        airs: usize,
+        tracers: *const u32,
+        amounts: usize,
+    ) -> u64;
+    fn puldeho_emission(
+        w: u32,
+        r: u32,
+        k: u32,
+        n: u32,
+        air: *const u32,
+        airs: usize,
+        tracers: *mut u32,
+        amounts: usize,
+        tracer: u32,
+        cell: u32,
+        amount: u32,
+    ) -> u64;
+    fn puldeho_withdrawal(
+        w: u32,
+        r: u32,
+        k: u32,
+        n: u32,
+        air: *const u32,
+        airs: usize,
+        tracers: *mut u32,
+        amounts: usize,
+        tracer: u32,
+        cell: u32,
+        amount: u32,
+    ) -> u64;
+    fn puldeho_total(
+        w: u32,
+        r: u32,
+        k: u32,
+        n: u32,
+        air: *const u32,
+        airs: usize,
+        tracers: *const u32,
+        amounts: usize,
+        tracer: u32,
+    ) -> u64;
+    fn puldeho_cell(
+        w: u32,
+        r: u32,
+        k: u32,
+        n: u32,
+        air: *const u32,
+        airs: usize,
+        tracers: *const u32,
+        amounts: usize,
+        tracer: u32,
+        cell: u32,
+    ) -> u64;
+}
+
+/// Makes the call in the library; `None` for a call that the library does not have yet.
+pub fn call(world: &mut World, call: &Call) -> Option<Answer> {
+    let g = &world.grid;
+    let (w, r, k, n) = (g.w, g.r, g.k, g.n);
+    let air = world.air.as_mut_ptr();
+    let airs = world.air.len();
+    let tracers = world.tracers.as_mut_ptr();
+    let amounts = world.tracers.len();
+    // Safe: each pointer goes with its own vector's length, and nobody else holds the vectors.
+    let packed = unsafe {
+        match call {
+            Call::Load => puldeho_load(w, r, k, n, air, airs, tracers, amounts),
+            Call::Emission {
+                tracer,
+                cell,
+                amount,
+            } => puldeho_emission(
+                w, r, k, n, air, airs, tracers, amounts, *tracer, *cell, *amount,
+            ),
+            Call::Withdrawal {
+                tracer,
+                cell,
+                amount,
+            } => puldeho_withdrawal(
+                w, r, k, n, air, airs, tracers, amounts, *tracer, *cell, *amount,
+            ),
+            Call::Total { tracer } => {
+                puldeho_total(w, r, k, n, air, airs, tracers, amounts, *tracer)
+            }
+            Call::Cell { tracer, cell } => {
+                puldeho_cell(w, r, k, n, air, airs, tracers, amounts, *tracer, *cell)
+            }
+            Call::Zonal { .. } | Call::Meridional { .. } | Call::Remap { .. } => return None,
+        }
+    };
+    Some(Answer {
+        number: (packed >> 32) as u32,
+        count: packed & 0xffff_ffff,
+    })
+}

@@ -1,0 +1,156 @@
+//! Compares the proved library with the second implementation, call by call, on seeded worlds:
+//! answer, count, all air and all tracers after every call. A difference is made as small as it
+//! can be made and printed, and the exit status is 1.
+//!
+//!     compare [LISTS]     how many lists of calls to run (default 2,000)
+
+mod library;
+mod worlds;
+
+use reference::{Answer, Call, World};
+use std::collections::BTreeMap;
+
+const CALLS: usize = 24;
+
+fn kind(call: &Call) -> &'static str {
+    match call {
+        Call::Load => "load",
+        Call::Emission { .. } => "emission",
+        Call::Withdrawal { .. } => "withdrawal",
+        Call::Zonal { .. } => "zonal",
+        Call::Meridional { .. } => "meridional",
+        Call::Remap { .. } => "remap",
+        Call::Total { .. } => "total",
+        Call::Cell { .. } => "cell",
+    }
+}
+
+/// Makes the call in both; the second implementation's answer and world, and whether the library's differ.
+/// `None` for a call that the library does not have yet.
+fn both(world: &World, call: &Call) -> Option<(Answer, World, bool)> {
+    let mut ours = world.clone();
+    let mut theirs = world.clone();
+    let got = library::call(&mut ours, call)?;
+    let want = reference::call(&mut theirs, call);
+    let differ = got != want || ours != theirs;
+    Some((want, theirs, differ))
+}
+
+fn differ(world: &World, call: &Call) -> bool {
+    both(world, call).is_some_and(|(_, _, differ)| differ)
+}
+
+/// Number i of the world: air, then tracers.
+fn number(world: &mut World, i: usize) -> &mut u32 {
+    let airs = world.air.len();
+    if i < airs {
+        &mut world.air[i]
+    } else {
+        &mut world.tracers[i - airs]
+    }
+}
+
+/// The values to try in place of x: smaller ones.
+fn smaller(x: u32) -> Vec<u32> {
+    [0, 1, x / 2, x.saturating_sub(1)]
+        .into_iter()
+        .filter(|y| *y < x)
+        .collect()
+}
+
+/// Replaces numbers of the world and of the call by smaller ones as long as the two still differ.
+fn shrink(mut world: World, mut call: Call) -> (World, Call) {
+    loop {
+        let mut changed = false;
+        for i in 0..world.air.len() + world.tracers.len() {
+            for y in smaller(*number(&mut world, i)) {
+                let mut trial = world.clone();
+                *number(&mut trial, i) = y;
+                if differ(&trial, &call) {
+                    world = trial;
+                    changed = true;
+                    break;
+                }
+            }
+        }
+        if let Call::Zonal { fluxes, .. } | Call::Meridional { fluxes, .. } = &call {
+            for i in 0..fluxes.len() {
+                let mut trial = call.clone();
+                if let Call::Zonal { fluxes, .. } | Call::Meridional { fluxes, .. } = &mut trial {
+                    if fluxes[i] == 0 {
+                        continue;
+                    }
+                    fluxes[i] /= 2;
+                }
+                if differ(&world, &trial) {
+                    call = trial;
+                    changed = true;
+                    break;
+                }
+            }
+        }
+        if !changed {
+            return (world, call);
+        }
+    }
+}
+
+fn report(world: &World, call: &Call) {
+    let (world, call) = shrink(world.clone(), call.clone());
+    println!(
+        "DIFFERENT: {:?}\n  {:?}\n  air {:?}\n  tracers {:?}",
+        call, world.grid, world.air, world.tracers
+    );
+    let mut ours = world.clone();
+    let mut theirs = world.clone();
+    println!(
+        "library: {:?}\n  air {:?}\n  tracers {:?}",
+        library::call(&mut ours, &call),
+        ours.air,
+        ours.tracers
+    );
+    println!(
+        "second implementation: {:?}\n  air {:?}\n  tracers {:?}",
+        reference::call(&mut theirs, &call),
+        theirs.air,
+        theirs.tracers
+    );
+}
+
+fn main() {
+    let lists: u64 = std::env::args()
+        .nth(1)
+        .map_or(2000, |s| s.parse().expect("a number of lists"));
+    let mut seen: BTreeMap<(&str, u32), u64> = BTreeMap::new();
+    for list in 0..lists {
+        let size = if list * 10 < lists * 6 {
+            0
+        } else if list * 10 < lists * 9 {
+            1
+        } else if list * 100 < lists * 99 {
+            2
+        } else {
+            3
+        };
+        let mut random = worlds::Random::new(list + 1);
+        let grid = worlds::grid(&mut random, size);
+        let mut world = worlds::world(&mut random, grid);
+        for _ in 0..CALLS {
+            let call = worlds::call(&mut random, &world);
+            let Some((want, after, differ)) = both(&world, &call) else {
+                reference::call(&mut world, &call);
+                continue;
+            };
+            if differ {
+                report(&world, &call);
+                std::process::exit(1);
+            }
+            world = after;
+            *seen.entry((kind(&call), want.number)).or_default() += 1;
+        }
+    }
+    println!("{lists} lists of {CALLS} calls, no difference; calls by kind and answer:");
+    for ((kind, number), times) in seen {
+        println!("  {kind} {number}: {times}");
+    }
+}

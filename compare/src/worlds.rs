@@ -1,0 +1,218 @@
+//! Seeded worlds and calls: mostly in range, some at and past the limits, some with lists of a wrong length.
+
+use reference::{Call, Grid, World};
+
+const MOST: u64 = 268_435_455;
+
+/// xorshift64*, so that a run is the same on every machine.
+pub struct Random(u64);
+
+impl Random {
+    pub fn new(seed: u64) -> Random {
+        Random(seed.wrapping_mul(0x9e37_79b9_7f4a_7c15) | 1)
+    }
+
+    pub fn next(&mut self) -> u64 {
+        self.0 ^= self.0 >> 12;
+        self.0 ^= self.0 << 25;
+        self.0 ^= self.0 >> 27;
+        self.0.wrapping_mul(0x2545_f491_4f6c_dd1d)
+    }
+
+    pub fn below(&mut self, n: u64) -> u64 {
+        (self.next() >> 11) % n
+    }
+
+    pub fn between(&mut self, low: u64, high: u64) -> u64 {
+        low + self.below(high - low + 1)
+    }
+
+    pub fn one_in(&mut self, n: u64) -> bool {
+        self.below(n) == 0
+    }
+}
+
+fn cells(g: &Grid) -> u64 {
+    g.k as u64 * (2 + g.r as u64 * g.w as u64)
+}
+
+/// Grids grow with `size` (0 to 3): the smallest first, so that a difference is met in a small one.
+pub fn grid(random: &mut Random, size: u32) -> Grid {
+    let most = [
+        (6, 2, 3, 2),
+        (12, 5, 6, 3),
+        (36, 12, 12, 8),
+        (72, 44, 32, 8),
+    ][size as usize];
+    let mut g = Grid {
+        w: random.between(4, most.0) as u32,
+        r: random.between(1, most.1) as u32,
+        k: random.between(1, most.2) as u32,
+        n: random.between(1, most.3) as u32,
+    };
+    if random.one_in(40) {
+        match random.below(4) {
+            0 => g.w = [3, 73, 0, u32::MAX][random.below(4) as usize],
+            1 => g.r = [0, 45, u32::MAX][random.below(3) as usize],
+            2 => g.k = [0, 33, u32::MAX][random.below(3) as usize],
+            _ => g.n = [0, 9, u32::MAX][random.below(3) as usize],
+        }
+    }
+    g
+}
+
+fn in_range(g: &Grid) -> bool {
+    (4..=72).contains(&g.w)
+        && (1..=44).contains(&g.r)
+        && (1..=32).contains(&g.k)
+        && (1..=8).contains(&g.n)
+}
+
+pub fn world(random: &mut Random, grid: Grid) -> World {
+    let (count, tracers) = if in_range(&grid) {
+        (cells(&grid), grid.n as u64)
+    } else {
+        (6, 1)
+    };
+    let base = random.between(1, 60_000);
+    let mut air: Vec<u32> = (0..count)
+        .map(|_| random.between(1 + base / 2, (base + base / 2 + 10).min(65_535)) as u32)
+        .collect();
+    let ratio = random.below(4);
+    let mut amounts = Vec::new();
+    for _ in 0..tracers {
+        let most = (MOST / count).min(1 + ratio * base);
+        for _ in 0..count {
+            amounts.push(random.below(most + 1) as u32);
+        }
+    }
+    if random.one_in(30) {
+        let i = random.below(count) as usize;
+        air[i] = [0, 65_536, u32::MAX, 1, 65_535][random.below(5) as usize];
+    }
+    if random.one_in(30) {
+        let i = random.below(amounts.len() as u64) as usize;
+        amounts[i] = [MOST as u32, MOST as u32 + 1, u32::MAX][random.below(3) as usize];
+    }
+    if random.one_in(60) {
+        air.pop();
+    }
+    if random.one_in(60) {
+        amounts.push(0);
+    }
+    World {
+        grid,
+        air,
+        tracers: amounts,
+    }
+}
+
+/// An index of n, now and then absent.
+fn index(random: &mut Random, n: u64) -> u32 {
+    if random.one_in(25) {
+        [n, n + 1, u32::MAX as u64][random.below(3) as usize].min(u32::MAX as u64) as u32
+    } else {
+        random.below(n.max(1)) as u32
+    }
+}
+
+fn fluxes(random: &mut Random, faces: u64, typical: u64, limit: u64) -> Vec<i32> {
+    let faces = if random.one_in(50) { faces + 1 } else { faces };
+    let push = random.below(typical * 3 + 1) as i64 - typical as i64;
+    (0..faces)
+        .map(|_| match random.below(400) {
+            0 => i32::MIN,
+            1 => limit as i32,
+            2 => -(limit as i32) - 1,
+            3..=60 => 0,
+            _ => (push + random.below(typical + 1) as i64 - (typical / 2) as i64)
+                .clamp(-(limit as i64), limit as i64) as i32,
+        })
+        .collect()
+}
+
+fn table(random: &mut Random, k: u64) -> Vec<u32> {
+    let mut pairs = vec![0, 0];
+    for j in 1..k {
+        let part = 65_536 * j / k;
+        let b = (part + random.below(65_536 / k)) as u32;
+        let a = if random.one_in(3) {
+            random.below(40) as u32
+        } else {
+            0
+        };
+        pairs.push(a);
+        pairs.push(b.min(65_536));
+    }
+    pairs.extend([0, 65_536]);
+    if random.one_in(20) {
+        let i = random.below(pairs.len() as u64) as usize;
+        pairs[i] = [0, 1, 65_537, 2_097_120, 2_097_121][random.below(5) as usize];
+    }
+    if random.one_in(50) {
+        pairs.pop();
+    }
+    pairs
+}
+
+pub fn call(random: &mut Random, world: &World) -> Call {
+    let g = &world.grid;
+    let (w, r, k, n) = (g.w as u64, g.r as u64, g.k as u64, g.n as u64);
+    let all = if in_range(g) { cells(g) } else { 6 };
+    let typical = world
+        .air
+        .first()
+        .map_or(100, |m| (*m as u64).clamp(1, 65_535));
+    match random.below(12) {
+        0 => Call::Load,
+        1 => Call::Total {
+            tracer: index(random, n),
+        },
+        2 => Call::Cell {
+            tracer: index(random, n),
+            cell: index(random, all),
+        },
+        3 | 4 => {
+            let amount = [random.below(1000), random.below(MOST + 2), u32::MAX as u64]
+                [random.below(3) as usize];
+            Call::Emission {
+                tracer: index(random, n),
+                cell: index(random, all),
+                amount: amount as u32,
+            }
+        }
+        5 => {
+            let tracer = index(random, n);
+            let cell = index(random, all);
+            let had = world
+                .tracers
+                .get((tracer as u64 * all + cell as u64).min(u32::MAX as u64) as usize);
+            let amount = had.map_or(1, |x| random.below(*x as u64 + 2));
+            Call::Withdrawal {
+                tracer,
+                cell,
+                amount: amount as u32,
+            }
+        }
+        6..=8 => {
+            let push = typical * random.between(1, 6);
+            Call::Zonal {
+                layer: index(random, k),
+                row: index(random, r),
+                fluxes: fluxes(random, w.min(80), push, 1_048_560),
+            }
+        }
+        9 | 10 => Call::Meridional {
+            layer: index(random, k),
+            fluxes: fluxes(
+                random,
+                (w * (r + 1)).min(5000),
+                (typical / 3).max(1),
+                65_535,
+            ),
+        },
+        _ => Call::Remap {
+            table: table(random, k.clamp(1, 40)),
+        },
+    }
+}

@@ -1,0 +1,88 @@
+// The public calls for C and Rust. Each takes the grid's four numbers and the lent buffers, and returns one number: answer · 2^32 + count.
+ghost use mathlib.Core.Path.{_≡_};
+ghost use Prim.Native.Nat.{_+_, _*_};
+ghost use Rattle.model.specs.Step.{step, load, emission, withdrawal, total, reading};
+ghost use Rattle.boundary.specs.Returned.{packedOf, Returns, lentWorld};
+use units::Answer;
+use units::Grid;
+use units::count;
+use units::number;
+
+// Answer · 2^32 + count, so that a refusal changes no lent number.
+fn packed(a: Answer) -> u64
+    ensures { λ r. ⌜ r ≡ packedOf a ⌝ }
+{
+    (number(a) as u64) * 4294967296 + (count(a) as u64)
+}
+
+#[no_mangle]
+pub extern "C" fn puldeho_load(w: u32, r: u32, k: u32, n: u32, air: &[u32], tracers: &[u32]) -> u64
+    ensures { λ x. ⌜ Returns (step (lentWorld w r k n (now (air .entry)) (now (tracers .entry))) load) x (now (air .entry)) (now (tracers .entry)) ⌝ }
+{
+    packed(amounts::load(Grid { w, r, k, n }, air, tracers))
+}
+
+#[no_mangle]
+pub extern "C" fn puldeho_emission(
+    w: u32,
+    r: u32,
+    k: u32,
+    n: u32,
+    air: &[u32],
+    tracers: &mut [u32],
+    tracer: u32,
+    cell: u32,
+    amount: u32,
+) -> u64
+    ensures { λ x. ⌜ Returns (step (lentWorld w r k n (now (air .entry)) (now (tracers .entry))) (emission tracer cell amount)) x (now (air .entry)) (now (tracers .exit)) ⌝ }
+{
+    packed(amounts::emission(Grid { w, r, k, n }, air, tracers, tracer, cell, amount))
+}
+
+#[no_mangle]
+pub extern "C" fn puldeho_withdrawal(
+    w: u32,
+    r: u32,
+    k: u32,
+    n: u32,
+    air: &[u32],
+    tracers: &mut [u32],
+    tracer: u32,
+    cell: u32,
+    amount: u32,
+) -> u64
+    ensures { λ x. ⌜ Returns (step (lentWorld w r k n (now (air .entry)) (now (tracers .entry))) (withdrawal tracer cell amount)) x (now (air .entry)) (now (tracers .exit)) ⌝ }
+{
+    packed(amounts::withdrawal(Grid { w, r, k, n }, air, tracers, tracer, cell, amount))
+}
+
+#[no_mangle]
+pub extern "C" fn puldeho_total(
+    w: u32,
+    r: u32,
+    k: u32,
+    n: u32,
+    air: &[u32],
+    tracers: &[u32],
+    tracer: u32,
+) -> u64
+    ensures { λ x. ⌜ Returns (step (lentWorld w r k n (now (air .entry)) (now (tracers .entry))) (total tracer)) x (now (air .entry)) (now (tracers .entry)) ⌝ }
+{
+    packed(amounts::total(Grid { w, r, k, n }, air, tracers, tracer))
+}
+
+#[no_mangle]
+pub extern "C" fn puldeho_cell(
+    w: u32,
+    r: u32,
+    k: u32,
+    n: u32,
+    air: &[u32],
+    tracers: &[u32],
+    tracer: u32,
+    cell: u32,
+) -> u64
+    ensures { λ x. ⌜ Returns (step (lentWorld w r k n (now (air .entry)) (now (tracers .entry))) (reading tracer cell)) x (now (air .entry)) (now (tracers .entry)) ⌝ }
+{
+    packed(amounts::cell(Grid { w, r, k, n }, air, tracers, tracer, cell))
+}
