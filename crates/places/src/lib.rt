@@ -1,16 +1,19 @@
-// Places 1 to 4, which every call tests: the grid, the lent lengths, the air, the tracers' totals.
+// Places 1 to 4, which every call tests: the grid, the lent lengths, the air, the tracers' totals; and place 8, of both sweeps.
 // The tests of whole buffers have no early exit, so that the compiler can vectorise them, and each buffer is read once.
 ghost use mathlib.Core.Path.{_≡_};
 ghost use mathlib.Core.Bool.{_&&_};
 ghost use Prim.Native.Nat.{ℕ, _+_, _*_, _≤_, _<_};
 ghost use lib.ListN.{length, getD};
 ghost use lib.Dec.{leb};
+ghost use lib.IntN.{natAbs};
 ghost use Rattle.model.specs.Limits.{totalLimit};
 ghost use Rattle.model.specs.Basic.{at, part, sum, every};
 ghost use Rattle.model.specs.World.{airFits};
+ghost use Rattle.model.specs.Sweep.{flux};
 ghost use Rattle.units.specs.Grid.{gridOf, worldOf, InRange};
 ghost use Rattle.places.specs.Totals.{TracersFit, AreTotals};
 ghost use Rattle.places.specs.Tested.{lentServes, lengthsServe, IsTested};
+use scheme::split;
 use units::Air;
 use units::Answer;
 use units::Grid;
@@ -153,4 +156,28 @@ pub fn common_places(g: Grid, air: &[u32], tracers: &[u32], lent: Lent) -> Teste
         answer: Answer::Accepted(0),
         totals: sums,
     }
+}
+
+// Whether a flux's size is at most the limit.
+fn flux_fits(f: i32, limit: Air) -> bool
+    ensures { λ r. ⌜ r ≡ leb (natAbs f) (limit .0) ⌝ }
+{
+    let flow = split(f);
+    let high = flow.to_high;
+    let low = flow.to_low;
+    (high.0 <= limit.0) & (low.0 <= limit.0)
+}
+
+// Place 8: whether every flux's size is at most the limit.
+pub fn fluxes_fit(fluxes: &[i32], limit: Air) -> bool
+    ensures { λ r. ⌜ r ≡ every (length (now (fluxes .entry))) (λ i. leb (natAbs (flux (now (fluxes .entry)) i)) (limit .0)) ⌝ }
+{
+    let mut ok = true;
+    let mut i = 0;
+    while i < fluxes.len() {
+        let f = fluxes[i];
+        ok = ok & flux_fits(f, limit);
+        i += 1;
+    }
+    ok
 }

@@ -1,0 +1,20 @@
+-- `places::flux_fits` meets its contract: one of the two directions is 0.
+-- Assumes nothing.
+use mathlib.Core.Path.{_≡_}
+use mir.Syntax.{w32}
+use mir.Val.{toZ, ofZ}
+use Rattle.places.specs.Fluxes.{size-fits}
+use borrow.Author.Needs.{needs}
+use Rattle.places.proofs.flux_fits.Statement.{statement}
+use Rattle.places.proofs.flux_fits.Tie as tie
+
+split-requires : tie.Need-split-requires
+split-requires c κs = search needs
+
+returns : tie.Need-returns
+returns c =
+    let same : toZ w32 (ofZ w32 (c .before .before .before .before .before .before .before .args .f)) ≡ c .before .before .before .before .before .before .before .args .f = search needs in
+    size-fits (c .before .before .before .before .before .before .before .args .f) (c .before .before .before .before .before .before .before .args .limit .0) _ _ (rw same at (c .before .before .before .before .before .before .split .ensures .high)) (rw same at (c .before .before .before .before .before .before .split .ensures .low))
+
+pub flux-fits-spec : {M : Type 1} → statement M
+flux-fits-spec = tie.close (tie.spec split-requires returns)

@@ -1,0 +1,69 @@
+-- `places::fluxes_fit` meets its contract. The loop's invariant: `ok` is the test of every flux passed.
+-- Assumes nothing.
+use Prim.Native.Nat.{ℕ, _≤_, _-_}
+use mathlib.Core.Bool.{_&&_}
+use mathlib.Core.Path.{_≡_, sym, _∙_, ap, ap₂}
+use native.Mathlib.Omega.{arith}
+use lib.Dec.{leb}
+use lib.IntN.{pos, natAbs}
+use lib.ListN.{length, getD}
+use mir.Syntax.{w32}
+use mir.Val.{toZ, ofZ}
+use borrow.Author.Needs.{needs}
+use Rattle.model.specs.Basic.{every}
+use Rattle.model.specs.Sweep.{flux}
+use Rattle.model.specs.Laws.Basic.{every-none, every-more}
+use Rattle.places.proofs.fluxes_fit.Statement.{statement}
+use Rattle.places.proofs.fluxes_fit.Tie as tie
+
+abbrev Inv-loop : tie.InvT-loop
+Inv-loop fluxes limit ok₀ i₀ ok i = (i ≤ length fluxes) × (ok ≡ every i (λ k. leb (natAbs (flux fluxes k)) (limit .0)))
+
+abbrev μ-loop : tie.MeasureT-loop
+μ-loop fluxes limit ok₀ i₀ ok i = length fluxes - i
+
+loop-holds : tie.Need-loop-holds Inv-loop μ-loop
+loop-holds c = (search needs, sym (every-none _))
+
+mul-f : tie.Need-mul-f Inv-loop μ-loop
+mul-f c = search needs
+
+shared-slice-copy-out-f : tie.Need-shared-slice-copy-out-f Inv-loop μ-loop
+shared-slice-copy-out-f c = search needs
+
+flux-fits-requires : tie.Need-flux-fits-requires Inv-loop μ-loop
+flux-fits-requires c κs = search needs
+
+add-i : tie.Need-add-i Inv-loop μ-loop
+add-i c = search needs
+
+loop-less : tie.Need-loop-less Inv-loop μ-loop
+loop-less c = search needs
+
+loop-again : tie.Need-loop-again Inv-loop μ-loop
+loop-again c =
+    let same : toZ w32 (ofZ w32 (getD (c .before .before .before .before .args .fluxes .now) (c .before .before .before .loop .i) (pos 0))) ≡ getD (c .before .before .before .before .args .fluxes .now) (c .before .before .before .loop .i) (pos 0) = search (needs, c .before .f .given) in (
+      search needs,
+      ap₂ _&&_ (c .before .before .before .loop .inv .1) (rw same at (c .flux-fits .ensures)) ∙
+          sym (every-more (c .before .before .before .loop .i) _),
+    )
+
+returns : tie.Need-returns Inv-loop μ-loop
+returns c =
+    c .before .loop .inv .1 ∙
+    ap (λ (n : ℕ). every n (λ k. leb (natAbs (flux (c .before .before .args .fluxes .now) k)) (c .before .before .args .limit .0))) (omega arith)
+
+pub fluxes-fit-spec : {M : Type 1} → statement M
+fluxes-fit-spec =
+    tie.close
+    (tie.spec
+    Inv-loop
+    μ-loop
+    loop-holds
+    mul-f
+    shared-slice-copy-out-f
+    flux-fits-requires
+    add-i
+    loop-less
+    loop-again
+    returns)
