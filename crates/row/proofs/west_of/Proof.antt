@@ -6,22 +6,16 @@ use Rattle.model.specs.Laws.Ring.{west-first, west-inner}
 use borrow.Author.Needs.{needs}
 use Rattle.row.proofs.west_of.Statement.{statement}
 use Rattle.row.proofs.west_of.Tie as tie
-use Rattle.row.proofs.west_of.Reads as reads
-use Rattle.row.proofs.west_of.Lts as lts
 
--- src/lib.rt:30:17
 sub-result : tie.Need-sub-result
 sub-result c = search needs
 
--- src/lib.rt:30:32
 sub-result-2 : tie.Need-sub-result-2
 sub-result-2 c = search needs
 
--- src/lib.rt:26:1
 returns : tie.Need-returns
 returns c = (sym (west-first (c .before .args .w) (c .before .args .i) (search needs)), omega arith)
 
--- src/lib.rt:26:1
 returns-2 : tie.Need-returns-2
 returns-2 c = (sym (west-inner (c .before .args .w) (c .before .args .i) (search needs)), omega arith)
 
