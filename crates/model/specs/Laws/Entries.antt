@@ -1,16 +1,18 @@
 -- Lists as a loop fills them: what holds of the entries set so far, and of those not set yet.
 -- Assumes nothing.
-use Prim.Native.Nat.{ℕ, _+_, _≤_, _<_}
-use mathlib.Core.List.{List}
+use Prim.Native.Nat.{ℕ, zero, suc, _+_, _≤_, _<_}
+use mathlib.Core.List.{List, [], _∷_, _++_, append-assoc, append-nil}
 use mathlib.Core.Bool.{Bool, true, false}
 use mathlib.Core.Logic.{_⊎_, inl, inr, ⊎-elim}
-use mathlib.Core.Path.{_≡_, refl, sym, subst}
-use native.Mathlib.Nat.{eq-or-lt-of-le}
+use mathlib.Core.Path.{_≡_, refl, sym, subst, ap, ap₂, _∙_}
+use native.Mathlib.Nat.{add-zero, zero-add, add-assoc, eq-or-lt-of-le}
+use native.Mathlib.Numerals.{add-one}
 use native.Mathlib.Omega.{arith}
 use borrow.Author.Tests.{ltb-true, ltb-false}
 use lib.Dec.{ltb}
-use lib.ListN.{length, getD, set}
-use lib.Seq.{getD-set-same, getD-set-other}
+use lib.ListN.{length, getD, set, take, drop}
+use lib.Seq.{getD-set-same, getD-set-other, take-append-add, take-append-le, drop-append-add, drop-append-le}
+use Rattle.model.specs.Basic.{written, joined, tabFrom, tab}
 
 module _ {A : Type 0} (d : A) (l : List A) (n : ℕ) (x : A) where
   -- P holds of the entries below n, and of the one that is set at n
@@ -32,3 +34,29 @@ below-or-not k n = go (ltb k n) refl
     go : (b : Bool) → ltb k n ≡ b → (k < n) ⊎ (n ≤ k)
     go true e = inl (ltb-true k n e)
     go false e = inr (ltb-false k n e)
+
+-- ---- a list of values, and lists joined, with one more at the end
+tab-from-more : {A : Type 0} (i n : ℕ) (f : ℕ → A) → tabFrom i (suc n) f ≡ tabFrom i n f ++ (f (i + n) ∷ [])
+unfolding tabFrom
+tab-from-more i zero f = rw add-zero
+tab-from-more i (suc n) f = ap (λ (l : List _). f i ∷ l) (tab-from-more (suc i) n f ∙ ap (λ (k : ℕ). tabFrom (suc i) n f ++ (f k ∷ [])) (omega arith))
+
+pub tab-more : {A : Type 0} (n : ℕ) (f : ℕ → A) → tab (n + 1) f ≡ tab n f ++ (f n ∷ [])
+tab-more n f = rw add-one (tab-from-more 0 n f ∙ ap (λ (k : ℕ). tab n f ++ (f k ∷ [])) (zero-add n))
+
+joined-append : (xs ys : List (List ℕ)) → joined (xs ++ ys) ≡ joined xs ++ joined ys
+unfolding joined
+joined-append [] ys = refl
+joined-append (x ∷ xs) ys = ap (λ (l : List ℕ). x ++ l) (joined-append xs ys) ∙ sym (append-assoc x (joined xs) (joined ys))
+
+pub joined-more : (n : ℕ) (f : ℕ → List ℕ) → joined (tab (n + 1) f) ≡ joined (tab n f) ++ f n
+unfolding joined
+joined-more n f = ap joined (tab-more n f) ∙ joined-append (tab n f) (f n ∷ []) ∙ ap (λ (l : List ℕ). joined (tab n f) ++ l) (append-nil (f n))
+
+-- a part written in the middle one of three lists
+pub written-middle : (a g r new : List ℕ) (first : ℕ) → first + length new ≤ length g → written (a ++ (g ++ r)) (length a + first) new ≡ a ++ (written g first new ++ r)
+written-middle a g r new first h =
+    let front : take (length a + first) (a ++ (g ++ r)) ≡ a ++ take first g = take-append-add a (g ++ r) first ∙ ap (λ (l : List ℕ). a ++ l) (take-append-le first g r (omega arith)) in
+    let back : drop (length a + first + length new) (a ++ (g ++ r)) ≡ drop (first + length new) g ++ r =
+    ap (λ (k : ℕ). drop k (a ++ (g ++ r))) (add-assoc (length a) first (length new)) ∙ drop-append-add a (g ++ r) (first + length new) ∙ drop-append-le (first + length new) g r h in
+    ap₂ (λ (x y : List ℕ). x ++ new ++ y) front back ∙ simp append-assoc

@@ -1,0 +1,47 @@
+// The zonal sweep of one row in one layer.
+ghost use mathlib.Core.Path.{_≡_};
+ghost use Prim.Native.Nat.{ℕ, _+_, _*_, _≤_, _<_};
+ghost use Rattle.zonal.specs.Rows.{RowsFit, AreRows, storedRows};
+use row::load_gas;
+use row::store_gas;
+use units::Tracer;
+
+// The row of each of the first n tracers, from its part of the lent amounts: tracer t's starts at `first` past t·K·C.
+fn load_rows(tracers: &[u32], first: usize, cells: usize, w: usize, n: usize) -> [[Tracer; 72]; 8]
+    requires { ⌜ RowsFit (now tracers) first cells w n ⌝ }
+    ensures { λ r. ⌜ AreRows (now (tracers .entry)) first cells w n r ⌝ }
+{
+    let none = [Tracer(0); 72];
+    let mut rows = [none; 8];
+    let mut t = 0;
+    while t < n {
+        let a = t * cells + first;
+        let e = a + w;
+        let r = load_gas(&tracers[a..e]);
+        rows[t] = r;
+        t += 1;
+    }
+    rows
+}
+
+// Writes the row of each of the first n tracers back to its part.
+fn store_rows(
+    rows: [[Tracer; 72]; 8],
+    tracers: &mut [u32],
+    first: usize,
+    cells: usize,
+    w: usize,
+    n: usize,
+)
+    requires { ⌜ RowsFit (now tracers) first cells w n ⌝ }
+    ensures { λ r. ⌜ now (tracers .exit) ≡ storedRows (now (tracers .entry)) first cells w n rows ⌝ }
+{
+    let mut t = 0;
+    while t < n {
+        let a = t * cells + first;
+        let e = a + w;
+        let r = rows[t];
+        store_gas(r, &mut tracers[a..e]);
+        t += 1;
+    }
+}
