@@ -1,9 +1,11 @@
 -- The code's grid and a call's world as the model's, and what place 1 tells of the grid.
 -- Assumes nothing.
-use Prim.Native.Nat.{ℕ, _≤_}
+use Prim.Native.Nat.{ℕ, suc, _+_, _*_, _≤_, _<_}
 use mathlib.Core.List.{List}
 use mathlib.Core.Path.{_≡_}
 use mathlib.Core.Bool.{Bool, true, _&&_, and-eq-true-iff}
+use native.Mathlib.Nat.{mul-le-mul-right}
+use native.Mathlib.Omega.{arith}
 use borrow.Author.Tests.{leb-true}
 use lib.Dec.{leb}
 use Rattle.model.specs.World as model
@@ -27,6 +29,27 @@ pub record InRange (g : declared.Grid) : Type 0 where
   pub highK : g .k ≤ 32
   pub lowN : 1 ≤ g .n
   pub highN : g .n ≤ 8
+
+-- layer k, and row r of layer k, are there
+pub record LayerThere (g : declared.Grid) (k : ℕ) : Type 0 where
+  pub range : InRange g
+  pub layer : k < g .k
+
+pub record RowThere (g : declared.Grid) (k r : ℕ) : Type 0 where
+  pub range : InRange g
+  pub layer : k < g .k
+  pub row : r < g .r
+
+-- a layer's cells, and a row's, lie inside the world's
+pub layer-inside : (g : declared.Grid) (k : ℕ) → k < g .k → model.layerStart (gridOf g) k + model.layerCells (gridOf g) ≤ model.worldCells (gridOf g)
+layer-inside g k h =
+    let below : suc k * model.layerCells (gridOf g) ≤ g .k * model.layerCells (gridOf g) = mul-le-mul-right (model.layerCells (gridOf g)) h in
+    omega arith
+
+pub row-inside : (g : declared.Grid) (k r : ℕ) → k < g .k → r < g .r → model.rowStart (gridOf g) k r + g .w ≤ model.worldCells (gridOf g)
+row-inside g k r h i =
+    let below : suc r * g .w ≤ g .r * g .w = mul-le-mul-right (g .w) i in
+    omega (arith, layer-inside g k h)
 
 within-true : (low n high : ℕ) → leb low n && leb n high ≡ true → (low ≤ n) × (n ≤ high)
 within-true low n high e =

@@ -1,9 +1,9 @@
 // Air units, tracer units, mismatches, the grid, and the answer of a call.
 ghost use mathlib.Core.Path.{_≡_};
-ghost use Prim.Native.Nat.{_≤_};
-ghost use Rattle.model.specs.World.{layerCells, worldCells};
+ghost use Prim.Native.Nat.{_≤_, _+_};
+ghost use Rattle.model.specs.World.{layerCells, worldCells, layerStart, rowStart};
 ghost use Rattle.model.specs.Step.{gridFits};
-ghost use Rattle.units.specs.Grid.{gridOf, InRange};
+ghost use Rattle.units.specs.Grid.{gridOf, InRange, LayerThere, RowThere};
 ghost use Rattle.units.specs.Answer.{refusalNumber, numberOf, countOf};
 
 // Air units and tracer units are separate counts: an amount of one is never added to an amount of the other.
@@ -114,5 +114,22 @@ pub fn world_cells(g: Grid) -> u32
     ensures { λ c. ⌜ (c ≡ worldCells (gridOf g)) × (c ≤ 101440) ⌝ }
 {
     let k = g.k;
+    k * layer_cells(g)
+}
+
+// Where row r of layer k starts among all cells.
+pub fn row_start(g: Grid, k: u32, r: u32) -> u32
+    requires { ⌜ RowThere g k r ⌝ }
+    ensures { λ a. ⌜ (a ≡ rowStart (gridOf g) k r) × (a + g .w ≤ worldCells (gridOf g)) ⌝ }
+{
+    let w = g.w;
+    k * layer_cells(g) + (1 + r * w)
+}
+
+// Where layer k starts among all cells.
+pub fn layer_start(g: Grid, k: u32) -> u32
+    requires { ⌜ LayerThere g k ⌝ }
+    ensures { λ a. ⌜ (a ≡ layerStart (gridOf g) k) × (a + layerCells (gridOf g) ≤ worldCells (gridOf g)) ⌝ }
+{
     k * layer_cells(g)
 }
