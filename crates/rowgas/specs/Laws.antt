@@ -1,0 +1,112 @@
+-- What the loops of a tracer's substep need: a row's columns as the cells of the ring, and what each may give.
+-- Assumes nothing.
+use Prim.Native.Nat.{ℕ, _+_, _-_, _*_, _≤_, _<_}
+use mathlib.Core.List.{List}
+use mathlib.Core.Bool.{true}
+use mathlib.Core.Path.{_≡_, refl, sym, ap, ap₂, _∙_}
+use native.Mathlib.Nat.{le-trans}
+use native.Mathlib.Omega.{arith}
+use lib.ListN.{getD}
+use Rattle.units.specs.declared.Air.{Air}
+use Rattle.units.specs.declared.Tracer.{Tracer}
+use Rattle.units.specs.declared.Mismatch as code
+use Rattle.row.specs.declared.Flows.{Flows}
+use Rattle.rowgas.specs.declared.Pieces.{Pieces}
+use Rattle.model.specs.Limits.{airLimit, totalLimit}
+use Rattle.model.specs.Basic.{at, sum}
+use Rattle.model.specs.World.{airFits}
+use Rattle.model.specs.Scheme.{Mismatch, ratio, mismatch, highPiece, lowPiece}
+use Rattle.model.specs.Sweep.{Flow, ring, eastOf, westOf, leaving, entering, afterFlow, cellRatio, cellMismatch, pieces}
+use Rattle.model.specs.Laws.Basic.{at-tab, tab-ext, sum-tab, term-le-sum}
+use Rattle.model.specs.Laws.Scheme.{mismatch-twice}
+use Rattle.model.specs.Laws.Ring.{west-in, east-in, ring-regular}
+use Rattle.model.specs.Laws.Substep.{AirIn, Covers, air-bounds, allowed-is, at-after-flow, balance, total-after-flow, piece-up, piece-down, pieces-covered, gas-total-after-flow}
+use Rattle.scheme.specs.Leaves.{mismatchOf, Giver, IsMismatch}
+use Rattle.row.specs.Row.{airAt, gasAt, airRow, gasRow, flowOf}
+use Rattle.rowgas.specs.Gas.{Columns, mismatchAt, AreRatios, AreMismatches, Givers, ArePieces, pieceFlow, Exchange, Gives, StepNeed, stepped, IsStep}
+
+-- ---- the ring's cells
+module _ (w : ℕ) where
+  leaving-column : (flow : Flow) (k : ℕ) → leaving (ring w) flow k ≡ flow .toLow (westOf w k) + flow .toHigh k
+  unfolding ring leaving
+  leaving-column flow k = refl
+
+  west-of-east : (k : ℕ) → k < w → westOf w (eastOf w k) ≡ k
+  unfolding ring
+  west-of-east k h = ring-regular w .highHas k h
+
+  mismatch-column : (air gas : List ℕ) (k : ℕ) → cellMismatch (ring w) air gas k ≡ mismatch (cellRatio air gas (westOf w k)) (cellRatio air gas k) (cellRatio air gas (eastOf w k))
+  unfolding ring cellMismatch
+  mismatch-column air gas k = refl
+
+  high-column : (flow : Flow) (air gas : List ℕ) (k : ℕ) → pieces (ring w) flow air gas .toHigh k ≡ highPiece (cellMismatch (ring w) air gas k) (at air k) (at gas k) (flow .toHigh k)
+  unfolding ring
+  high-column flow air gas k = piece-up (ring w) flow air gas k k refl
+
+  low-column : (flow : Flow) (air gas : List ℕ) (k e : ℕ) → eastOf w k ≡ e → pieces (ring w) flow air gas .toLow k ≡ lowPiece (cellMismatch (ring w) air gas e) (at air e) (at gas e) (flow .toLow k)
+  unfolding ring
+  low-column flow air gas k e east = piece-down (ring w) flow air gas k e east
+
+-- ---- a row's ratios and mismatches
+module _ (w : ℕ) (air : List Air) (gas : List Tracer) where
+  row-ratio : (k : ℕ) → k < w → cellRatio (airRow w air) (gasRow w gas) k ≡ ratio (airAt air k) (gasAt gas k)
+  row-ratio k h = ap₂ ratio (at-tab w (airAt air) k h) (at-tab w (gasAt gas) k h)
+
+  -- the mismatches of the row's ratios are the model's
+  pub row-mismatches : (q : List ℕ) (d : List code.Mismatch) → AreRatios w air gas q → AreMismatches w q d → (k : ℕ) → k < w → mismatchOf (mismatchAt d k) ≡ cellMismatch (ring w) (airRow w air) (gasRow w gas) k
+  row-mismatches q d ratios mismatches k h =
+      mismatches .each k h .is ∙
+      (λ i. mismatch (own (westOf w k) (west-in w k h) i) (own k h i) (own (eastOf w k) (east-in w k h) i)) ∙
+      sym (mismatch-column w (airRow w air) (gasRow w gas) k)
+    where
+      own : (j : ℕ) → j < w → at q j ≡ cellRatio (airRow w air) (gasRow w gas) j
+      own j p = ratios .is j p ∙ sym (row-ratio j p)
+
+-- ---- what a column gives
+amount-le : (w : ℕ) (gas : List Tracer) → sum w (at (gasRow w gas)) ≤ totalLimit → (k : ℕ) → k < w → gasAt gas k ≤ totalLimit
+amount-le w gas total k h = le-trans (term-le-sum w (gasAt gas) k h) (rw (sum-tab w (gasAt gas)) at total)
+
+module _ {w : ℕ} {air : List Air} {gas : List Tracer} {d : List code.Mismatch} {f : Flows} (g : Givers w air gas d f) (k : ℕ) (h : k < w) where
+  mismatch-small : mismatchAt d k .size ≤ 2 * ratio (airAt air k) (gasAt gas k)
+  mismatch-small =
+      rw (ap (λ (D : Mismatch). D .size) (g .mismatch k h ∙ mismatch-column w (airRow w air) (gasRow w gas) k), ← row-ratio w air gas k h)
+      (mismatch-twice _ (cellRatio (airRow w air) (gasRow w gas) k) _)
+
+  room : airAt (f .«to_low») (westOf w k) + airAt (f .«to_high») k ≤ airAt air k
+  unfolding ring leaving
+  room = rw (at-tab w (airAt air) k h) at (g .covers k h)
+
+  -- m units of the column's air
+  giver : (m : Air) → m .0 ≤ airAt air k → Giver (mismatchAt d k) (getD air k (record { 0 = 0 })) (getD gas k (record { 0 = 0 })) m
+  giver m part =
+      let fits = air-bounds (airAt air k) (rw (at-tab w (airAt air) k h) at (g .airIn k h)) in
+      record { some = fits .0; air = fits .1; tracer = amount-le w gas (g .total) k h; part = part; small = mismatch-small }
+
+  -- the model's piece, from the column's own numbers
+  piece-of : (P : Mismatch → ℕ → ℕ → ℕ → ℕ) (m : ℕ) → P (mismatchOf (mismatchAt d k)) (airAt air k) (gasAt gas k) m ≡ P (cellMismatch (ring w) (airRow w air) (gasRow w gas) k) (at (airRow w air) k) (at (gasRow w gas) k) m
+  piece-of P m = λ i. P (g .mismatch k h i) (sym (at-tab w (airAt air) k h) i) (sym (at-tab w (gasAt gas) k h) i) m
+
+-- at face k: column k gives from its high end, and the column east of it, column e, from its low end
+module _ {w : ℕ} {air : List Air} {gas : List Tracer} {d : List code.Mismatch} {f : Flows} (g : Givers w air gas d f) (k : ℕ) (h : k < w) where
+  pub gives-high : Giver (mismatchAt d k) (getD air k (record { 0 = 0 })) (getD gas k (record { 0 = 0 })) (getD (f .«to_high») k (record { 0 = 0 }))
+  gives-high = giver g k h (getD (f .«to_high») k (record { 0 = 0 })) (omega (arith, room g k h))
+
+  pub high-is : highPiece (mismatchOf (mismatchAt d k)) (airAt air k) (gasAt gas k) (airAt (f .«to_high») k) ≡ pieces (ring w) (flowOf f) (airRow w air) (gasRow w gas) .toHigh k
+  high-is = piece-of g k h highPiece (airAt (f .«to_high») k) ∙ sym (high-column w (flowOf f) (airRow w air) (gasRow w gas) k)
+
+  module _ (e : ℕ) (east : e ≡ eastOf w k) where
+    inside : e < w
+    inside = rw east (east-in w k h)
+
+    low-room : airAt (f .«to_low») k ≤ airAt air e
+    low-room =
+        let west : westOf w e ≡ k = rw east (west-of-east w k h) in
+        omega (arith, rw west at (room g e inside))
+
+    pub gives-low : Giver (mismatchAt d e) (getD air e (record { 0 = 0 })) (getD gas e (record { 0 = 0 })) (getD (f .«to_low») k (record { 0 = 0 }))
+    gives-low = giver g e inside (getD (f .«to_low») k (record { 0 = 0 })) low-room
+
+    pub low-is : lowPiece (mismatchOf (mismatchAt d e)) (airAt air e) (gasAt gas e) (airAt (f .«to_low») k) ≡ pieces (ring w) (flowOf f) (airRow w air) (gasRow w gas) .toLow k
+    low-is =
+        piece-of g e inside lowPiece (airAt (f .«to_low») k) ∙
+        sym (low-column w (flowOf f) (airRow w air) (gasRow w gas) k e (sym east))

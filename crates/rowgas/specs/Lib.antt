@@ -1,0 +1,2 @@
+pub mod Gas
+pub mod Laws

@@ -1,0 +1,105 @@
+// A tracer's amounts in a row through one substep, and all tracers of a row.
+// Every piece is taken into an array before any amount changes.
+ghost use mathlib.Core.Path.{_≡_};
+ghost use Prim.Native.Nat.{ℕ, _+_, _-_, _≤_, _<_};
+ghost use Rattle.model.specs.Scheme.{highPiece, lowPiece};
+ghost use Rattle.model.specs.Sweep.{ring, afterFlow};
+ghost use Rattle.scheme.specs.Leaves.{mismatchOf, Giver, IsPiece};
+ghost use Rattle.row.specs.Row.{gasRow};
+ghost use Rattle.rowgas.specs.Gas.{HasAir, AreRatios, Columns, AreMismatches, Givers, ArePieces, pieceFlow, Exchange, Gives, StepNeed, IsStep, StepsNeed, AreSteps};
+use row::Flows;
+use row::east_of;
+use row::west_of;
+use scheme::high_piece;
+use scheme::low_piece;
+use scheme::mismatch;
+use scheme::ratio;
+use units::Air;
+use units::Mismatch;
+use units::Tracer;
+
+// The ratio of each column; 0 past the row.
+pub fn ratios(air: [Air; 72], gas: [Tracer; 72], w: usize) -> [u64; 72]
+    requires { ⌜ HasAir w air ⌝ }
+    ensures { λ r. ⌜ AreRatios w air gas r ⌝ }
+{
+    let mut q = [0u64; 72];
+    let mut i = 0;
+    while i < w {
+        let m = air[i];
+        let t = gas[i];
+        q[i] = ratio(m, t);
+        i += 1;
+    }
+    q
+}
+
+// The mismatch of each column with its two neighbours.
+pub fn mismatches(q: [u64; 72], w: usize) -> [Mismatch; 72]
+    requires { ⌜ Columns w ⌝ }
+    ensures { λ r. ⌜ AreMismatches w q r ⌝ }
+{
+    let none = Mismatch {
+        size: 0,
+        positive: true,
+    };
+    let mut d = [none; 72];
+    let mut i = 0;
+    while i < w {
+        let low = west_of(w, i);
+        let high = east_of(w, i);
+        d[i] = mismatch(q[low], q[i], q[high]);
+        i += 1;
+    }
+    d
+}
+
+// The piece from a column's high end; none where no air passes.
+fn high_given(d: Mismatch, have: Air, t: Tracer, m: Air) -> Tracer
+    requires { ⌜ Giver d have t m ⌝ }
+    ensures { λ p. ⌜ p .0 ≡ highPiece (mismatchOf d) (have .0) (t .0) (m .0) ⌝ }
+{
+    if m.0 == 0 {
+        Tracer(0)
+    } else {
+        high_piece(d, have, t, m)
+    }
+}
+
+// The piece from a column's low end.
+fn low_given(d: Mismatch, have: Air, t: Tracer, m: Air) -> Tracer
+    requires { ⌜ Giver d have t m ⌝ }
+    ensures { λ p. ⌜ p .0 ≡ lowPiece (mismatchOf d) (have .0) (t .0) (m .0) ⌝ }
+{
+    if m.0 == 0 {
+        Tracer(0)
+    } else {
+        low_piece(d, have, t, m)
+    }
+}
+
+// What passes each face of a tracer towards its high side and towards its low side; 0 past the row's faces.
+pub struct Pieces {
+    pub to_high: [Tracer; 72],
+    pub to_low: [Tracer; 72],
+}
+
+// The pieces through each face i: from column i's high end, and from the low end of the column east of it.
+pub fn pieces_of(air: [Air; 72], gas: [Tracer; 72], d: [Mismatch; 72], f: Flows, w: usize) -> Pieces
+    requires { ⌜ Givers w air gas d f ⌝ }
+    ensures { λ p. ⌜ ArePieces w air gas f p ⌝ }
+{
+    let mut high = [Tracer(0); 72];
+    let mut low = [Tracer(0); 72];
+    let mut i = 0;
+    while i < w {
+        let east = east_of(w, i);
+        high[i] = high_given(d[i], air[i], gas[i], f.to_high[i]);
+        low[i] = low_given(d[east], air[east], gas[east], f.to_low[i]);
+        i += 1;
+    }
+    Pieces {
+        to_high: high,
+        to_low: low,
+    }
+}
