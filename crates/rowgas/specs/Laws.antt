@@ -20,10 +20,10 @@ use Rattle.model.specs.Sweep.{Flow, ring, eastOf, westOf, leaving, entering, af
 use Rattle.model.specs.Laws.Basic.{at-tab, tab-ext, sum-tab, term-le-sum}
 use Rattle.model.specs.Laws.Scheme.{mismatch-twice}
 use Rattle.model.specs.Laws.Ring.{west-in, east-in, ring-regular}
-use Rattle.model.specs.Laws.Substep.{AirIn, Covers, air-bounds, allowed-is, at-after-flow, balance, total-after-flow, piece-up, piece-down, pieces-covered, gas-total-after-flow}
+use Rattle.model.specs.Laws.Substep.{AirIn, Covers, air-bounds, allowed-is, length-after-flow, at-after-flow, balance, total-after-flow, piece-up, piece-down, pieces-covered, gas-total-after-flow}
 use Rattle.scheme.specs.Leaves.{mismatchOf, Giver, IsMismatch}
-use Rattle.row.specs.Row.{airAt, gasAt, airRow, gasRow, flowOf}
-use Rattle.rowgas.specs.Gas.{Columns, mismatchAt, AreRatios, AreMismatches, Givers, ArePieces, pieceFlow, Exchange, Gives, StepNeed, stepped, IsStep}
+use Rattle.row.specs.Row.{airAt, gasAt, airRow, gasRow, flowOf, gas-row-is}
+use Rattle.rowgas.specs.Gas.{Columns, HasAir, mismatchAt, AreRatios, AreMismatches, Givers, ArePieces, pieceFlow, Exchange, Gives, StepNeed, stepped, IsStep}
 
 -- ---- the ring's cells
 module _ (w : ℕ) where
@@ -110,3 +110,101 @@ module _ {w : ℕ} {air : List Air} {gas : List Tracer} {d : List code.Mismatch}
     low-is =
         piece-of g e inside lowPiece (airAt (f .«to_low») k) ∙
         sym (low-column w (flowOf f) (airRow w air) (gasRow w gas) k e (sym east))
+
+-- ---- what a column has afterwards
+module _ {w : ℕ} {gas : List Tracer} {p : Pieces} (g : Gives w gas p) (k : ℕ) (h : k < w) where
+  after : List ℕ
+  after = afterFlow (ring w) (pieceFlow p) (gasRow w gas)
+
+  own : at (gasRow w gas) k ≡ gasAt gas k
+  own = at-tab w (gasAt gas) k h
+
+  row-after-le : at after k ≤ totalLimit
+  unfolding after ring
+  row-after-le =
+      le-trans (term-le-sum w (at after) k h) (rw (total-after-flow (ring w) (pieceFlow p) (gasRow w gas) (g .covers) (ring-regular w)) (g .total))
+
+  module _ (west : ℕ) (is : west ≡ westOf w k) where
+    pub exchange : Exchange (gasAt gas k) (gasAt (p .«to_high») west + gasAt (p .«to_low») k) (gasAt (p .«to_low») west + gasAt (p .«to_high») k)
+    unfolding after ring leaving
+    exchange =
+        rw is
+        (record {
+          gives = rw own at (g .covers k h);
+          has = omega (arith, balance (ring w) (pieceFlow p) (gasRow w gas) (g .covers) k h, own, row-after-le);
+        })
+
+    pub column-after : gasAt gas k + (gasAt (p .«to_high») west + gasAt (p .«to_low») k) - (gasAt (p .«to_low») west + gasAt (p .«to_high») k) ≡ at (afterFlow (ring w) (pieceFlow p) (gasRow w gas)) k
+    unfolding ring leaving
+    column-after = rw (is, at-after-flow (ring w) (pieceFlow p) (gasRow w gas) k h, own)
+
+-- the whole row afterwards
+pub row-after : (w : ℕ) (gas : List Tracer) (p : Pieces) (r : List Tracer) → ((k : ℕ) → k < w → gasAt r k ≡ at (afterFlow (ring w) (pieceFlow p) (gasRow w gas)) k) → gasRow w r ≡ afterFlow (ring w) (pieceFlow p) (gasRow w gas)
+unfolding ring
+row-after w gas p r same =
+    gas-row-is (afterFlow (ring w) (pieceFlow p) (gasRow w gas)) w r (length-after-flow (ring w) (pieceFlow p) (gasRow w gas)) same
+
+-- ---- a substep
+-- two flows that agree at every face of the row leave the same amounts
+module _ (w : ℕ) (one other : Flow) (high : (k : ℕ) → k < w → one .toHigh k ≡ other .toHigh k) (low : (k : ℕ) → k < w → one .toLow k ≡ other .toLow k) where
+  same-leaving : (k : ℕ) → k < w → leaving (ring w) one k ≡ leaving (ring w) other k
+  unfolding ring leaving
+  same-leaving k h = ap₂ _+_ (low (westOf w k) (west-in w k h)) (high k h)
+
+  same-entering : (k : ℕ) → k < w → entering (ring w) one k ≡ entering (ring w) other k
+  unfolding ring leaving
+  same-entering k h = ap₂ _+_ (high (westOf w k) (west-in w k h)) (low k h)
+
+  same-after : (l : List ℕ) → afterFlow (ring w) one l ≡ afterFlow (ring w) other l
+  unfolding ring afterFlow
+  same-after l =
+      tab-ext w (λ k. at l k + entering (ring w) one k - leaving (ring w) one k) (λ k. at l k + entering (ring w) other k - leaving (ring w) other k)
+      (λ k h. ap₂ (λ (x y : ℕ). at l k + x - y) (same-entering k h) (same-leaving k h))
+
+module _ {w : ℕ} {gas : List Tracer} {air : List Air} {f : Flows} (need : StepNeed w gas air f) where
+  air-covers : Covers (ring w) (flowOf f) (airRow w air)
+  air-covers = allowed-is (ring w) (flowOf f) (airRow w air) (need .permits) .covers
+
+  air-in : AirIn (ring w .cells) (airRow w air)
+  unfolding ring
+  air-in = need .airIn
+
+  pub has-air : HasAir w air
+  has-air =
+      record {
+        fit = need .columns .fit;
+        some = λ k h. air-bounds (airAt air k) (rw (at-tab w (airAt air) k h) at (need .airIn k h)) .0;
+      }
+
+  pub givers : (q : List ℕ) (d : List code.Mismatch) → AreRatios w air gas q → AreMismatches w q d → Givers w air gas d f
+  givers q d ratios mismatches =
+      record {
+        columns = need .columns;
+        airIn = need .airIn;
+        covers = air-covers;
+        total = need .total;
+        mismatch = row-mismatches w air gas q d ratios mismatches;
+      }
+
+  kept : sum w (at (stepped w gas air f)) ≡ sum w (at (gasRow w gas))
+  unfolding ring
+  kept =
+      gas-total-after-flow (ring w) (ring-regular w) (flowOf f) (airRow w air) (gasRow w gas) air-in air-covers
+
+  module _ (p : Pieces) (are : ArePieces w air gas f p) where
+    pub gives : Gives w gas p
+    unfolding ring
+    gives =
+        record {
+          columns = need .columns;
+          covers =
+              λ k h.
+              rw (same-leaving w (pieceFlow p) (pieces (ring w) (flowOf f) (airRow w air) (gasRow w gas)) (are .high) (are .low) k h)
+              (pieces-covered (ring w) (ring-regular w) (flowOf f) (airRow w air) (gasRow w gas) air-in air-covers k h);
+          total = need .total;
+        }
+
+    pub step-is : (r : List Tracer) → gasRow w r ≡ afterFlow (ring w) (pieceFlow p) (gasRow w gas) → IsStep w gas air f r
+    step-is r is =
+        let same = is ∙ same-after w (pieceFlow p) (pieces (ring w) (flowOf f) (airRow w air) (gasRow w gas)) (are .high) (are .low) (gasRow w gas) in
+        record { is = same; total = rw same kept }

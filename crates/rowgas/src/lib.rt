@@ -103,3 +103,74 @@ pub fn pieces_of(air: [Air; 72], gas: [Tracer; 72], d: [Mismatch; 72], f: Flows,
         to_low: low,
     }
 }
+
+// A column's amount with what enters it and without what leaves it.
+fn exchanged(
+    have: Tracer,
+    from_west: Tracer,
+    from_east: Tracer,
+    to_west: Tracer,
+    to_east: Tracer,
+) -> Tracer
+    requires { ⌜ Exchange (have .0) («from_west» .0 + «from_east» .0) («to_west» .0 + «to_east» .0) ⌝ }
+    ensures { λ r. ⌜ r .0 ≡ have .0 + («from_west» .0 + «from_east» .0) - («to_west» .0 + «to_east» .0) ⌝ }
+{
+    let enters = (from_west.0 as u64) + (from_east.0 as u64);
+    let leaves = (to_west.0 as u64) + (to_east.0 as u64);
+    let after = (have.0 as u64) + enters - leaves;
+    Tracer(after as u32)
+}
+
+// A row's amounts after each piece was taken from its giver and added to its receiver.
+fn passed_on(gas: [Tracer; 72], p: Pieces, w: usize) -> [Tracer; 72]
+    requires { ⌜ Gives w gas p ⌝ }
+    ensures { λ r. ⌜ gasRow w r ≡ afterFlow (ring w) (pieceFlow p) (gasRow w gas) ⌝ }
+{
+    let mut after = [Tracer(0); 72];
+    let mut i = 0;
+    while i < w {
+        let west = west_of(w, i);
+        after[i] = exchanged(
+            gas[i],
+            p.to_high[west],
+            p.to_low[i],
+            p.to_low[west],
+            p.to_high[i],
+        );
+        i += 1;
+    }
+    after
+}
+
+// A tracer's amounts in a row after one substep.
+pub fn step_gas(gas: [Tracer; 72], air: [Air; 72], f: Flows, w: usize) -> [Tracer; 72]
+    requires { ⌜ StepNeed w gas air f ⌝ }
+    ensures { λ r. ⌜ IsStep w gas air f r ⌝ }
+{
+    let q = ratios(air, gas, w);
+    let d = mismatches(q, w);
+    let p = pieces_of(air, gas, d, f, w);
+    passed_on(gas, p, w)
+}
+
+// The first n tracers of a row after one substep; the others stay.
+pub fn step_rows(
+    rows: [[Tracer; 72]; 8],
+    air: [Air; 72],
+    f: Flows,
+    w: usize,
+    n: usize,
+) -> [[Tracer; 72]; 8]
+    requires { ⌜ StepsNeed w n rows air f ⌝ }
+    ensures { λ r. ⌜ AreSteps w n rows air f r ⌝ }
+{
+    let mut after = rows;
+    let mut t = 0;
+    while t < n {
+        let row = after[t];
+        let next = step_gas(row, air, f, w);
+        after[t] = next;
+        t += 1;
+    }
+    after
+}
