@@ -103,5 +103,7 @@ pub record StepsNeed (w n : ℕ) (rows : List (List Tracer)) (air : List Air) (f
   pub permits : allowed (ring w) (flowOf f) (airRow w air) ≡ true
   pub total : (t : ℕ) → t < n → sum w (at (gasRow w (rowOf rows t))) ≤ totalLimit
 
+-- the first n tracers are stepped, the others are as they were
 pub record AreSteps (w n : ℕ) (rows : List (List Tracer)) (air : List Air) (f : Flows) (r : List (List Tracer)) : Type 0 where
   pub each : (t : ℕ) → t < n → IsStep w (rowOf rows t) air f (rowOf r t)
+  pub others : (t : ℕ) → n ≤ t → rowOf r t ≡ rowOf rows t

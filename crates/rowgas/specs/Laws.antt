@@ -2,7 +2,6 @@
 -- Assumes nothing.
 use Prim.Native.Nat.{ℕ, _+_, _-_, _*_, _≤_, _<_}
 use mathlib.Core.List.{List}
-use mathlib.Core.Bool.{true}
 use mathlib.Core.Path.{_≡_, refl, sym, ap, ap₂, _∙_}
 use native.Mathlib.Nat.{le-trans}
 use native.Mathlib.Omega.{arith}
@@ -12,18 +11,17 @@ use Rattle.units.specs.declared.Tracer.{Tracer}
 use Rattle.units.specs.declared.Mismatch as code
 use Rattle.row.specs.declared.Flows.{Flows}
 use Rattle.rowgas.specs.declared.Pieces.{Pieces}
-use Rattle.model.specs.Limits.{airLimit, totalLimit}
+use Rattle.model.specs.Limits.{totalLimit}
 use Rattle.model.specs.Basic.{at, sum}
-use Rattle.model.specs.World.{airFits}
 use Rattle.model.specs.Scheme.{Mismatch, ratio, mismatch, highPiece, lowPiece}
 use Rattle.model.specs.Sweep.{Flow, ring, eastOf, westOf, leaving, entering, afterFlow, cellRatio, cellMismatch, pieces}
 use Rattle.model.specs.Laws.Basic.{at-tab, tab-ext, sum-tab, term-le-sum}
 use Rattle.model.specs.Laws.Scheme.{mismatch-twice}
 use Rattle.model.specs.Laws.Ring.{west-in, east-in, ring-regular}
 use Rattle.model.specs.Laws.Substep.{AirIn, Covers, air-bounds, allowed-is, length-after-flow, at-after-flow, balance, total-after-flow, piece-up, piece-down, pieces-covered, gas-total-after-flow}
-use Rattle.scheme.specs.Leaves.{mismatchOf, Giver, IsMismatch}
+use Rattle.scheme.specs.Leaves.{mismatchOf, Giver}
 use Rattle.row.specs.Row.{airAt, gasAt, airRow, gasRow, flowOf, gas-row-is}
-use Rattle.rowgas.specs.Gas.{Columns, HasAir, mismatchAt, AreRatios, AreMismatches, Givers, ArePieces, pieceFlow, Exchange, Gives, StepNeed, stepped, IsStep}
+use Rattle.rowgas.specs.Gas.{HasAir, mismatchAt, AreRatios, AreMismatches, Givers, ArePieces, pieceFlow, Exchange, Gives, StepNeed, stepped, IsStep, rowOf, StepsNeed, AreSteps}
 
 -- ---- the ring's cells
 module _ (w : ℕ) where
@@ -208,3 +206,7 @@ module _ {w : ℕ} {gas : List Tracer} {air : List Air} {f : Flows} (need : Step
     step-is r is =
         let same = is ∙ same-after w (pieceFlow p) (pieces (ring w) (flowOf f) (airRow w air) (gasRow w gas)) (are .high) (are .low) (gasRow w gas) in
         record { is = same; total = rw same kept }
+
+-- every tracer's total stays within the limit, as the next substep needs it
+pub totals-again : {w n : ℕ} {rows r : List (List Tracer)} {air : List Air} {f : Flows} → StepsNeed w n rows air f → AreSteps w n rows air f r → (t : ℕ) → t < n → sum w (at (gasRow w (rowOf r t))) ≤ totalLimit
+totals-again need steps t h = rw (steps .each t h .total) (need .total t h)

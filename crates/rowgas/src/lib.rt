@@ -1,10 +1,10 @@
 // A tracer's amounts in a row through one substep, and all tracers of a row.
 // Every piece is taken into an array before any amount changes.
 ghost use mathlib.Core.Path.{_≡_};
-ghost use Prim.Native.Nat.{ℕ, _+_, _-_, _≤_, _<_};
+ghost use Prim.Native.Nat.{_+_, _-_, _<_};
 ghost use Rattle.model.specs.Scheme.{highPiece, lowPiece};
 ghost use Rattle.model.specs.Sweep.{ring, afterFlow};
-ghost use Rattle.scheme.specs.Leaves.{mismatchOf, Giver, IsPiece};
+ghost use Rattle.scheme.specs.Leaves.{mismatchOf, Giver};
 ghost use Rattle.row.specs.Row.{gasRow};
 ghost use Rattle.rowgas.specs.Gas.{HasAir, AreRatios, Columns, AreMismatches, Givers, ArePieces, pieceFlow, Exchange, Gives, StepNeed, IsStep, StepsNeed, AreSteps};
 use row::Flows;
@@ -155,7 +155,7 @@ pub fn step_gas(gas: [Tracer; 72], air: [Air; 72], f: Flows, w: usize) -> [Trace
 
 // The first n tracers of a row after one substep; the others stay.
 pub fn step_rows(
-    rows: [[Tracer; 72]; 8],
+    mut rows: [[Tracer; 72]; 8],
     air: [Air; 72],
     f: Flows,
     w: usize,
@@ -164,13 +164,12 @@ pub fn step_rows(
     requires { ⌜ StepsNeed w n rows air f ⌝ }
     ensures { λ r. ⌜ AreSteps w n rows air f r ⌝ }
 {
-    let mut after = rows;
     let mut t = 0;
     while t < n {
-        let row = after[t];
+        let row = rows[t];
         let next = step_gas(row, air, f, w);
-        after[t] = next;
+        rows[t] = next;
         t += 1;
     }
-    after
+    rows
 }

@@ -4,7 +4,6 @@ use Prim.Native.Nat.{ℕ, _-_, _≤_, _<_}
 use mathlib.Core.Path.{_≡_}
 use native.Mathlib.Omega.{arith}
 use lib.ListN.{length}
-use Rattle.units.specs.declared.Mismatch.{Mismatch}
 use Rattle.model.specs.Basic.{at}
 use Rattle.model.specs.Sweep.{eastOf, westOf}
 use Rattle.model.specs.Laws.Entries.{entries-more}
@@ -13,11 +12,6 @@ use Rattle.rowgas.specs.Gas.{mismatchAt}
 use borrow.Author.Needs.{needs}
 use Rattle.rowgas.proofs.mismatches.Statement.{statement}
 use Rattle.rowgas.proofs.mismatches.Tie as tie
-use Rattle.rowgas.proofs.mismatches.Reads as reads
-use Rattle.rowgas.proofs.mismatches.Lts as lts
-use Rattle.row.proofs.east_of.Reads as east-of-reads
-use Rattle.row.proofs.west_of.Reads as west-of-reads
-use Rattle.scheme.proofs.mismatch.Reads as mismatch-reads
 
 abbrev Inv-loop : tie.InvT-loop
 Inv-loop w q d₀ i₀ d i = (i ≤ w) × (length d ≡ 72) × ((k : ℕ) → k < i → IsMismatch (at q (westOf w k)) (at q k) (at q (eastOf w k)) (mismatchAt d k))
@@ -25,63 +19,48 @@ Inv-loop w q d₀ i₀ d i = (i ≤ w) × (length d ≡ 72) × ((k : ℕ) → k 
 abbrev μ-loop : tie.MeasureT-loop
 μ-loop w q d₀ i₀ d i = w - i
 
--- src/lib.rt:48:5
 loop-holds : tie.Need-loop-holds Inv-loop μ-loop
 loop-holds c = (search needs, search needs, λ k h. absurd (omega arith))
 
--- src/lib.rt:49:13
 west-of-requires : tie.Need-west-of-requires Inv-loop μ-loop
 west-of-requires c κs = search needs
 
--- src/lib.rt:50:13
 east-of-requires : tie.Need-east-of-requires Inv-loop μ-loop
 east-of-requires c κs = search needs
 
--- src/lib.rt:51:25
 mul-mismatch : tie.Need-mul-mismatch Inv-loop μ-loop
 mul-mismatch c = search needs
 
--- src/lib.rt:51:25
 array-read-mismatch : tie.Need-array-read-mismatch Inv-loop μ-loop
 array-read-mismatch c = search needs
 
--- src/lib.rt:51:33
 mul-mismatch-2 : tie.Need-mul-mismatch-2 Inv-loop μ-loop
 mul-mismatch-2 c = search needs
 
--- src/lib.rt:51:33
 array-read-mismatch-2 : tie.Need-array-read-mismatch-2 Inv-loop μ-loop
 array-read-mismatch-2 c = search needs
 
--- src/lib.rt:51:39
 mul-mismatch-3 : tie.Need-mul-mismatch-3 Inv-loop μ-loop
 mul-mismatch-3 c = search needs
 
--- src/lib.rt:51:39
 array-read-mismatch-3 : tie.Need-array-read-mismatch-3 Inv-loop μ-loop
 array-read-mismatch-3 c = search needs
 
--- src/lib.rt:51:16
 mismatch-requires : tie.Need-mismatch-requires Inv-loop μ-loop
 mismatch-requires c κs = search needs
 
--- src/lib.rt:51:9
 mul-d : tie.Need-mul-d Inv-loop μ-loop
 mul-d c = search needs
 
--- src/lib.rt:51:9
 array-set-from-d : tie.Need-array-set-from-d Inv-loop μ-loop
 array-set-from-d c = search needs
 
--- src/lib.rt:52:9
 add-i : tie.Need-add-i Inv-loop μ-loop
 add-i c = search needs
 
--- src/lib.rt:48:5
 loop-less : tie.Need-loop-less Inv-loop μ-loop
 loop-less c = search needs
 
--- src/lib.rt:48:5
 loop-again : tie.Need-loop-again Inv-loop μ-loop
 loop-again c =
     let w = c .before .before .before .before .before .args .w in
@@ -93,7 +72,6 @@ loop-again c =
       entries-more _ (l .d) (l .i) _ (λ k x. IsMismatch (at q (westOf w k)) (at q k) (at q (eastOf w k)) x) (omega arith) (l .inv .2) own,
     )
 
--- src/lib.rt:38:1
 returns : tie.Need-returns Inv-loop μ-loop
 returns c = record { each = λ k h. c .before .loop .inv .2 k (omega arith) }
 

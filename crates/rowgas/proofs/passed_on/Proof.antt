@@ -13,10 +13,6 @@ use Rattle.rowgas.specs.Laws.{exchange, column-after, row-after}
 use borrow.Author.Needs.{needs}
 use Rattle.rowgas.proofs.passed_on.Statement.{statement}
 use Rattle.rowgas.proofs.passed_on.Tie as tie
-use Rattle.rowgas.proofs.passed_on.Reads as reads
-use Rattle.rowgas.proofs.passed_on.Lts as lts
-use Rattle.row.proofs.west_of.Reads as west-of-reads
-use Rattle.rowgas.proofs.exchanged.Reads as exchanged-reads
 
 abbrev Inv-loop : tie.InvT-loop
 Inv-loop w gas p after₀ i₀ after i =
@@ -27,75 +23,57 @@ Inv-loop w gas p after₀ i₀ after i =
 abbrev μ-loop : tie.MeasureT-loop
 μ-loop w gas p after₀ i₀ after i = w - i
 
--- src/lib.rt:131:5
 loop-holds : tie.Need-loop-holds Inv-loop μ-loop
 loop-holds c = (search needs, search needs, λ k h. absurd (omega arith))
 
--- src/lib.rt:132:13
 west-of-requires : tie.Need-west-of-requires Inv-loop μ-loop
 west-of-requires c κs = search needs
 
--- src/lib.rt:134:13
 mul-exchanged : tie.Need-mul-exchanged Inv-loop μ-loop
 mul-exchanged c = search needs
 
--- src/lib.rt:134:13
 array-copy-out-exchanged : tie.Need-array-copy-out-exchanged Inv-loop μ-loop
 array-copy-out-exchanged c = search needs
 
--- src/lib.rt:135:13
 mul-exchanged-2 : tie.Need-mul-exchanged-2 Inv-loop μ-loop
 mul-exchanged-2 c = search needs
 
--- src/lib.rt:135:13
 element-copy-out-exchanged : tie.Need-element-copy-out-exchanged Inv-loop μ-loop
 element-copy-out-exchanged c = search needs
 
--- src/lib.rt:136:13
 mul-exchanged-3 : tie.Need-mul-exchanged-3 Inv-loop μ-loop
 mul-exchanged-3 c = search needs
 
--- src/lib.rt:136:13
 element-copy-out-exchanged-2 : tie.Need-element-copy-out-exchanged-2 Inv-loop μ-loop
 element-copy-out-exchanged-2 c = search needs
 
--- src/lib.rt:137:13
 mul-exchanged-4 : tie.Need-mul-exchanged-4 Inv-loop μ-loop
 mul-exchanged-4 c = search needs
 
--- src/lib.rt:137:13
 element-copy-out-exchanged-3 : tie.Need-element-copy-out-exchanged-3 Inv-loop μ-loop
 element-copy-out-exchanged-3 c = search needs
 
--- src/lib.rt:138:13
 mul-exchanged-5 : tie.Need-mul-exchanged-5 Inv-loop μ-loop
 mul-exchanged-5 c = search needs
 
--- src/lib.rt:138:13
 element-copy-out-exchanged-4 : tie.Need-element-copy-out-exchanged-4 Inv-loop μ-loop
 element-copy-out-exchanged-4 c = search needs
 
--- src/lib.rt:133:20
 exchanged-requires : tie.Need-exchanged-requires Inv-loop μ-loop
 exchanged-requires c κs = exchange (c .before .before .before .before .before .before .before .before .pre) (c .before .before .before .before .before .before .before .loop .i) (search needs) _ (c .before .before .before .before .before .west-of .ensures .0)
 
--- src/lib.rt:133:9
 mul-after : tie.Need-mul-after Inv-loop μ-loop
 mul-after c = search needs
 
--- src/lib.rt:133:9
 array-set-from-after : tie.Need-array-set-from-after Inv-loop μ-loop
 array-set-from-after c = search needs
 
--- src/lib.rt:140:9
 add-i : tie.Need-add-i Inv-loop μ-loop
 add-i c = search needs
 
--- src/lib.rt:131:5
 loop-less : tie.Need-loop-less Inv-loop μ-loop
 loop-less c = search needs
 
--- src/lib.rt:131:5
 loop-again : tie.Need-loop-again Inv-loop μ-loop
 loop-again c =
     let pre = c .before .before .before .before .before .before .before .before .before .pre in
@@ -107,7 +85,6 @@ loop-again c =
       entries-more _ (l .after) (l .i) _ (λ k x. x .0 ≡ at amounts k) (omega arith) (l .inv .2) (c .exchanged .ensures ∙ column-after pre (l .i) (omega arith) _ (c .before .before .before .before .before .before .west-of .ensures .0)),
     )
 
--- src/lib.rt:125:1
 returns : tie.Need-returns Inv-loop μ-loop
 returns c =
     let a = c .before .before .args in

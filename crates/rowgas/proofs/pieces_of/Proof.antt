@@ -6,17 +6,11 @@ use native.Mathlib.Omega.{arith}
 use lib.ListN.{length}
 use Rattle.model.specs.Sweep.{ring, pieces}
 use Rattle.model.specs.Laws.Entries.{entries-more}
-use Rattle.units.specs.declared.Tracer.{Tracer}
 use Rattle.row.specs.Row.{gasAt, airRow, gasRow, flowOf}
 use Rattle.rowgas.specs.Laws.{gives-high, gives-low, high-is, low-is}
 use borrow.Author.Needs.{needs}
 use Rattle.rowgas.proofs.pieces_of.Statement.{statement}
 use Rattle.rowgas.proofs.pieces_of.Tie as tie
-use Rattle.rowgas.proofs.pieces_of.Reads as reads
-use Rattle.rowgas.proofs.pieces_of.Lts as lts
-use Rattle.row.proofs.east_of.Reads as east-of-reads
-use Rattle.rowgas.proofs.high_given.Reads as high-given-reads
-use Rattle.rowgas.proofs.low_given.Reads as low-given-reads
 
 abbrev Inv-loop : tie.InvT-loop
 Inv-loop w air gas d f high₀ low₀ i₀ high low i =
@@ -29,111 +23,84 @@ Inv-loop w air gas d f high₀ low₀ i₀ high low i =
 abbrev μ-loop : tie.MeasureT-loop
 μ-loop w air gas d f high₀ low₀ i₀ high low i = w - i
 
--- src/lib.rt:95:5
 loop-holds : tie.Need-loop-holds Inv-loop μ-loop
 loop-holds c = (search needs, search needs, search needs, λ k h. absurd (omega arith), λ k h. absurd (omega arith))
 
--- src/lib.rt:96:13
 east-of-requires : tie.Need-east-of-requires Inv-loop μ-loop
 east-of-requires c κs = search needs
 
--- src/lib.rt:97:30
 mul-high-given : tie.Need-mul-high-given Inv-loop μ-loop
 mul-high-given c = search needs
 
--- src/lib.rt:97:30
 array-copy-out-high-given : tie.Need-array-copy-out-high-given Inv-loop μ-loop
 array-copy-out-high-given c = search needs
 
--- src/lib.rt:97:36
 mul-high-given-2 : tie.Need-mul-high-given-2 Inv-loop μ-loop
 mul-high-given-2 c = search needs
 
--- src/lib.rt:97:36
 array-copy-out-high-given-2 : tie.Need-array-copy-out-high-given-2 Inv-loop μ-loop
 array-copy-out-high-given-2 c = search needs
 
--- src/lib.rt:97:44
 mul-high-given-3 : tie.Need-mul-high-given-3 Inv-loop μ-loop
 mul-high-given-3 c = search needs
 
--- src/lib.rt:97:44
 array-copy-out-high-given-3 : tie.Need-array-copy-out-high-given-3 Inv-loop μ-loop
 array-copy-out-high-given-3 c = search needs
 
--- src/lib.rt:97:52
 mul-high-given-4 : tie.Need-mul-high-given-4 Inv-loop μ-loop
 mul-high-given-4 c = search needs
 
--- src/lib.rt:97:52
 element-copy-out-high-given : tie.Need-element-copy-out-high-given Inv-loop μ-loop
 element-copy-out-high-given c = search needs
 
--- src/lib.rt:97:19
 high-given-requires : tie.Need-high-given-requires Inv-loop μ-loop
 high-given-requires c κs = gives-high (c .before .before .before .before .before .before .before .pre) (c .before .before .before .before .before .before .loop .i) (search needs)
 
--- src/lib.rt:97:9
 mul-high : tie.Need-mul-high Inv-loop μ-loop
 mul-high c = search needs
 
--- src/lib.rt:97:9
 array-set-from-high : tie.Need-array-set-from-high Inv-loop μ-loop
 array-set-from-high c = search needs
 
--- src/lib.rt:98:28
 mul-low-given : tie.Need-mul-low-given Inv-loop μ-loop
 mul-low-given c = search needs
 
--- src/lib.rt:98:28
 array-copy-out-low-given : tie.Need-array-copy-out-low-given Inv-loop μ-loop
 array-copy-out-low-given c = search needs
 
--- src/lib.rt:98:37
 mul-low-given-2 : tie.Need-mul-low-given-2 Inv-loop μ-loop
 mul-low-given-2 c = search needs
 
--- src/lib.rt:98:37
 array-copy-out-low-given-2 : tie.Need-array-copy-out-low-given-2 Inv-loop μ-loop
 array-copy-out-low-given-2 c = search needs
 
--- src/lib.rt:98:48
 mul-low-given-3 : tie.Need-mul-low-given-3 Inv-loop μ-loop
 mul-low-given-3 c = search needs
 
--- src/lib.rt:98:48
 array-copy-out-low-given-3 : tie.Need-array-copy-out-low-given-3 Inv-loop μ-loop
 array-copy-out-low-given-3 c = search needs
 
--- src/lib.rt:98:59
 mul-low-given-4 : tie.Need-mul-low-given-4 Inv-loop μ-loop
 mul-low-given-4 c = search needs
 
--- src/lib.rt:98:59
 element-copy-out-low-given : tie.Need-element-copy-out-low-given Inv-loop μ-loop
 element-copy-out-low-given c = search needs
 
--- src/lib.rt:98:18
 low-given-requires : tie.Need-low-given-requires Inv-loop μ-loop
 low-given-requires c κs = gives-low (c .before .before .before .before .before .before .before .before .before .before .before .before .pre) (c .before .before .before .before .before .before .before .before .before .before .before .loop .i) (search needs) _ (c .before .before .before .before .before .before .before .before .before .east-of .ensures .0)
 
--- src/lib.rt:98:9
 mul-low : tie.Need-mul-low Inv-loop μ-loop
 mul-low c = search needs
 
--- src/lib.rt:98:9
 array-set-from-low : tie.Need-array-set-from-low Inv-loop μ-loop
 array-set-from-low c = search needs
 
--- src/lib.rt:99:9
 add-i : tie.Need-add-i Inv-loop μ-loop
 add-i c = search needs
 
--- src/lib.rt:95:5
 loop-less : tie.Need-loop-less Inv-loop μ-loop
 loop-less c = search needs
 
--- src/lib.rt:95:5
 loop-again : tie.Need-loop-again Inv-loop μ-loop
 loop-again c =
     let pre = c .before .before .before .before .before .before .before .before .before .before .before .before .before .pre in
@@ -147,7 +114,6 @@ loop-again c =
       entries-more _ (l .low) (l .i) _ (λ k x. x .0 ≡ given .toLow k) (omega arith) (l .inv .4) (c .low-given .ensures ∙ low-is pre (l .i) (omega arith) _ (c .before .before .before .before .before .before .before .before .before .before .east-of .ensures .0)),
     )
 
--- src/lib.rt:88:1
 returns : tie.Need-returns Inv-loop μ-loop
 returns c = record { high = λ k h. c .before .loop .inv .3 k (omega arith); low = λ k h. c .before .loop .inv .4 k (omega arith) }
 

@@ -11,9 +11,6 @@ use Rattle.row.specs.Row.{airAt, gasAt}
 use borrow.Author.Needs.{needs}
 use Rattle.rowgas.proofs.ratios.Statement.{statement}
 use Rattle.rowgas.proofs.ratios.Tie as tie
-use Rattle.rowgas.proofs.ratios.Reads as reads
-use Rattle.rowgas.proofs.ratios.Lts as lts
-use Rattle.scheme.proofs.ratio.Reads as ratio-reads
 
 abbrev Inv-loop : tie.InvT-loop
 Inv-loop w air gas q₀ i₀ q i = (i ≤ w) × (length q ≡ 72) × ((k : ℕ) → k < i → at q k ≡ ratio (airAt air k) (gasAt gas k))
@@ -21,47 +18,36 @@ Inv-loop w air gas q₀ i₀ q i = (i ≤ w) × (length q ≡ 72) × ((k : ℕ) 
 abbrev μ-loop : tie.MeasureT-loop
 μ-loop w air gas q₀ i₀ q i = w - i
 
--- src/lib.rt:28:5
 loop-holds : tie.Need-loop-holds Inv-loop μ-loop
 loop-holds c = (search needs, search needs, λ k h. omega arith)
 
--- src/lib.rt:29:17
 mul-m : tie.Need-mul-m Inv-loop μ-loop
 mul-m c = search needs
 
--- src/lib.rt:29:17
 array-copy-out-m : tie.Need-array-copy-out-m Inv-loop μ-loop
 array-copy-out-m c = search needs
 
--- src/lib.rt:30:17
 mul-t : tie.Need-mul-t Inv-loop μ-loop
 mul-t c = search needs
 
--- src/lib.rt:30:17
 array-copy-out-t : tie.Need-array-copy-out-t Inv-loop μ-loop
 array-copy-out-t c = search needs
 
--- src/lib.rt:31:16
 ratio-requires : tie.Need-ratio-requires Inv-loop μ-loop
 ratio-requires c κs = c .before .before .before .before .pre .some (c .before .before .before .loop .i) (search needs)
 
--- src/lib.rt:31:9
 mul-q : tie.Need-mul-q Inv-loop μ-loop
 mul-q c = search needs
 
--- src/lib.rt:31:9
 array-write-q : tie.Need-array-write-q Inv-loop μ-loop
 array-write-q c = search needs
 
--- src/lib.rt:32:9
 add-i : tie.Need-add-i Inv-loop μ-loop
 add-i c = search needs
 
--- src/lib.rt:28:5
 loop-less : tie.Need-loop-less Inv-loop μ-loop
 loop-less c = search needs
 
--- src/lib.rt:28:5
 loop-again : tie.Need-loop-again Inv-loop μ-loop
 loop-again c =
     let a = c .before .before .before .before .before .args in
@@ -71,7 +57,6 @@ loop-again c =
       entries-more 0 (l .q) (l .i) _ (λ k x. x ≡ ratio (airAt (a .t1) k) (gasAt (a .t2) k)) (omega arith) (l .inv .2) (c .ratio .ensures),
     )
 
--- src/lib.rt:22:1
 returns : tie.Need-returns Inv-loop μ-loop
 returns c = record { is = λ k h. c .before .loop .inv .2 k (omega arith) }
 
