@@ -20,7 +20,7 @@ use Rattle.model.specs.Laws.Scheme.{mismatch-twice}
 use Rattle.model.specs.Laws.Ring.{west-in, east-in, ring-regular}
 use Rattle.model.specs.Laws.Substep.{AirIn, Covers, air-bounds, allowed-is, length-after-flow, at-after-flow, balance, total-after-flow, piece-up, piece-down, pieces-covered, gas-total-after-flow}
 use Rattle.scheme.specs.Leaves.{mismatchOf, Giver}
-use Rattle.row.specs.Row.{airAt, gasAt, airRow, gasRow, flowOf, gas-row-is}
+use Rattle.row.specs.Row.{airAt, gasAt, airRow, gasRow, flowOf, row-is}
 use Rattle.rowgas.specs.Gas.{HasAir, mismatchAt, AreRatios, AreMismatches, Givers, ArePieces, pieceFlow, Exchange, Gives, StepNeed, stepped, IsStep, rowOf, StepsNeed, AreSteps}
 
 -- ---- the ring's cells
@@ -140,7 +140,7 @@ module _ {w : ℕ} {gas : List Tracer} {p : Pieces} (g : Gives w gas p) (k : ℕ
 pub row-after : (w : ℕ) (gas : List Tracer) (p : Pieces) (r : List Tracer) → ((k : ℕ) → k < w → gasAt r k ≡ at (afterFlow (ring w) (pieceFlow p) (gasRow w gas)) k) → gasRow w r ≡ afterFlow (ring w) (pieceFlow p) (gasRow w gas)
 unfolding ring
 row-after w gas p r same =
-    gas-row-is (afterFlow (ring w) (pieceFlow p) (gasRow w gas)) w r (length-after-flow (ring w) (pieceFlow p) (gasRow w gas)) same
+    row-is (afterFlow (ring w) (pieceFlow p) (gasRow w gas)) w (gasAt r) (length-after-flow (ring w) (pieceFlow p) (gasRow w gas)) same
 
 -- ---- a substep
 -- two flows that agree at every face of the row leave the same amounts
