@@ -1,0 +1,114 @@
+use Rattle.rowair.proofs.step_air.Statement.{statement}
+use Rattle.rowair.proofs.step_air.Tie as tie
+use Rattle.rowair.proofs.step_air.Reads as reads
+use Rattle.rowair.proofs.step_air.Lts as lts
+use Rattle.row.proofs.west_of.Reads as west-of-reads
+use Rattle.rowair.proofs.column_after.Reads as column-after-reads
+
+abbrev Inv-loop : tie.InvT-loop
+Inv-loop w air high low next₀ i₀ next i = ?
+
+abbrev μ-loop : tie.MeasureT-loop
+μ-loop w air high low next₀ i₀ next i = ?
+
+-- src/lib.rt:61:5
+loop-holds : tie.Need-loop-holds Inv-loop μ-loop
+loop-holds c = ?
+
+-- src/lib.rt:62:13
+west-of-requires : tie.Need-west-of-requires Inv-loop μ-loop
+west-of-requires c κs = ?
+
+-- src/lib.rt:63:32
+mul-column-after : tie.Need-mul-column-after Inv-loop μ-loop
+mul-column-after c = ?
+
+-- src/lib.rt:63:32
+array-copy-out-column-after : tie.Need-array-copy-out-column-after Inv-loop μ-loop
+array-copy-out-column-after c = ?
+
+-- src/lib.rt:63:40
+mul-column-after-2 : tie.Need-mul-column-after-2 Inv-loop μ-loop
+mul-column-after-2 c = ?
+
+-- src/lib.rt:63:40
+array-copy-out-column-after-2 : tie.Need-array-copy-out-column-after-2 Inv-loop μ-loop
+array-copy-out-column-after-2 c = ?
+
+-- src/lib.rt:63:51
+mul-column-after-3 : tie.Need-mul-column-after-3 Inv-loop μ-loop
+mul-column-after-3 c = ?
+
+-- src/lib.rt:63:51
+array-copy-out-column-after-3 : tie.Need-array-copy-out-column-after-3 Inv-loop μ-loop
+array-copy-out-column-after-3 c = ?
+
+-- src/lib.rt:63:60
+mul-column-after-4 : tie.Need-mul-column-after-4 Inv-loop μ-loop
+mul-column-after-4 c = ?
+
+-- src/lib.rt:63:60
+array-copy-out-column-after-4 : tie.Need-array-copy-out-column-after-4 Inv-loop μ-loop
+array-copy-out-column-after-4 c = ?
+
+-- src/lib.rt:63:72
+mul-column-after-5 : tie.Need-mul-column-after-5 Inv-loop μ-loop
+mul-column-after-5 c = ?
+
+-- src/lib.rt:63:72
+array-copy-out-column-after-5 : tie.Need-array-copy-out-column-after-5 Inv-loop μ-loop
+array-copy-out-column-after-5 c = ?
+
+-- src/lib.rt:63:19
+column-after-requires : tie.Need-column-after-requires Inv-loop μ-loop
+column-after-requires c κs = ?
+
+-- src/lib.rt:63:9
+mul-next : tie.Need-mul-next Inv-loop μ-loop
+mul-next c = ?
+
+-- src/lib.rt:63:9
+array-set-from-next : tie.Need-array-set-from-next Inv-loop μ-loop
+array-set-from-next c = ?
+
+-- src/lib.rt:64:9
+add-i : tie.Need-add-i Inv-loop μ-loop
+add-i c = ?
+
+-- src/lib.rt:61:5
+loop-less : tie.Need-loop-less Inv-loop μ-loop
+loop-less c = ?
+
+-- src/lib.rt:61:5
+loop-again : tie.Need-loop-again Inv-loop μ-loop
+loop-again c = ?
+
+-- src/lib.rt:53:1
+returns : tie.Need-returns Inv-loop μ-loop
+returns c = ?
+
+pub step-air-spec : {M : Type 1} → statement M
+step-air-spec =
+    tie.close
+    (tie.spec
+    Inv-loop
+    μ-loop
+    loop-holds
+    west-of-requires
+    mul-column-after
+    array-copy-out-column-after
+    mul-column-after-2
+    array-copy-out-column-after-2
+    mul-column-after-3
+    array-copy-out-column-after-3
+    mul-column-after-4
+    array-copy-out-column-after-4
+    mul-column-after-5
+    array-copy-out-column-after-5
+    column-after-requires
+    mul-next
+    array-set-from-next
+    add-i
+    loop-less
+    loop-again
+    returns)
