@@ -1,3 +1,15 @@
+-- `rowair::step_air` meets its contract. The loop's invariant: the columns passed have what the substep leaves there.
+-- Assumes nothing.
+use Prim.Native.Nat.{ℕ, _≤_, _<_, _-_}
+use mathlib.Core.Path.{_≡_, _∙_, ap}
+use native.Mathlib.Omega.{arith}
+use lib.ListN.{length}
+use borrow.Author.Needs.{needs}
+use Rattle.model.specs.Sweep.{westOf}
+use Rattle.model.specs.Laws.Basic.{tab-ext}
+use Rattle.model.specs.Laws.Entries.{entries-more}
+use Rattle.row.specs.Row.{airAt, flowOf}
+use Rattle.rowair.specs.Column.{columnAfter, after-columns, column-may}
 use Rattle.rowair.proofs.step_air.Statement.{statement}
 use Rattle.rowair.proofs.step_air.Tie as tie
 use Rattle.rowair.proofs.step_air.Reads as reads
@@ -6,86 +18,100 @@ use Rattle.row.proofs.west_of.Reads as west-of-reads
 use Rattle.rowair.proofs.column_after.Reads as column-after-reads
 
 abbrev Inv-loop : tie.InvT-loop
-Inv-loop w air high low next₀ i₀ next i = ?
+Inv-loop w air high low next₀ i₀ next i =
+    (i ≤ w) × (length next ≡ 72) × ((k : ℕ) → k < i → airAt next k ≡ columnAfter (record { toHigh = airAt high; toLow = airAt low }) (airAt air) (westOf w k) k)
 
 abbrev μ-loop : tie.MeasureT-loop
-μ-loop w air high low next₀ i₀ next i = ?
+μ-loop w air high low next₀ i₀ next i = w - i
 
 -- src/lib.rt:61:5
 loop-holds : tie.Need-loop-holds Inv-loop μ-loop
-loop-holds c = ?
+loop-holds c = (search needs, search needs, λ k h. absurd (omega arith))
 
 -- src/lib.rt:62:13
 west-of-requires : tie.Need-west-of-requires Inv-loop μ-loop
-west-of-requires c κs = ?
+west-of-requires c κs = search needs
 
 -- src/lib.rt:63:32
 mul-column-after : tie.Need-mul-column-after Inv-loop μ-loop
-mul-column-after c = ?
+mul-column-after c = search needs
 
 -- src/lib.rt:63:32
 array-copy-out-column-after : tie.Need-array-copy-out-column-after Inv-loop μ-loop
-array-copy-out-column-after c = ?
+array-copy-out-column-after c = search needs
 
 -- src/lib.rt:63:40
 mul-column-after-2 : tie.Need-mul-column-after-2 Inv-loop μ-loop
-mul-column-after-2 c = ?
+mul-column-after-2 c = search needs
 
 -- src/lib.rt:63:40
 array-copy-out-column-after-2 : tie.Need-array-copy-out-column-after-2 Inv-loop μ-loop
-array-copy-out-column-after-2 c = ?
+array-copy-out-column-after-2 c = search needs
 
 -- src/lib.rt:63:51
 mul-column-after-3 : tie.Need-mul-column-after-3 Inv-loop μ-loop
-mul-column-after-3 c = ?
+mul-column-after-3 c = search needs
 
 -- src/lib.rt:63:51
 array-copy-out-column-after-3 : tie.Need-array-copy-out-column-after-3 Inv-loop μ-loop
-array-copy-out-column-after-3 c = ?
+array-copy-out-column-after-3 c = search needs
 
 -- src/lib.rt:63:60
 mul-column-after-4 : tie.Need-mul-column-after-4 Inv-loop μ-loop
-mul-column-after-4 c = ?
+mul-column-after-4 c = search needs
 
 -- src/lib.rt:63:60
 array-copy-out-column-after-4 : tie.Need-array-copy-out-column-after-4 Inv-loop μ-loop
-array-copy-out-column-after-4 c = ?
+array-copy-out-column-after-4 c = search needs
 
 -- src/lib.rt:63:72
 mul-column-after-5 : tie.Need-mul-column-after-5 Inv-loop μ-loop
-mul-column-after-5 c = ?
+mul-column-after-5 c = search needs
 
 -- src/lib.rt:63:72
 array-copy-out-column-after-5 : tie.Need-array-copy-out-column-after-5 Inv-loop μ-loop
-array-copy-out-column-after-5 c = ?
+array-copy-out-column-after-5 c = search needs
 
 -- src/lib.rt:63:19
 column-after-requires : tie.Need-column-after-requires Inv-loop μ-loop
-column-after-requires c κs = ?
+column-after-requires c κs =
+    let start = c .before .before .before .before .before .before .before .before .before .before in
+    column-may (start .args .w) (flowOf (start .args .f)) (airAt (start .args .t1)) (start .pre .allowing) _ _ (c .before .before .before .before .before .west-of .ensures .0) (search needs)
 
 -- src/lib.rt:63:9
 mul-next : tie.Need-mul-next Inv-loop μ-loop
-mul-next c = ?
+mul-next c = search needs
 
 -- src/lib.rt:63:9
 array-set-from-next : tie.Need-array-set-from-next Inv-loop μ-loop
-array-set-from-next c = ?
+array-set-from-next c = search needs
 
 -- src/lib.rt:64:9
 add-i : tie.Need-add-i Inv-loop μ-loop
-add-i c = ?
+add-i c = search needs
 
 -- src/lib.rt:61:5
 loop-less : tie.Need-loop-less Inv-loop μ-loop
-loop-less c = ?
+loop-less c = search needs
 
 -- src/lib.rt:61:5
 loop-again : tie.Need-loop-again Inv-loop μ-loop
-loop-again c = ?
+loop-again c =
+    let l = c .before .before .before .before .before .before .before .before .loop in
+    let a = c .before .before .before .before .before .before .before .before .before .before .before .args in
+    let west = c .before .before .before .before .before .before .west-of .ensures .0 in
+    let after = columnAfter (flowOf (a .f)) (airAt (a .t1)) in (
+      search needs,
+      search needs,
+      entries-more (record { 0 = 0 }) (l .next) (l .i) _ (λ k x. x .0 ≡ after (westOf (a .w) k) k) (search needs) (l .inv .2) (c .column-after .ensures ∙ ap (λ (k : ℕ). after k (l .i)) west),
+    )
 
 -- src/lib.rt:53:1
 returns : tie.Need-returns Inv-loop μ-loop
-returns c = ?
+returns c =
+    let a = c .before .before .before .before .args in
+    tab-ext (a .w) (airAt (c .before .loop .next)) _ (λ k h. c .before .loop .inv .2 k (omega arith)) ∙
+    after-columns (a .w) (flowOf (a .f)) (airAt (a .t1))
 
 pub step-air-spec : {M : Type 1} → statement M
 step-air-spec =
