@@ -1,7 +1,6 @@
 -- One column of a row in a substep: what the model tests of it, and what it leaves there.
 -- Assumes nothing.
 use Prim.Native.Nat.{ℕ, _+_, _-_, _≤_, _<_}
-use mathlib.Core.List.{List}
 use mathlib.Core.Bool.{Bool, true, false, _&&_}
 use mathlib.Core.Path.{_≡_, refl, sym, _∙_, ap, ap₂}
 use native.Mathlib.Nat.{add-assoc}
@@ -9,9 +8,9 @@ use native.Mathlib.Omega.{arith}
 use borrow.Author.Tests.{leb-true, leb-false, le-leb, lt-leb}
 use lib.Dec.{leb}
 use Rattle.model.specs.Limits.{airLimit}
-use Rattle.model.specs.Basic.{at, tab, every}
+use Rattle.model.specs.Basic.{tab, every}
 use Rattle.model.specs.World.{airFits}
-use Rattle.model.specs.Sweep.{Flow, ring, westOf, leaving, entering, afterFlow, allowed}
+use Rattle.model.specs.Sweep.{Flow, ring, westOf, leaving, afterFlow, allowed}
 use Rattle.model.specs.Laws.Basic.{both, at-tab, tab-ext, every-ext, every-at}
 use Rattle.model.specs.Laws.Substep.{at-after-flow, air-bounds}
 

@@ -1,7 +1,7 @@
 -- `rowair::allowed` meets its contract. The loop's invariant: `ok` is the test of every column passed.
 -- Assumes nothing.
 use Prim.Native.Nat.{ℕ, _≤_, _-_}
-use mathlib.Core.Bool.{Bool, _&&_}
+use mathlib.Core.Bool.{_&&_}
 use mathlib.Core.Path.{_≡_, sym, _∙_, ap, ap₂}
 use native.Mathlib.Omega.{arith}
 use borrow.Author.Needs.{needs}
@@ -12,10 +12,6 @@ use Rattle.row.specs.Row.{airAt, flowOf}
 use Rattle.rowair.specs.Column.{columnTest, allowed-columns}
 use Rattle.rowair.proofs.allowed.Statement.{statement}
 use Rattle.rowair.proofs.allowed.Tie as tie
-use Rattle.rowair.proofs.allowed.Reads as reads
-use Rattle.rowair.proofs.allowed.Lts as lts
-use Rattle.row.proofs.west_of.Reads as west-of-reads
-use Rattle.rowair.proofs.column_allowed.Reads as column-allowed-reads
 
 abbrev Inv-loop : tie.InvT-loop
 Inv-loop w air high low ok₀ i₀ ok i =
@@ -24,67 +20,51 @@ Inv-loop w air high low ok₀ i₀ ok i =
 abbrev μ-loop : tie.MeasureT-loop
 μ-loop w air high low ok₀ i₀ ok i = w - i
 
--- src/lib.rt:32:5
 loop-holds : tie.Need-loop-holds Inv-loop μ-loop
 loop-holds c = (search needs, sym (every-none _))
 
--- src/lib.rt:33:13
 west-of-requires : tie.Need-west-of-requires Inv-loop μ-loop
 west-of-requires c κs = search needs
 
--- src/lib.rt:34:34
 mul-column-allowed : tie.Need-mul-column-allowed Inv-loop μ-loop
 mul-column-allowed c = search needs
 
--- src/lib.rt:34:34
 array-copy-out-column-allowed : tie.Need-array-copy-out-column-allowed Inv-loop μ-loop
 array-copy-out-column-allowed c = search needs
 
--- src/lib.rt:34:42
 mul-column-allowed-2 : tie.Need-mul-column-allowed-2 Inv-loop μ-loop
 mul-column-allowed-2 c = search needs
 
--- src/lib.rt:34:42
 array-copy-out-column-allowed-2 : tie.Need-array-copy-out-column-allowed-2 Inv-loop μ-loop
 array-copy-out-column-allowed-2 c = search needs
 
--- src/lib.rt:34:53
 mul-column-allowed-3 : tie.Need-mul-column-allowed-3 Inv-loop μ-loop
 mul-column-allowed-3 c = search needs
 
--- src/lib.rt:34:53
 array-copy-out-column-allowed-3 : tie.Need-array-copy-out-column-allowed-3 Inv-loop μ-loop
 array-copy-out-column-allowed-3 c = search needs
 
--- src/lib.rt:34:62
 mul-column-allowed-4 : tie.Need-mul-column-allowed-4 Inv-loop μ-loop
 mul-column-allowed-4 c = search needs
 
--- src/lib.rt:34:62
 array-copy-out-column-allowed-4 : tie.Need-array-copy-out-column-allowed-4 Inv-loop μ-loop
 array-copy-out-column-allowed-4 c = search needs
 
--- src/lib.rt:34:74
 mul-column-allowed-5 : tie.Need-mul-column-allowed-5 Inv-loop μ-loop
 mul-column-allowed-5 c = search needs
 
--- src/lib.rt:34:74
 array-copy-out-column-allowed-5 : tie.Need-array-copy-out-column-allowed-5 Inv-loop μ-loop
 array-copy-out-column-allowed-5 c = search needs
 
--- src/lib.rt:34:19
 column-allowed-requires : tie.Need-column-allowed-requires Inv-loop μ-loop
 column-allowed-requires c κs = search needs
 
--- src/lib.rt:35:9
 add-i : tie.Need-add-i Inv-loop μ-loop
 add-i c = search needs
 
--- src/lib.rt:32:5
 loop-less : tie.Need-loop-less Inv-loop μ-loop
 loop-less c = search needs
 
--- src/lib.rt:32:5
 loop-again : tie.Need-loop-again Inv-loop μ-loop
 loop-again c =
     let l = c .before .before .before .before .before .before .before .before .loop in
@@ -95,7 +75,6 @@ loop-again c =
           sym (every-more (l .i) (λ k. columnTest (flowOf (a .f)) (airAt (a .t1)) (westOf (a .w) k) k)),
     )
 
--- src/lib.rt:24:1
 returns : tie.Need-returns Inv-loop μ-loop
 returns c =
     let a = c .before .before .before .before .args in

@@ -5,50 +5,37 @@ use Rattle.rowair.specs.Column.{column-test}
 use borrow.Author.Needs.{needs}
 use Rattle.rowair.proofs.column_allowed.Statement.{statement}
 use Rattle.rowair.proofs.column_allowed.Tie as tie
-use Rattle.rowair.proofs.column_allowed.Reads as reads
-use Rattle.rowair.proofs.column_allowed.Lts as lts
 
--- src/lib.rt:17:16
 cast-have : tie.Need-cast-have
 cast-have c = search needs
 
--- src/lib.rt:18:18
 cast-given : tie.Need-cast-given
 cast-given c = search needs
 
--- src/lib.rt:18:39
 cast-given-2 : tie.Need-cast-given-2
 cast-given-2 c = search needs
 
--- src/lib.rt:18:17
 add-given : tie.Need-add-given
 add-given c = search needs
 
--- src/lib.rt:19:23
 cast-all : tie.Need-cast-all
 cast-all c = search needs
 
--- src/lib.rt:19:15
 add-all : tie.Need-add-all
 add-all c = search needs
 
--- src/lib.rt:19:43
 cast-all-2 : tie.Need-cast-all-2
 cast-all-2 c = search needs
 
--- src/lib.rt:19:15
 add-all-2 : tie.Need-add-all-2
 add-all-2 c = search needs
 
--- src/lib.rt:20:25
 add-result : tie.Need-add-result
 add-result c = search needs
 
--- src/lib.rt:20:53
 add-result-2 : tie.Need-add-result-2
 add-result-2 c = search needs
 
--- src/lib.rt:14:1
 returns : tie.Need-returns
 returns c =
     let a = c .before .before .before .before .before .args in

@@ -12,10 +12,6 @@ use Rattle.row.specs.Row.{airAt, flowOf}
 use Rattle.rowair.specs.Column.{columnAfter, after-columns, column-may}
 use Rattle.rowair.proofs.step_air.Statement.{statement}
 use Rattle.rowair.proofs.step_air.Tie as tie
-use Rattle.rowair.proofs.step_air.Reads as reads
-use Rattle.rowair.proofs.step_air.Lts as lts
-use Rattle.row.proofs.west_of.Reads as west-of-reads
-use Rattle.rowair.proofs.column_after.Reads as column-after-reads
 
 abbrev Inv-loop : tie.InvT-loop
 Inv-loop w air high low next₀ i₀ next i =
@@ -24,77 +20,59 @@ Inv-loop w air high low next₀ i₀ next i =
 abbrev μ-loop : tie.MeasureT-loop
 μ-loop w air high low next₀ i₀ next i = w - i
 
--- src/lib.rt:61:5
 loop-holds : tie.Need-loop-holds Inv-loop μ-loop
 loop-holds c = (search needs, search needs, λ k h. absurd (omega arith))
 
--- src/lib.rt:62:13
 west-of-requires : tie.Need-west-of-requires Inv-loop μ-loop
 west-of-requires c κs = search needs
 
--- src/lib.rt:63:32
 mul-column-after : tie.Need-mul-column-after Inv-loop μ-loop
 mul-column-after c = search needs
 
--- src/lib.rt:63:32
 array-copy-out-column-after : tie.Need-array-copy-out-column-after Inv-loop μ-loop
 array-copy-out-column-after c = search needs
 
--- src/lib.rt:63:40
 mul-column-after-2 : tie.Need-mul-column-after-2 Inv-loop μ-loop
 mul-column-after-2 c = search needs
 
--- src/lib.rt:63:40
 array-copy-out-column-after-2 : tie.Need-array-copy-out-column-after-2 Inv-loop μ-loop
 array-copy-out-column-after-2 c = search needs
 
--- src/lib.rt:63:51
 mul-column-after-3 : tie.Need-mul-column-after-3 Inv-loop μ-loop
 mul-column-after-3 c = search needs
 
--- src/lib.rt:63:51
 array-copy-out-column-after-3 : tie.Need-array-copy-out-column-after-3 Inv-loop μ-loop
 array-copy-out-column-after-3 c = search needs
 
--- src/lib.rt:63:60
 mul-column-after-4 : tie.Need-mul-column-after-4 Inv-loop μ-loop
 mul-column-after-4 c = search needs
 
--- src/lib.rt:63:60
 array-copy-out-column-after-4 : tie.Need-array-copy-out-column-after-4 Inv-loop μ-loop
 array-copy-out-column-after-4 c = search needs
 
--- src/lib.rt:63:72
 mul-column-after-5 : tie.Need-mul-column-after-5 Inv-loop μ-loop
 mul-column-after-5 c = search needs
 
--- src/lib.rt:63:72
 array-copy-out-column-after-5 : tie.Need-array-copy-out-column-after-5 Inv-loop μ-loop
 array-copy-out-column-after-5 c = search needs
 
--- src/lib.rt:63:19
 column-after-requires : tie.Need-column-after-requires Inv-loop μ-loop
 column-after-requires c κs =
     let start = c .before .before .before .before .before .before .before .before .before .before in
     column-may (start .args .w) (flowOf (start .args .f)) (airAt (start .args .t1)) (start .pre .allowing) _ _ (c .before .before .before .before .before .west-of .ensures .0) (search needs)
 
--- src/lib.rt:63:9
 mul-next : tie.Need-mul-next Inv-loop μ-loop
 mul-next c = search needs
 
--- src/lib.rt:63:9
 array-set-from-next : tie.Need-array-set-from-next Inv-loop μ-loop
 array-set-from-next c = search needs
 
--- src/lib.rt:64:9
 add-i : tie.Need-add-i Inv-loop μ-loop
 add-i c = search needs
 
--- src/lib.rt:61:5
 loop-less : tie.Need-loop-less Inv-loop μ-loop
 loop-less c = search needs
 
--- src/lib.rt:61:5
 loop-again : tie.Need-loop-again Inv-loop μ-loop
 loop-again c =
     let l = c .before .before .before .before .before .before .before .before .loop in
@@ -106,7 +84,6 @@ loop-again c =
       entries-more (record { 0 = 0 }) (l .next) (l .i) _ (λ k x. x .0 ≡ after (westOf (a .w) k) k) (search needs) (l .inv .2) (c .column-after .ensures ∙ ap (λ (k : ℕ). after k (l .i)) west),
     )
 
--- src/lib.rt:53:1
 returns : tie.Need-returns Inv-loop μ-loop
 returns c =
     let a = c .before .before .before .before .args in
