@@ -1,6 +1,6 @@
 // A row of one layer in local arrays: its air, a tracer's amounts in it, and what passes its faces.
 ghost use mathlib.Core.Path.{_≡_};
-ghost use Prim.Native.Nat.{ℕ, _≤_, _<_};
+ghost use Prim.Native.Nat.{_≤_, _<_};
 ghost use lib.ListN.{length};
 ghost use Rattle.model.specs.Sweep.{eastOf, westOf, parts};
 ghost use Rattle.row.specs.Row.{airRow, gasRow, flowOf, PartsNeed};
