@@ -13,6 +13,7 @@ use Rattle.model.specs.Basic.{part, written, joined, tabFrom, tab}
 use Rattle.model.specs.Laws.Basic.{length-part, length-tab, getD-tab, length-written, length-joined}
 use Rattle.model.specs.Laws.Entries.{entries-more, joined-more, written-middle}
 use Rattle.row.specs.Row.{gasRow}
+use Rattle.rowgas.specs.Gas.{rowOf}
 
 -- n tracers of `cells` cells each, and a row of w of them from cell `first` on
 pub record RowsFit (tracers : List ℕ) (first cells w n : ℕ) : Type 0 where
@@ -21,10 +22,6 @@ pub record RowsFit (tracers : List ℕ) (first cells w n : ℕ) : Type 0 where
   pub fewCells : cells ≤ 101440
   pub fewTracers : n ≤ 8
   pub long : length tracers ≡ n * cells
-
--- tracer t's row
-abbrev pub rowOf : List (List Tracer) → ℕ → List Tracer
-rowOf rows t = getD rows t []
 
 pub record AreRows (tracers : List ℕ) (first cells w n : ℕ) (rows : List (List Tracer)) : Type 0 where
   pub each : (t : ℕ) → t < n → gasRow w (rowOf rows t) ≡ part tracers (t * cells + first) w

@@ -2,8 +2,13 @@
 ghost use mathlib.Core.Path.{_≡_};
 ghost use Prim.Native.Nat.{ℕ, _+_, _*_, _≤_, _<_};
 ghost use Rattle.zonal.specs.Rows.{RowsFit, AreRows, storedRows};
+ghost use Rattle.zonal.specs.Swept.{SweepNeed, AreSwept};
 use row::load_gas;
+use row::parts_of;
 use row::store_gas;
+use rowair::step_air;
+use rowgas::step_rows;
+use units::Air;
 use units::Tracer;
 
 // The row of each of the first n tracers, from its part of the lent amounts: tracer t's starts at `first` past t·K·C.
@@ -44,4 +49,30 @@ fn store_rows(
         store_gas(r, &mut tracers[a..e]);
         t += 1;
     }
+}
+
+// The rows of the first `tracers` tracers after n substeps.
+fn sweep_rows(
+    rows: [[Tracer; 72]; 8],
+    air: [Air; 72],
+    fluxes: &[i32],
+    n: u32,
+    tracers: usize,
+) -> [[Tracer; 72]; 8]
+    requires { ⌜ SweepNeed rows air (now fluxes) n tracers ⌝ }
+    ensures { λ r. ⌜ AreSwept rows air (now (fluxes .entry)) n tracers r ⌝ }
+{
+    let w = fluxes.len();
+    let mut current = rows;
+    let mut current_air = air;
+    let mut s = 0;
+    while s < n {
+        let f = parts_of(fluxes, n, s + 1);
+        let next = step_rows(current, current_air, f, w, tracers);
+        let next_air = step_air(current_air, f, w);
+        current = next;
+        current_air = next_air;
+        s += 1;
+    }
+    current
 }

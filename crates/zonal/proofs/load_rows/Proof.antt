@@ -8,9 +8,6 @@ use borrow.Author.Needs.{needs}
 use Rattle.zonal.specs.Rows.{AreRows, rows-none, rows-more, row-room}
 use Rattle.zonal.proofs.load_rows.Statement.{statement}
 use Rattle.zonal.proofs.load_rows.Tie as tie
-use Rattle.zonal.proofs.load_rows.Reads as reads
-use Rattle.zonal.proofs.load_rows.Lts as lts
-use Rattle.row.proofs.load_gas.Reads as load-gas-reads
 
 abbrev Inv-loop : tie.InvT-loop
 Inv-loop tracers first cells w n rows₀ t₀ rows t = (t ≤ n) × (length rows ≡ 8) × AreRows tracers first cells w t rows
@@ -18,59 +15,45 @@ Inv-loop tracers first cells w n rows₀ t₀ rows t = (t ≤ n) × (length rows
 abbrev μ-loop : tie.MeasureT-loop
 μ-loop tracers first cells w n rows₀ t₀ rows t = n - t
 
--- src/lib.rt:17:5
 loop-holds : tie.Need-loop-holds Inv-loop μ-loop
 loop-holds c = (search needs, search needs, rows-none _ _ _ _ _)
 
--- src/lib.rt:18:17
 mul-a : tie.Need-mul-a Inv-loop μ-loop
 mul-a c = let room = row-room (c .before .before .before .pre) (c .before .loop .t) (search needs) in search needs
 
--- src/lib.rt:18:17
 add-a : tie.Need-add-a Inv-loop μ-loop
 add-a c = let room = row-room (c .before .before .before .pre) (c .before .loop .t) (search needs) in search needs
 
--- src/lib.rt:19:17
 add-e : tie.Need-add-e Inv-loop μ-loop
 add-e c = let room = row-room (c .before .before .before .pre) (c .before .loop .t) (search needs) in search needs
 
--- src/lib.rt:20:26
 mul-load-gas : tie.Need-mul-load-gas Inv-loop μ-loop
 mul-load-gas c = let room = row-room (c .before .before .before .pre) (c .before .loop .t) (search needs) in search needs
 
--- src/lib.rt:20:26
 sub-load-gas : tie.Need-sub-load-gas Inv-loop μ-loop
 sub-load-gas c = search needs
 
--- src/lib.rt:20:26
 part-load-gas-start : tie.Need-part-load-gas-start Inv-loop μ-loop
 part-load-gas-start c = search needs
 
--- src/lib.rt:20:26
 part-load-gas-end : tie.Need-part-load-gas-end Inv-loop μ-loop
 part-load-gas-end c = let room = row-room (c .before .before .before .pre) (c .before .loop .t) (search needs) in search needs
 
--- src/lib.rt:20:13
 load-gas-requires : tie.Need-load-gas-requires Inv-loop μ-loop
 load-gas-requires c κs = search needs
 
--- src/lib.rt:21:9
 mul-rows : tie.Need-mul-rows Inv-loop μ-loop
 mul-rows c = search needs
 
--- src/lib.rt:21:9
 array-set-from-rows : tie.Need-array-set-from-rows Inv-loop μ-loop
 array-set-from-rows c = search needs
 
--- src/lib.rt:22:9
 add-t : tie.Need-add-t Inv-loop μ-loop
 add-t c = search needs
 
--- src/lib.rt:17:5
 loop-less : tie.Need-loop-less Inv-loop μ-loop
 loop-less c = search needs
 
--- src/lib.rt:17:5
 loop-again : tie.Need-loop-again Inv-loop μ-loop
 loop-again c = (
   search needs,
@@ -78,7 +61,6 @@ loop-again c = (
   rows-more _ _ _ _ _ _ _ (search needs) (row-room (c .before .before .before .before .before .pre) (c .before .before .before .loop .t) (search needs) .0) (c .before .before .before .loop .inv .2) (c .load-gas .ensures),
 )
 
--- src/lib.rt:10:1
 returns : tie.Need-returns Inv-loop μ-loop
 returns c = let done : c .before .loop .t ≡ c .before .before .before .args .n = omega arith in rw (← done) (c .before .loop .inv .2)
 

@@ -5,12 +5,10 @@ use mathlib.Core.Path.{_≡_, ap, _∙_}
 use lib.ListN.{length}
 use native.Mathlib.Omega.{arith}
 use borrow.Author.Needs.{needs}
-use Rattle.zonal.specs.Rows.{rowOf, storedUpTo, row-room, stored-none, stored-more, stored-all, length-stored-up-to, row-written}
+use Rattle.rowgas.specs.Gas.{rowOf}
+use Rattle.zonal.specs.Rows.{storedUpTo, row-room, stored-none, stored-more, stored-all, length-stored-up-to, row-written}
 use Rattle.zonal.proofs.store_rows.Statement.{statement}
 use Rattle.zonal.proofs.store_rows.Tie as tie
-use Rattle.zonal.proofs.store_rows.Reads as reads
-use Rattle.zonal.proofs.store_rows.Lts as lts
-use Rattle.row.proofs.store_gas.Reads as store-gas-reads
 
 abbrev Inv-loop : tie.InvT-loop
 Inv-loop tracers₀ first cells w n rows t₀ tracers t = (t ≤ n) × (tracers ≡ storedUpTo tracers₀ first cells w t rows)
@@ -18,72 +16,56 @@ Inv-loop tracers₀ first cells w n rows t₀ tracers t = (t ≤ n) × (tracers 
 abbrev μ-loop : tie.MeasureT-loop
 μ-loop tracers₀ first cells w n rows t₀ tracers t = n - t
 
--- src/lib.rt:40:5
 loop-holds : tie.Need-loop-holds Inv-loop μ-loop
 loop-holds c = (search needs, stored-none (c .before .args .tracers .now) (c .before .args .first) (c .before .args .cells) (c .before .args .w) (c .before .args .n) (c .before .args .t1) (c .before .pre))
 
--- src/lib.rt:41:17
 mul-a : tie.Need-mul-a Inv-loop μ-loop
 mul-a c = let room = row-room (c .before .before .before .pre) (c .before .loop .t) (search needs) in search needs
 
--- src/lib.rt:41:17
 add-a : tie.Need-add-a Inv-loop μ-loop
 add-a c = let room = row-room (c .before .before .before .pre) (c .before .loop .t) (search needs) in search needs
 
--- src/lib.rt:42:17
 add-e : tie.Need-add-e Inv-loop μ-loop
 add-e c = let room = row-room (c .before .before .before .pre) (c .before .loop .t) (search needs) in search needs
 
--- src/lib.rt:43:17
 mul-r : tie.Need-mul-r Inv-loop μ-loop
 mul-r c = search needs
 
--- src/lib.rt:43:17
 array-copy-out-r : tie.Need-array-copy-out-r Inv-loop μ-loop
 array-copy-out-r c = search needs
 
--- src/lib.rt:44:22
 mul-store-gas : tie.Need-mul-store-gas Inv-loop μ-loop
 mul-store-gas c = let room = row-room (c .before .before .before .before .pre) (c .before .before .loop .t) (search needs) in search needs
 
--- src/lib.rt:44:22
 sub-store-gas : tie.Need-sub-store-gas Inv-loop μ-loop
 sub-store-gas c = search needs
 
--- src/lib.rt:44:22
 part-store-gas-start : tie.Need-part-store-gas-start Inv-loop μ-loop
 part-store-gas-start c = search needs
 
--- src/lib.rt:44:22
 part-store-gas-end : tie.Need-part-store-gas-end Inv-loop μ-loop
 part-store-gas-end c =
     let room = row-room (c .before .before .before .before .pre) (c .before .before .loop .t) (search needs) in
     omega (arith, ap length (c .before .before .loop .inv .1), length-stored-up-to (c .before .before .before .before .args .tracers .now) (c .before .before .before .before .args .first) (c .before .before .before .before .args .cells) (c .before .before .before .before .args .w) (c .before .before .before .before .args .n) (c .before .before .before .before .args .t1) (c .before .before .before .before .pre) (c .before .before .loop .t) (search needs))
 
--- src/lib.rt:44:9
 store-gas-requires : tie.Need-store-gas-requires Inv-loop μ-loop
 store-gas-requires c κs = search needs
 
--- src/lib.rt:45:9
 add-t : tie.Need-add-t Inv-loop μ-loop
 add-t c = search needs
 
--- src/lib.rt:40:5
 loop-less : tie.Need-loop-less Inv-loop μ-loop
 loop-less c = search needs
 
--- src/lib.rt:40:5
 loop-again : tie.Need-loop-again Inv-loop μ-loop
 loop-again c = (
   search needs,
   stored-more (c .before .before .before .before .before .before .before .before .args .tracers .now) (c .before .before .before .before .before .before .before .before .args .first) (c .before .before .before .before .before .before .before .before .args .cells) (c .before .before .before .before .before .before .before .before .args .w) (c .before .before .before .before .before .before .before .before .args .n) (c .before .before .before .before .before .before .before .before .args .t1) (c .before .before .before .before .before .before .before .before .pre) (c .before .before .before .before .before .before .loop .t) (search needs) _ _ (c .before .before .before .before .before .before .loop .inv .1) (row-written (c .before .before .before .before .before .before .before .before .args .tracers .now) (c .before .before .before .before .before .before .before .before .args .first) (c .before .before .before .before .before .before .before .before .args .cells) (c .before .before .before .before .before .before .before .before .args .w) (c .before .before .before .before .before .before .before .before .args .n) (c .before .before .before .before .before .before .before .before .args .t1) (c .before .before .before .before .before .before .before .before .pre) (c .before .before .before .before .before .before .loop .t) (search needs) _ _ (rowOf (c .before .before .before .before .before .before .before .before .args .t1) (c .before .before .before .before .before .before .loop .t)) (c .before .before .before .before .before .before .loop .inv .1) (c .before .before .store-gas .ensures)),
 )
 
--- src/lib.rt:28:1
 same-length : tie.Need-same-length Inv-loop μ-loop
 same-length c = ap length (c .before .loop .inv .1) ∙ length-stored-up-to (c .before .before .before .args .tracers .now) (c .before .before .before .args .first) (c .before .before .before .args .cells) (c .before .before .before .args .w) (c .before .before .before .args .n) (c .before .before .before .args .t1) (c .before .before .before .pre) (c .before .loop .t) (search needs)
 
--- src/lib.rt:28:1
 returns : tie.Need-returns Inv-loop μ-loop
 returns c =
     let done : c .before .loop .t ≡ c .before .before .before .args .n = omega arith in
