@@ -44,6 +44,9 @@ row-room {tracers} {first} {cells} {w} {n} fit t h =
 part-lent : (l : List ℕ) (a w : ℕ) → part l a (a + w - a) ≡ part l a w
 part-lent l a w = rw (add-sub-cancel-left a w)
 
+pub part-wide : (l : List ℕ) (a w : ℕ) → a + w ≤ length l → w ≤ 72 → length (part l a (a + w - a)) ≤ 72
+part-wide l a w h few = rw (part-lent l a w, length-part l a w h) few
+
 -- as a loop over the tracers meets them: none yet, and one more
 pub rows-none : (tracers : List ℕ) (first cells w : ℕ) (rows : List (List Tracer)) → AreRows tracers first cells w 0 rows
 rows-none tracers first cells w rows = record { each = λ t h. absurd (omega arith) }

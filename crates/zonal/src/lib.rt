@@ -1,15 +1,27 @@
 // The zonal sweep of one row in one layer.
 ghost use mathlib.Core.Path.{_≡_};
 ghost use Prim.Native.Nat.{ℕ, _+_, _*_, _≤_, _<_};
+ghost use Rattle.units.specs.Grid.{worldOf};
+ghost use Rattle.zonal.specs.Calls.{IsRowPlace};
 ghost use Rattle.zonal.specs.Rows.{RowsFit, AreRows, storedRows};
 ghost use Rattle.zonal.specs.Swept.{SweepNeed, AreSwept};
+use places::Lent;
+use places::common_places;
+use places::fluxes_fit;
+use row::load_air;
 use row::load_gas;
 use row::parts_of;
 use row::store_gas;
+use rowair::count;
 use rowair::step_air;
 use rowgas::step_rows;
 use units::Air;
+use units::Answer;
+use units::Grid;
+use units::Refusal;
 use units::Tracer;
+use units::number;
+use units::row_start;
 
 // The row of each of the first n tracers, from its part of the lent amounts: tracer t's starts at `first` past t·K·C.
 fn load_rows(tracers: &[u32], first: usize, cells: usize, w: usize, n: usize) -> [[Tracer; 72]; 8]
@@ -75,4 +87,58 @@ fn sweep_rows(
         s += 1;
     }
     current
+}
+
+// The answer of places 1 to 9; where the row starts, and its substep count.
+pub struct RowPlace {
+    pub answer: Answer,
+    pub first: usize,
+    pub count: u32,
+}
+
+fn no_row(answer: Answer) -> RowPlace
+    ensures { λ p. ⌜ p .answer ≡ answer ⌝ }
+{
+    RowPlace {
+        answer,
+        first: 0,
+        count: 0,
+    }
+}
+
+fn row_place(
+    g: Grid,
+    air: &[u32],
+    tracers: &[u32],
+    layer: u32,
+    row: u32,
+    fluxes: &[i32],
+) -> RowPlace
+    ensures { λ p. ⌜ IsRowPlace (worldOf g (now (air .entry)) (now (tracers .entry))) layer row (now (fluxes .entry)) (p .answer) (p .first) (p .count) ⌝ }
+{
+    let tested = common_places(g, air, tracers, Lent::RowFluxes(fluxes.len()));
+    let answer = tested.answer;
+    if number(answer) == 0 {} else {
+        return no_row(answer);
+    }
+    if layer < g.k {} else {
+        return no_row(Answer::Refused(Refusal::Index));
+    }
+    if row < g.r {} else {
+        return no_row(Answer::Refused(Refusal::Index));
+    }
+    if fluxes_fit(fluxes, Air(1048560)) {} else {
+        return no_row(Answer::Refused(Refusal::Fluxes));
+    }
+    let first = row_start(g, layer, row) as usize;
+    let end = first + (g.w as usize);
+    let n = count(load_air(&air[first..end]), fluxes);
+    if 0 < n {} else {
+        return no_row(Answer::Refused(Refusal::Zonal));
+    }
+    RowPlace {
+        answer: Answer::Accepted(n),
+        first,
+        count: n,
+    }
 }
