@@ -82,6 +82,10 @@ unfolding sum
 sum-steps zero e h = omega arith
 sum-steps (suc n) e h = omega (arith, sum-steps n e (λ j p. h j (omega arith)), h n (omega arith))
 
+pub steps-rise : (n : ℕ) (e : ℕ → ℕ) → ((j : ℕ) → j < n → e j ≤ e (suc j)) → (j : ℕ) → j ≤ n → e j ≤ e n
+steps-rise n e h j le =
+    omega (arith, sum-steps n e h, sum-steps j e (λ i p. h i (omega arith)), sum-fewer (λ i. e (suc i) - e i) j n le)
+
 -- a sum over m rows of n terms each, by rows and by columns
 sum-rows : (m n : ℕ) (f : ℕ → ℕ) → sum (m * n) f ≡ sum m (λ k. sum n (λ i. f (k * n + i)))
 unfolding sum
