@@ -1,0 +1,136 @@
+-- What an accepted remap keeps: the sums over all cells as sums over the columns, each column by the laws of Column.antt.
+-- Assumes a world that fits, and of the table what the places 11 and 12 test.
+use Prim.Native.Nat.{ℕ, zero, suc, _+_, _*_, _-_, _/_, _%_, _≤_, _<_}
+use mathlib.Core.List.{List}
+use mathlib.Core.Bool.{Bool, true, _&&_, true≢false}
+use mathlib.Core.Path.{_≡_, refl, sym, _∙_, ap, ap₂}
+use native.Mathlib.Nat.{div-add-mod', div-lt-iff-lt-mul, mod-lt, mod-eq-of-lt, div-eq-of-lt, mul-add-div-right, mul-add-mod-self-right, add-zero, mul-le-mul-right}
+use native.Mathlib.Omega.{arith}
+use borrow.Author.Tests.{le-leb, not-false}
+use lib.Dec.{lit<}
+use lib.ListN.{length}
+use Rattle.model.specs.Limits.{airLimit}
+use Rattle.model.specs.Basic.{at, sum, tab, every}
+use Rattle.model.specs.World.{Grid, World, layerCells, worldCells, layerStart, gas, airFits}
+use Rattle.model.specs.Remap.{column, columnAir, columnCount, isCap, layers, newAir, newTracer, overCells, remappedAir, remappedGas, remapServes, remapCount, remapped}
+use Rattle.model.specs.Step.{remap, firstOf, ownPlaces, accepted, refusal, tableFits}
+use Rattle.model.specs.Lists.{CallInRange, Alike}
+use Rattle.model.specs.Laws.Basic.{every-at, sum-ext, sum-columns, length-tab, at-tab}
+use Rattle.model.specs.Laws.Substep.{AirIn, air-bounds}
+use Rattle.model.specs.Laws.Step.{Fits, passed, accepted-passed}
+use Rattle.model.specs.Laws.Keeps.{AcceptedKeeps}
+use Rattle.model.specs.Laws.Moved.{Even, Conserves, moved-kept, moved-alike}
+use Rattle.model.specs.Laws.Column.{Edges, edges-serve, new-air-least, new-air-sum, new-tracer-sum, new-tracer-even}
+
+-- ---- cells by layer k and place c
+module _ (g : Grid) where
+  cell-in : (k c : ℕ) → k < g .K → c < layerCells g → layerStart g k + c < worldCells g
+  cell-in k c hk hc = omega (arith, mul-le-mul-right (layerCells g) hk)
+
+  layer-in : (i : ℕ) → i < worldCells g → i / layerCells g < g .K
+  layer-in i h = div-lt-iff-lt-mul {k = layerCells g} (omega arith) .1 h
+
+  place-in : (i : ℕ) → i % layerCells g < layerCells g
+  place-in i = mod-lt i (omega arith)
+
+  at-over : (f : ℕ → ℕ → ℕ) (k c : ℕ) → k < g .K → c < layerCells g → at (overCells g f) (layerStart g k + c) ≡ f k c
+  at-over f k c hk hc =
+      at-tab (worldCells g) _ (layerStart g k + c) (cell-in k c hk hc) ∙
+      ap₂ f
+      (mul-add-div-right (omega arith) k c ∙ rw (div-eq-of-lt hc) (add-zero k))
+      (mul-add-mod-self-right k (layerCells g) c ∙ mod-eq-of-lt hc)
+
+  at-column : (l : List ℕ) (c k : ℕ) → k < g .K → at (column g l c) k ≡ at l (layerStart g k + c)
+  unfolding column
+  at-column l c k h = at-tab (g .K) _ k h
+
+  sum-over : (f : ℕ → ℕ → ℕ) → sum (worldCells g) (at (overCells g f)) ≡ sum (layerCells g) (λ c. sum (g .K) (λ k. f k c))
+  sum-over f =
+      sum-columns (g .K) (layerCells g) (at (overCells g f)) ∙
+      sum-ext (layerCells g) _ _ (λ c hc. sum-ext (g .K) _ _ (λ k hk. at-over f k c hk hc))
+
+  sum-list : (l : List ℕ) → sum (worldCells g) (at l) ≡ sum (layerCells g) (λ c. sum (g .K) (at (column g l c)))
+  sum-list l =
+      sum-columns (g .K) (layerCells g) (at l) ∙
+      sum-ext (layerCells g) _ _ (λ c hc. sum-ext (g .K) _ _ (λ k hk. sym (at-column l c k hk)))
+
+-- ---- a remap that serves
+length-remapped : (g : Grid) (table air had : List ℕ) → length (remappedGas g table air had) ≡ worldCells g
+unfolding remappedGas
+length-remapped g table air had = length-tab (worldCells g) _
+
+module _ (g : Grid) (table air : List ℕ) (airIn : AirIn (worldCells g) air) (edges : (c : ℕ) → c < layerCells g → Edges (g .K) table (columnAir g air c)) where
+  column-has : (c : ℕ) → c < layerCells g → (k : ℕ) → k < g .K → 1 ≤ at (column g air c) k
+  column-has c hc k hk = rw (at-column g air c k hk) (air-bounds _ (airIn _ (cell-in g k c hk hc)) .0)
+
+  abbrev newGas : List ℕ → ℕ → ℕ → ℕ
+  newGas had k c =
+      newTracer table (columnAir g air c) (layers (isCap g c) (g .K) (column g air c) (column g had c)) k
+
+  even-kept : (had : List ℕ) (z : ℕ) → Even (worldCells g) z air had → Even (worldCells g) z (remappedAir g table air) (remappedGas g table air had)
+  unfolding remappedAir remappedGas
+  even-kept had z even i h =
+      let c : ℕ = i % layerCells g in
+      let hc : c < layerCells g = place-in g i in
+      at-tab (worldCells g) (λ i. newGas had (i / layerCells g) (i % layerCells g)) i h ∙
+      new-tracer-even (isCap g c) (g .K) table (column g air c) (column g had c) (column-has c hc) (edges c hc) z
+      (λ k hk. at-column g had c k hk ∙ even _ (cell-in g k c hk hc) ∙ ap (λ (x : ℕ). z * x) (sym (at-column g air c k hk)))
+      (i / layerCells g)
+      (layer-in g i h) ∙
+      ap (λ (x : ℕ). z * x) (sym (at-tab (worldCells g) (λ i. newAir table (columnAir g air (i % layerCells g)) (i / layerCells g)) i h))
+
+  air-in : AirIn (worldCells g) (remappedAir g table air)
+  unfolding remappedAir
+  air-in i h =
+      let c : ℕ = i % layerCells g in
+      let hc : c < layerCells g = place-in g i in
+      let hk : i / layerCells g < g .K = layer-in g i h in
+      rw (at-tab (worldCells g) (λ i. newAir table (columnAir g air (i % layerCells g)) (i / layerCells g)) i h)
+      (ap₂ _&&_
+      (le-leb 1 _ (new-air-least (isCap g c) (g .K) table (column g air c) (column g air c) (column-has c hc) (edges c hc) _ hk))
+      (le-leb _ airLimit (edges c hc .most _ hk)))
+
+  pub remap-conserves : Conserves (worldCells g) air (remappedAir g table air) (remappedGas g table air)
+  unfolding remappedAir remappedGas
+  remap-conserves =
+      record {
+        airLength = length-tab (worldCells g) _;
+        airIn = air-in;
+        airKept =
+            sum-over g (λ k c. newAir table (columnAir g air c) k) ∙
+            sum-ext (layerCells g) _ _ (λ c hc. new-air-sum (isCap g c) (g .K) table (column g air c) (column g air c) (column-has c hc) (edges c hc)) ∙
+            sym (sum-list g air);
+        gasLength = λ had e. length-remapped g table air had;
+        gasKept =
+            λ had e.
+            sum-over g (newGas had) ∙
+            sum-ext (layerCells g) _ _ (λ c hc. new-tracer-sum (isCap g c) (g .K) table (column g air c) (column g had c) (column-has c hc) (edges c hc)) ∙
+            sym (sum-list g had);
+        evenKept = λ had z e. even-kept had z;
+      }
+
+-- what the places of a remap tell, where it is accepted
+pub remap-edges : (table : List ℕ) (w : World) → refusal w (remap table) ≡ 0 → (c : ℕ) → c < layerCells (w .grid) → Edges (w .grid .K) table (columnAir (w .grid) (w .air) c)
+unfolding ownPlaces remapServes
+remap-edges table w e c h =
+    let p = passed _ _ w (lit< tt) (accepted-passed w (remap table) e .2) in
+    let q = passed _ _ w (lit< tt) (p .1) in
+    edges-serve (w .grid .K) table _ (not-false _ (p .0)) (every-at _ _ (not-false _ (q .0)) c h)
+
+pub remap-keeps : (table : List ℕ) (w : World) → Fits w → refusal w (remap table) ≡ 0 → AcceptedKeeps w (remap table)
+unfolding accepted remapped remapCount
+remap-keeps table w fits e =
+    record {
+      kept = moved-kept w fits _ _ (remap-conserves (w .grid) table (w .air) (fits .air) (remap-edges table w e));
+      inRange = ?range;
+      alike =
+          λ own v fv a named. (
+            moved-alike own w v _ _ (remappedGas (w .grid) table (w .air)) (remappedGas (v .grid) table (v .air)) (λ t h. length-remapped _ _ _ _) (λ t h. length-remapped _ _ _ _) (a .sameGrid)
+                (ap₂ (λ (g : Grid) (air : List ℕ). remappedAir g table air) (a .sameGrid) (a .sameAir))
+                (λ t h o.
+                ap₂ (λ (g : Grid) (air : List ℕ). remappedGas g table air (gas w t)) (a .sameGrid) (a .sameAir) ∙
+                ap (remappedGas (v .grid) table (v .air)) (a .sameGas t o)),
+            ap₂ (λ (g : Grid) (air : List ℕ). sum (layerCells g) (λ c. columnCount (g .K) table (column g air c))) (a .sameGrid) (a .sameAir),
+          );
+      apart = λ own other. absurd (true≢false other);
+    }
