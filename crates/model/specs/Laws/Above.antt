@@ -1,8 +1,9 @@
 -- Laws of G, `amountAbove`: the tracer in the x units of air from the low end of a list of layers, layer k being `f k`.
 -- Assumes air in every layer, and of a slope that it is safe, whatever gave it.
-use Prim.Native.Nat.{ℕ, zero, suc, _+_, _*_, _-_, _≤_, _<_, min}
+use Prim.Native.Nat.{ℕ, zero, suc, _+_, _*_, _-_, _≤_, _<_, min, max}
 use mathlib.Core.List.{List, [], _∷_}
-use mathlib.Core.Bool.{Bool, true, false}
+use mathlib.Core.Bool.{Bool, true, false, not}
+use mathlib.Core.Logic.{⊎-elim}
 use mathlib.Core.Path.{_≡_, refl, sym, _∙_, ap, ap₂}
 use native.Mathlib.Nat.{zero-add, add-zero, min-eq-left, min-eq-right}
 use native.Mathlib.Omega.{arith}
@@ -11,12 +12,17 @@ use lib.Dec.{leb}
 use Rattle.model.specs.Basic.{sum, tab, tabFrom}
 use Rattle.model.specs.Scheme.{opposite, lowPiece}
 use Rattle.model.specs.Remap.{Layer, amountAbove}
-use Rattle.model.specs.Laws.Basic.{sum-ext, sum-first, sum-fewer, sum-zero, sum-le, sum-times}
+use Rattle.model.specs.Laws.Basic.{le-or-lt, sum-ext, sum-first, sum-fewer, sum-zero, sum-le, sum-times}
+use Rattle.model.specs.Laws.Fractions.{CellRoom, lost, Leaves, leaves-same, leaves-join, leaves-near, Near, two-floors, middle-leaves, low-leaves, high-leaves, all-leaves}
 use Rattle.model.specs.Laws.Scheme.{Safe, piece-none, piece-whole, piece-rises, piece-constant}
 
 -- the tracer in the m units of air from the low end of a layer
 abbrev pub layerPiece : Layer → ℕ → ℕ
 layerPiece l m = lowPiece (l .slope) (l .air) (l .tracer) m
+
+-- a layer may lean by its slope at both ends
+abbrev pub Leans : Bool → ℕ → ℕ → Layer → Type 0
+Leans b H L l = CellRoom b H L (l .air) (l .tracer) (l .slope .size)
 
 -- ---- as a sum over the layers: from each the low-end piece of as much of its air as lies in the x units
 amount-first : (l : Layer) (below : List Layer) → 1 ≤ l .air → amountAbove below 0 ≡ 0 → (x : ℕ) → amountAbove (l ∷ below) x ≡ layerPiece l (min x (l .air)) + amountAbove below (x - l .air)
@@ -94,10 +100,13 @@ module _ (f : ℕ → Layer) where
     pub amount-none : amountAbove (tab n f) 0 ≡ 0
     amount-none = amount-is 0 ∙ sum-ext n _ (λ k. 0) (λ k h. part-none k 0 h (omega arith)) ∙ sum-zero n
 
+    parts-whole : (m x : ℕ) → m ≤ n → airOf m ≤ x → sum m (λ k. layerPart k x) ≡ tracerOf m
+    parts-whole m x h le =
+        sum-ext m _ (λ k. f k .tracer)
+        (λ k p. part-whole k x (omega arith) (omega (arith, sum-fewer (λ i. f i .air) (suc k) m p)))
+
     pub amount-whole : amountAbove (tab n f) (airOf n) ≡ tracerOf n
-    amount-whole =
-        amount-is (airOf n) ∙
-        sum-ext n _ (λ k. f k .tracer) (λ k h. part-whole k (airOf n) h (sum-fewer (λ i. f i .air) (suc k) n h))
+    amount-whole = amount-is (airOf n) ∙ parts-whole n (airOf n) (omega arith) (omega arith)
 
     -- G never falls
     pub amount-rises : ((k : ℕ) → k < n → Safe (f k .slope) (f k .air) (f k .tracer)) → (x y : ℕ) → x ≤ y → amountAbove (tab n f) x ≤ amountAbove (tab n f) y
@@ -112,3 +121,49 @@ module _ (f : ℕ → Layer) where
         sum-ext n _ (λ k. z * min (x - airOf k) (f k .air)) (λ k h. piece-constant (opposite (f k .slope)) (f k .air) (f k .tracer) _ z (has k h) (even k h .0) (even k h .1)) ∙
         sum-times n z (λ k. min (x - airOf k) (f k .air)) ∙
         ap (λ (y : ℕ). z * y) (omega (arith, air-above x n))
+
+    -- how far the tracer between two points can pass a fraction H/L that leaves room to the layers between them: G is floored at each of the two
+    module _ (safe : (k : ℕ) → k < n → Safe (f k .slope) (f k .air) (f k .tracer)) (b : Bool) (H L : ℕ) where
+      part-is : (k x : ℕ) → airOf k ≤ x → x ≤ airOf (suc k) → layerPart k x ≡ layerPiece (f k) (x - airOf k)
+      unfolding sum
+      part-is k x low high = ap (layerPiece (f k)) (omega arith)
+
+      -- from x to the high end of m layers
+      rest-leaves : (m x : ℕ) → m ≤ n → x < airOf m → ((k : ℕ) → k < m → x < airOf (suc k) → Leans b H L (f k)) → Leaves b H L (airOf m - x) (tracerOf m) (sum m (λ k. layerPart k x)) (lost (not b))
+      unfolding sum
+      rest-leaves zero x h lt leans = absurd (omega arith)
+      rest-leaves (suc m) x h lt leans =
+          ⊎-elim
+          (λ (p : airOf m ≤ x).
+          rw (parts-whole m x (omega arith) p, part-is m x p (omega arith))
+          (leaves-join b H L 0 _ _ 0 _ _ _ (0 + lost (not b)) (leaves-same b H L 0 (tracerOf m) 0 refl) (high-leaves b H L (f m .air) (f m .tracer) (has m h) (f m .slope) (safe m h) (leans m (omega arith) lt) (x - airOf m) (omega arith)) (omega arith) (omega arith)))
+          (λ (p : x < airOf m).
+          rw (part-none m x h (omega arith))
+          (leaves-join b H L _ _ _ (lost (not b)) _ _ _ (0 + 0) (rest-leaves m x (omega arith) p (λ k q. leans k (omega arith))) (all-leaves b H L (f m .air) (f m .tracer) (has m h) (f m .slope) (safe m h) (leans m (omega arith) lt)) (omega arith) (omega arith)))
+          (le-or-lt (airOf m) x)
+
+      -- from x to y
+      between-leaves : (m x y : ℕ) → m ≤ n → x < y → y ≤ airOf m → ((k : ℕ) → k < m → max (airOf k) x < min (airOf (suc k)) y → Leans b H L (f k)) → Leaves b H L (y - x) (sum m (λ k. layerPart k y)) (sum m (λ k. layerPart k x)) 1
+      unfolding sum
+      between-leaves zero x y h lt le leans = absurd (omega arith)
+      between-leaves (suc m) x y h lt le leans =
+          ⊎-elim
+          (λ (p : y ≤ airOf m).
+          rw (part-none m x h (omega arith), part-none m y h p)
+          (leaves-join b H L _ _ _ 1 0 _ _ 0 (between-leaves m x y (omega arith) lt p (λ k q. leans k (omega arith))) (leaves-same b H L 0 0 0 refl) (omega arith) (omega arith)))
+          (λ (p : airOf m < y).
+          rw (parts-whole m y (omega arith) (omega arith), part-is m y (omega arith) le)
+          (⊎-elim
+          (λ (q : airOf m ≤ x).
+          rw (parts-whole m x (omega arith) q, part-is m x q (omega arith))
+          (leaves-join b H L 0 _ _ 0 _ _ _ (lost b + lost (not b)) (leaves-same b H L 0 (tracerOf m) 0 refl) (middle-leaves b H L (f m .air) (f m .tracer) (has m h) (f m .slope) (safe m h) (leans m (omega arith) (omega arith)) (x - airOf m) (y - airOf m) (omega arith) (omega arith)) (omega arith) (omega (arith, two-floors b))))
+          (λ (q : x < airOf m).
+          rw (part-none m x h (omega arith))
+          (leaves-join b H L _ _ _ (lost (not b)) _ _ _ (lost b + 0) (rest-leaves m x (omega arith) q (λ k r u. leans k (omega arith) (omega (arith, sum-fewer (λ i. f i .air) (suc k) m r, has k (omega arith))))) (low-leaves b H L (f m .air) (f m .tracer) (has m h) (f m .slope) (safe m h) (leans m (omega arith) (omega (arith, has m h))) (y - airOf m) (omega arith)) (omega arith) (omega (arith, two-floors b))))
+          (le-or-lt (airOf m) x)))
+          (le-or-lt y (airOf m))
+
+      pub amount-between : (x y : ℕ) → x < y → y ≤ airOf n → ((k : ℕ) → k < n → max (airOf k) x < min (airOf (suc k)) y → Leans b H L (f k)) → Near b H L (y - x) (amountAbove (tab n f) y - amountAbove (tab n f) x) 1
+      amount-between x y lt le leans =
+          leaves-near b H L (y - x) _ _ 1 (amount-rises safe x y (omega arith))
+          (rw (amount-is x, amount-is y) (between-leaves n x y (omega arith) lt le leans))

@@ -18,6 +18,13 @@ use Rattle.model.specs.Basic.{at, part, written, joined, tabFrom, tab, s
 pub below-cases : {i n : ℕ} → i < suc n → (i ≡ n) ⊎ (i < n)
 below-cases h = eq-or-lt-of-le (omega arith)
 
+pub le-or-lt : (a b : ℕ) → (a ≤ b) ⊎ (b < a)
+le-or-lt a b = go (ltb b a) refl
+  where
+    go : (t : Bool) → ltb b a ≡ t → (a ≤ b) ⊎ (b < a)
+    go true e = inr (ltb-true b a e)
+    go false e = inl (ltb-false b a e)
+
 -- ---- sums
 pub sum-ext : (n : ℕ) (f g : ℕ → ℕ) → ((i : ℕ) → i < n → f i ≡ g i) → sum n f ≡ sum n g
 unfolding sum

@@ -266,13 +266,16 @@ module _ (b : Bool) (H L M T : ℕ) (hM : 0 < M) (inside : Inside b H L M T) whe
       (level-floors (not b) (2 * scale * M) (2 * scale * T) n m (omega arith)))
 
 -- ---- the part of a cell between two of its points: p₂ units of tracer up to the higher one, p₁ up to the lower one
-pub leaves-add : (b : Bool) (H L r T p j r' T' p' j' : ℕ) → Leaves b H L r T p j → Leaves b H L r' T' p' j' → Leaves b H L (r + r') (T + T') (p + p') (j + j')
+leaves-add : (b : Bool) (H L r T p j r' T' p' j' : ℕ) → Leaves b H L r T p j → Leaves b H L r' T' p' j' → Leaves b H L (r + r') (T + T') (p + p') (j + j')
 leaves-add true H L r T p j r' T' p' j' h h' = omega arith
 leaves-add false H L r T p j r' T' p' j' h h' = omega arith
 
-pub leaves-same : (b : Bool) (H L p : ℕ) → Leaves b H L 0 p p 0
-leaves-same true H L p = omega arith
-leaves-same false H L p = omega arith
+pub leaves-join : (b : Bool) (H L r T p j r' T' p' j' : ℕ) {r'' j'' : ℕ} → Leaves b H L r T p j → Leaves b H L r' T' p' j' → r + r' ≡ r'' → j + j' ≡ j'' → Leaves b H L r'' (T + T') (p + p') j''
+leaves-join b H L r T p j r' T' p' j' h h' e e₂ = rw (← e, ← e₂) (leaves-add b H L r T p j r' T' p' j' h h')
+
+pub leaves-same : (b : Bool) (H L r p j : ℕ) → r ≡ 0 → Leaves b H L r p p j
+leaves-same true H L r p j e = omega arith
+leaves-same false H L r p j e = rw e (omega arith)
 
 pub leaves-near : (b : Bool) (H L r T p j : ℕ) → p ≤ T → Leaves b H L r T p j → Near b H L r (T - p) j
 leaves-near true H L r T p j h k = omega (arith, ap (λ (x : ℕ). x * (scale * L)) (sub-add-cancel h))
@@ -292,6 +295,10 @@ exact-within false x y e = omega arith
 all-but : (b : Bool) (L M T A n₁ n₂ N v : ℕ) → n₂ + N ≡ 2 * scale * M * T → Within b (M * (2 * scale * T * L)) (A + (n₁ + n₂ * L)) v → Within b (N * L) (A + n₁) v
 all-but true L M T A n₁ n₂ N v e h = omega (arith, ap (λ (x : ℕ). x * L) e)
 all-but false L M T A n₁ n₂ N v e h = omega (arith, ap (λ (x : ℕ). x * L) e)
+
+pub two-floors : (b : Bool) → lost b + lost (not b) ≡ 1
+two-floors true = refl
+two-floors false = refl
 
 module _ (b : Bool) (H L M T : ℕ) (hM : 0 < M) (D : Mismatch) (safe : Safe D M T) (leans : CellRoom b H L M T (D .size)) where
   -- the numerators of the low-end pieces up to x and up to y
