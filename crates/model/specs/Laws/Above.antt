@@ -122,6 +122,16 @@ module _ (f : ℕ → Layer) where
         sum-times n z (λ k. min (x - airOf k) (f k .air)) ∙
         ap (λ (y : ℕ). z * y) (omega (arith, air-above x n))
 
+    -- between two points lies some of a layer
+    pub layer-between : (m x y : ℕ) → m ≤ n → x < y → y ≤ airOf m → (k : ℕ) × (k < m) × (max (airOf k) x < min (airOf (suc k)) y)
+    unfolding sum
+    layer-between zero x y h lt le = absurd (omega arith)
+    layer-between (suc m) x y h lt le =
+        ⊎-elim
+        (λ (p : y ≤ airOf m). let r = layer-between m x y (omega arith) lt p in (r .0, omega (arith, r .1), r .2))
+        (λ (p : airOf m < y). (m, omega arith, omega (arith, has m h)))
+        (le-or-lt y (airOf m))
+
     -- how far the tracer between two points can pass a fraction H/L that leaves room to the layers between them: G is floored at each of the two
     module _ (safe : (k : ℕ) → k < n → Safe (f k .slope) (f k .air) (f k .tracer)) (b : Bool) (H L : ℕ) where
       part-is : (k x : ℕ) → airOf k ≤ x → x ≤ airOf (suc k) → layerPart k x ≡ layerPiece (f k) (x - airOf k)

@@ -1,22 +1,24 @@
 -- Laws of one column under a table whose edges serve: its new air and its new tracers.
 -- Assumes air in every old layer.
-use Prim.Native.Nat.{ℕ, zero, suc, _+_, _*_, _-_, _/_, _≤_, _<_}
+use Prim.Native.Nat.{ℕ, zero, suc, _+_, _*_, _-_, _/_, _≤_, _<_, min, max}
 use mathlib.Core.List.{List}
-use mathlib.Core.Bool.{Bool, true, false, _||_}
+use mathlib.Core.Bool.{Bool, true, false, or-true}
 use mathlib.Core.Logic.{_⊎_, inl, inr, ⊎-elim}
 use mathlib.Core.Path.{_≡_, refl, sym, _∙_, ap, ap₂}
 use native.Mathlib.Nat.{zero-mul, zero-div, zero-add, mul-div-right, mul-sub}
 use native.Mathlib.Omega.{arith}
-use borrow.Author.Tests.{ltb-true, leb-true, eqb-true, eqb-false}
+use borrow.Author.Tests.{ltb-true, lt-ltb, leb-true, eqb-true, eqb-false}
 use lib.Dec.{eqb, leb, ltb}
 use Rattle.model.specs.Limits.{scale, airLimit, tableScale}
 use Rattle.model.specs.Basic.{at, sum, tab, every}
 use Rattle.model.specs.Scheme.{Mismatch, ratio, mismatch, plain}
-use Rattle.model.specs.Remap.{Layer, airAbove, edge, layerMismatch, layers, amountAbove, newAir, newTracer, edgesServe}
+use Rattle.model.specs.Remap.{Layer, airAbove, edge, layerMismatch, layers, amountAbove, newAir, newTracer, edgesServe, shareAir}
+use Rattle.model.specs.Range.{inRange, isNearLayer}
 use Rattle.model.specs.Step.{tableFits}
 use Rattle.model.specs.Laws.Basic.{both, every-at, sum-steps, steps-rise}
 use Rattle.model.specs.Laws.Scheme.{Safe, mismatch-safe, plain-safe, mismatch-equal, ratio-constant}
-use Rattle.model.specs.Laws.Above.{amount-none, amount-whole, amount-rises, amount-even}
+use Rattle.model.specs.Laws.Fractions.{Inside, room-level, room-between, mismatch-towards-high, mismatch-towards-low, Bounded, in-range}
+use Rattle.model.specs.Laws.Above.{Leans, amount-none, amount-whole, amount-rises, amount-even, layer-between, amount-between}
 
 -- ---- edges that serve, of a table that fits
 pub record Edges (K : ℕ) (table : List ℕ) (P : ℕ) : Type 0 where
@@ -75,6 +77,25 @@ layer-slope false K air gas k h = go (eqb k 0) (eqb (suc k) K) refl refl
         let inner = eqb-false (suc k) K e₂ in
         inr (omega arith, omega arith, rw (e, e₂, layerMismatch))
 
+-- ---- the layers near those that share air with a new one
+module _ (K : ℕ) (shares : ℕ → Bool) (k : ℕ) (shared : shares k ≡ true) where
+  near-self : isNearLayer K shares k ≡ true
+  unfolding isNearLayer
+  near-self = rw shared
+
+  near-below : isNearLayer K shares (suc k) ≡ true
+  unfolding isNearLayer
+  near-below =
+      let e : suc k - 1 ≡ k = omega arith in
+      let positive : ltb 0 (suc k) ≡ true = lt-ltb 0 (suc k) (omega arith) in
+      rw (e, shared, positive, or-true)
+
+  near-above : 0 < k → k < K → isNearLayer K shares (k - 1) ≡ true
+  unfolding isNearLayer
+  near-above h h' =
+      let e : suc (k - 1) ≡ k = omega arith in
+      rw (e, shared, lt-ltb k K h', or-true)
+
 -- ---- new air and new tracers
 module _ (cap : Bool) (K : ℕ) (table air gas : List ℕ) (has : (k : ℕ) → k < K → 1 ≤ at air k) where
   layer-safe : (k : ℕ) → k < K → Safe (layerMismatch cap K air gas k) (at air k) (at gas k)
@@ -93,6 +114,22 @@ module _ (cap : Bool) (K : ℕ) (table air gas : List ℕ) (has : (k : ℕ) → 
     where
       same : (i : ℕ) → i < K → layerRatio air gas i ≡ scale * z
       same i hi = ratio-constant (at air i) (at gas i) z (has i hi) (even i hi)
+
+  -- a layer near which none passes a fraction may lean by its slope
+  layer-leans : (shares : ℕ → Bool) (b : Bool) (H L : ℕ) → ((d : ℕ) → d < K → isNearLayer K shares d ≡ true → Inside b H L (at air d) (at gas d)) → (k : ℕ) → k < K → shares k ≡ true → Leans b H L (layerOf cap K air gas k)
+  layer-leans shares b H L inside k h shared =
+      let here = inside k h (near-self K shares k shared) in
+      ⊎-elim
+      (λ (e : layerMismatch cap K air gas k ≡ plain). rw e (room-level b H L _ _ here))
+      (λ inner.
+      let up : k - 1 < K = omega arith in
+      rw (inner .2)
+      (room-between b H L (at air k) (at gas k) (has k h) here _ (at air (k - 1)) (at gas (k - 1)) (at air (suc k)) (at gas (suc k)) (has _ up) (has _ (inner .1))
+      (inside _ up (near-above K shares k shared (inner .0) h))
+      (inside _ (inner .1) (near-below K shares k shared))
+      (mismatch-towards-low _ _ _)
+      (mismatch-towards-high _ _ _)))
+      (layer-slope cap K air gas k h)
 
   module _ (edges : Edges K table (airAbove air K)) where
     edge-le : (j : ℕ) → j ≤ K → edge table (airAbove air K) j ≤ airAbove air K
@@ -135,3 +172,20 @@ module _ (cap : Bool) (K : ℕ) (table air gas : List ℕ) (has : (k : ℕ) → 
         at-edge j h =
             rw (layers-are cap K air gas)
             (amount-even (layerOf cap K air gas) K has z (λ k p. (layer-level z even k p, even k p)) _ (edge-le j h))
+
+    -- ---- the range: a new layer passes no fraction that bounds the layers near it, but for 1/scale and a unit
+    shared : (j k : ℕ) → max (airAbove air k) (edge table (airAbove air K) j) < min (airAbove air (suc k)) (edge table (airAbove air K) (suc j)) → shareAir table air (airAbove air K) j k ≡ true
+    unfolding shareAir
+    shared j k h = lt-ltb _ _ h
+
+    new-layer-bounded : (j : ℕ) → j < K → Bounded K (isNearLayer K (shareAir table air (airAbove air K) j)) air gas 1 (newAir table (airAbove air K) j) (newTracer table (airAbove air K) (layers cap K air gas) j)
+    new-layer-bounded j h b H L inside =
+        rw (layers-are cap K air gas)
+        (amount-between (layerOf cap K air gas) K has layer-safe b H L _ _ (edges .rises j h) (edge-le (suc j) h)
+        (λ k hk s. layer-leans (shareAir table air (airAbove air K) j) b H L inside k hk (shared j k s)))
+
+    pub new-layer-in-range : (j : ℕ) → j < K → inRange K (isNearLayer K (shareAir table air (airAbove air K) j)) air gas 2 (newAir table (airAbove air K) j) (newTracer table (airAbove air K) (layers cap K air gas) j) ≡ true
+    new-layer-in-range j h =
+        let some = layer-between (layerOf cap K air gas) K has K _ _ (omega arith) (edges .rises j h) (edge-le (suc j) h) in
+        in-range K _ air gas (some .0) (some .1) (near-self K (shareAir table air (airAbove air K) j) _ (shared j _ (some .2))) (has _ (some .1)) 1 _ _ (new-air-least j h) (edges .most j h)
+        (new-layer-bounded j h)

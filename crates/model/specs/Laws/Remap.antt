@@ -13,6 +13,7 @@ use Rattle.model.specs.Limits.{airLimit}
 use Rattle.model.specs.Basic.{at, sum, tab, every}
 use Rattle.model.specs.World.{Grid, World, layerCells, worldCells, layerStart, gas, airFits}
 use Rattle.model.specs.Remap.{column, columnAir, columnCount, isCap, layers, newAir, newTracer, overCells, remappedAir, remappedGas, remapServes, remapCount, remapped}
+use Rattle.model.specs.Range.{layerInRange, RemapInRange}
 use Rattle.model.specs.Step.{remap, firstOf, ownPlaces, accepted, refusal, tableFits}
 use Rattle.model.specs.Lists.{CallInRange, Alike}
 use Rattle.model.specs.Laws.Basic.{every-at, sum-ext, sum-columns, length-tab, at-tab}
@@ -20,7 +21,7 @@ use Rattle.model.specs.Laws.Substep.{AirIn, air-bounds}
 use Rattle.model.specs.Laws.Step.{Fits, passed, accepted-passed}
 use Rattle.model.specs.Laws.Keeps.{AcceptedKeeps}
 use Rattle.model.specs.Laws.Moved.{Even, Conserves, moved-kept, moved-alike}
-use Rattle.model.specs.Laws.Column.{Edges, edges-serve, new-air-least, new-air-sum, new-tracer-sum, new-tracer-even}
+use Rattle.model.specs.Laws.Column.{Edges, edges-serve, new-air-least, new-air-sum, new-tracer-sum, new-tracer-even, new-layer-in-range}
 
 -- ---- cells by layer k and place c
 module _ (g : Grid) where
@@ -109,6 +110,11 @@ module _ (g : Grid) (table air : List ℕ) (airIn : AirIn (worldCells g) air) (e
         evenKept = λ had z e. even-kept had z;
       }
 
+  pub remap-in-range : (had : List ℕ) → RemapInRange g table air had
+  unfolding layerInRange
+  remap-in-range had c j hc hj =
+      new-layer-in-range (isCap g c) (g .K) table (column g air c) (column g had c) (column-has c hc) (edges c hc) j hj
+
 -- what the places of a remap tell, where it is accepted
 pub remap-edges : (table : List ℕ) (w : World) → refusal w (remap table) ≡ 0 → (c : ℕ) → c < layerCells (w .grid) → Edges (w .grid .K) table (columnAir (w .grid) (w .air) c)
 unfolding ownPlaces remapServes
@@ -122,7 +128,7 @@ unfolding accepted remapped remapCount
 remap-keeps table w fits e =
     record {
       kept = moved-kept w fits _ _ (remap-conserves (w .grid) table (w .air) (fits .air) (remap-edges table w e));
-      inRange = ?range;
+      inRange = λ t h. remap-in-range (w .grid) table (w .air) (fits .air) (remap-edges table w e) (gas w t);
       alike =
           λ own v fv a named. (
             moved-alike own w v _ _ (remappedGas (w .grid) table (w .air)) (remappedGas (v .grid) table (v .air)) (λ t h. length-remapped _ _ _ _) (λ t h. length-remapped _ _ _ _) (a .sameGrid)
