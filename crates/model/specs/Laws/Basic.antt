@@ -51,6 +51,11 @@ unfolding sum
 sum-le zero f g h = le-refl 0
 sum-le (suc n) f g h = omega (arith, sum-le n f g (λ i p. h i (omega arith)), h n (omega arith))
 
+pub sum-same : (n z : ℕ) → sum n (λ i. z) ≡ n * z
+unfolding sum
+sum-same zero z = omega arith
+sum-same (suc n) z = omega (arith, sum-same n z)
+
 -- one term is at most the sum
 pub term-le-sum : (n : ℕ) (f : ℕ → ℕ) (i : ℕ) → i < n → f i ≤ sum n f
 unfolding sum
