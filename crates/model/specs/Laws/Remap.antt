@@ -6,21 +6,22 @@ use mathlib.Core.Bool.{Bool, true, _&&_, true≢false}
 use mathlib.Core.Path.{_≡_, refl, sym, _∙_, ap, ap₂}
 use native.Mathlib.Nat.{div-add-mod', div-lt-iff-lt-mul, mod-lt, mod-eq-of-lt, div-eq-of-lt, mul-add-div-right, mul-add-mod-self-right, add-zero, mul-le-mul-right}
 use native.Mathlib.Omega.{arith}
-use borrow.Author.Tests.{le-leb, not-false}
-use lib.Dec.{lit<}
+use borrow.Author.Tests.{leb-true, le-leb, not-false}
+use lib.Dec.{leb, lit<}
 use lib.ListN.{length}
 use Rattle.model.specs.Limits.{airLimit}
 use Rattle.model.specs.Basic.{at, sum, tab, every}
 use Rattle.model.specs.World.{Grid, World, layerCells, worldCells, layerStart, gas, airFits}
 use Rattle.model.specs.Remap.{column, columnAir, columnCount, isCap, layers, newAir, newTracer, overCells, remappedAir, remappedGas, remapServes, remapCount, remapped}
 use Rattle.model.specs.Range.{layerInRange, RemapInRange}
-use Rattle.model.specs.Step.{remap, firstOf, ownPlaces, accepted, refusal, tableFits}
+use Rattle.model.specs.Step.{remap, within, gridFits, ownPlaces, accepted, refusal}
 use Rattle.model.specs.Lists.{CallInRange, Alike}
-use Rattle.model.specs.Laws.Basic.{every-at, sum-ext, sum-columns, length-tab, at-tab}
+use Rattle.model.specs.Laws.Basic.{both, every-at, sum-ext, sum-le, sum-same, sum-columns, length-tab, at-tab}
 use Rattle.model.specs.Laws.Substep.{AirIn, air-bounds}
 use Rattle.model.specs.Laws.Step.{Fits, passed, accepted-passed}
 use Rattle.model.specs.Laws.Keeps.{AcceptedKeeps}
 use Rattle.model.specs.Laws.Moved.{Even, Conserves, moved-kept, moved-alike}
+use Rattle.model.specs.Laws.Count.{column-count}
 use Rattle.model.specs.Laws.Column.{Edges, edges-serve, new-air-least, new-air-sum, new-tracer-sum, new-tracer-even, new-layer-in-range}
 
 -- ---- cells by layer k and place c
@@ -140,3 +141,21 @@ remap-keeps table w fits e =
           );
       apart = λ own other. absurd (true≢false other);
     }
+
+some-layer : (g : Grid) → gridFits g ≡ true → 1 ≤ g .K
+some-layer g fits =
+    let p = both (within 4 (g .W) 72 && within 1 (g .R) 44 && within 1 (g .K) 32) (within 1 (g .N) 8) fits in
+    let q = both (within 4 (g .W) 72 && within 1 (g .R) 44) (within 1 (g .K) 32) (p .0) in
+    leb-true 1 (g .K) (both (leb 1 (g .K)) (leb (g .K) 32) (q .1) .0)
+
+-- "between K and 2K − 1 for each column, summed over columns"
+pub remap-count : (table : List ℕ) (w : World) → Fits w → refusal w (remap table) ≡ 0 → (layerCells (w .grid) * w .grid .K ≤ remapCount w table) × (remapCount w table ≤ layerCells (w .grid) * (2 * w .grid .K - 1))
+unfolding remapCount
+remap-count table w fits e =
+    let places = layerCells (w .grid) in
+    let K = w .grid .K in
+    let each : (c : ℕ) → c < places → (K ≤ columnCount K table (column (w .grid) (w .air) c)) × (columnCount K table (column (w .grid) (w .air) c) ≤ 2 * K - 1) =
+    λ c h. column-count K table _ (column-has (w .grid) table (w .air) (fits .air) (remap-edges table w e) c h) (remap-edges table w e c h) (some-layer (w .grid) (fits .grid)) in (
+      rw (sum-same places K) at (sum-le places (λ c. K) _ (λ c h. each c h .0)),
+      rw (sum-same places (2 * K - 1)) at (sum-le places _ (λ c. 2 * K - 1) (λ c h. each c h .1)),
+    )
