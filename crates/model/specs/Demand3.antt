@@ -1,6 +1,6 @@
 -- Demand 3, one theorem about the list: after an accepted load, whatever calls are made, refused ones included, four things hold at each point.
 -- Assumes only that `step` accepts the load.
-use Prim.Native.Nat.{ℕ, zero, suc, _+_, _≤_, _<_}
+use Prim.Native.Nat.{ℕ, _+_, _≤_, _<_}
 use mathlib.Core.List.{List, [], _∷_, _++_}
 use mathlib.Core.Bool.{Bool, true}
 use mathlib.Core.Path.{_≡_, refl, _∙_}

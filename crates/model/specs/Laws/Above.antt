@@ -1,7 +1,7 @@
 -- Laws of G, `amountAbove`: the tracer in the x units of air from the low end of a list of layers, layer k being `f k`.
 -- Assumes air in every layer, and of a slope that it is safe, whatever gave it.
 use Prim.Native.Nat.{ℕ, zero, suc, _+_, _*_, _-_, _≤_, _<_, min, max}
-use mathlib.Core.List.{List, [], _∷_}
+use mathlib.Core.List.{List, _∷_}
 use mathlib.Core.Bool.{Bool, true, false, not}
 use mathlib.Core.Logic.{⊎-elim}
 use mathlib.Core.Path.{_≡_, refl, sym, _∙_, ap, ap₂}
@@ -76,6 +76,11 @@ module _ (f : ℕ → Layer) where
       (rw (past, amount-from (suc i) n x later) (sum-ext n _ _ (λ k h. ap (λ (k : ℕ). layerPart k x) (sym (next k))))) ∙
       sym (sum-first n (λ k. layerPart (i + k) x))
 
+  -- a point of layer k
+  part-is : (k x : ℕ) → airOf k ≤ x → x ≤ airOf (suc k) → layerPart k x ≡ layerPiece (f k) (x - airOf k)
+  unfolding sum
+  part-is k x low high = ap (layerPiece (f k)) (omega arith)
+
   module _ (n : ℕ) (has : (k : ℕ) → k < n → 1 ≤ f k .air) where
     pub amount-is : (x : ℕ) → amountAbove (tab n f) x ≡ sum n (λ k. layerPart k x)
     unfolding sum
@@ -85,7 +90,7 @@ module _ (f : ℕ → Layer) where
         amount-from 0 n x (λ k h. rw (zero-add k) (has k h)) ∙
         sum-ext n _ _ (λ k h. ap (λ (k : ℕ). layerPart k x) (zero-add k))
 
-    -- no air, all air, as much as the layers have and more
+    -- a point at or before the low end of layer k, and at or past its high end
     part-none : (k x : ℕ) → k < n → x ≤ airOf k → layerPart k x ≡ 0
     part-none k x h le =
         let e : min (x - airOf k) (f k .air) ≡ 0 = omega arith in
@@ -134,22 +139,36 @@ module _ (f : ℕ → Layer) where
 
     -- how far the tracer between two points can pass a fraction H/L that leaves room to the layers between them: G is floored at each of the two
     module _ (safe : (k : ℕ) → k < n → Safe (f k .slope) (f k .air) (f k .tracer)) (b : Bool) (H L : ℕ) where
-      part-is : (k x : ℕ) → airOf k ≤ x → x ≤ airOf (suc k) → layerPart k x ≡ layerPiece (f k) (x - airOf k)
-      unfolding sum
-      part-is k x low high = ap (layerPiece (f k)) (omega arith)
+      -- the parts of layer k: between two of its points, up to a point, from a point on, all
+      module _ (k : ℕ) (h : k < n) (leans : Leans b H L (f k)) where
+        middle : (x y : ℕ) → x ≤ y → y ≤ f k .air → Leaves b H L (y - x) (layerPiece (f k) y) (layerPiece (f k) x) (lost b + lost (not b))
+        middle = middle-leaves b H L _ _ (has k h) (f k .slope) (safe k h) leans
+
+        up-to : (y : ℕ) → y ≤ f k .air → Leaves b H L (y - 0) (layerPiece (f k) y) 0 (lost b + 0)
+        up-to = low-leaves b H L _ _ (has k h) (f k .slope) (safe k h) leans
+
+        from : (x : ℕ) → x ≤ f k .air → Leaves b H L (f k .air - x) (f k .tracer) (layerPiece (f k) x) (0 + lost (not b))
+        from = high-leaves b H L _ _ (has k h) (f k .slope) (safe k h) leans
+
+        all : Leaves b H L (f k .air - 0) (f k .tracer) 0 (0 + 0)
+        all = all-leaves b H L _ _ (has k h) (f k .slope) (safe k h) leans
+
+      none : (m : ℕ) → Leaves b H L 0 m m 0
+      none m = leaves-same b H L 0 m 0 refl
 
       -- from x to the high end of m layers
       rest-leaves : (m x : ℕ) → m ≤ n → x < airOf m → ((k : ℕ) → k < m → x < airOf (suc k) → Leans b H L (f k)) → Leaves b H L (airOf m - x) (tracerOf m) (sum m (λ k. layerPart k x)) (lost (not b))
       unfolding sum
       rest-leaves zero x h lt leans = absurd (omega arith)
       rest-leaves (suc m) x h lt leans =
+          let here = leans m (omega arith) lt in
           ⊎-elim
           (λ (p : airOf m ≤ x).
           rw (parts-whole m x (omega arith) p, part-is m x p (omega arith))
-          (leaves-join b H L 0 _ _ 0 _ _ _ (0 + lost (not b)) (leaves-same b H L 0 (tracerOf m) 0 refl) (high-leaves b H L (f m .air) (f m .tracer) (has m h) (f m .slope) (safe m h) (leans m (omega arith) lt) (x - airOf m) (omega arith)) (omega arith) (omega arith)))
+          (leaves-join b H L 0 _ _ 0 _ _ _ (0 + lost (not b)) (none (tracerOf m)) (from m h here (x - airOf m) (omega arith)) (omega arith) (omega arith)))
           (λ (p : x < airOf m).
           rw (part-none m x h (omega arith))
-          (leaves-join b H L _ _ _ (lost (not b)) _ _ _ (0 + 0) (rest-leaves m x (omega arith) p (λ k q. leans k (omega arith))) (all-leaves b H L (f m .air) (f m .tracer) (has m h) (f m .slope) (safe m h) (leans m (omega arith) lt)) (omega arith) (omega arith)))
+          (leaves-join b H L _ _ _ (lost (not b)) _ _ _ (0 + 0) (rest-leaves m x (omega arith) p (λ k q. leans k (omega arith))) (all m h here) (omega arith) (omega arith)))
           (le-or-lt (airOf m) x)
 
       -- from x to y
@@ -160,16 +179,17 @@ module _ (f : ℕ → Layer) where
           ⊎-elim
           (λ (p : y ≤ airOf m).
           rw (part-none m x h (omega arith), part-none m y h p)
-          (leaves-join b H L _ _ _ 1 0 _ _ 0 (between-leaves m x y (omega arith) lt p (λ k q. leans k (omega arith))) (leaves-same b H L 0 0 0 refl) (omega arith) (omega arith)))
+          (leaves-join b H L _ _ _ 1 0 _ _ 0 (between-leaves m x y (omega arith) lt p (λ k q. leans k (omega arith))) (none 0) (omega arith) (omega arith)))
           (λ (p : airOf m < y).
+          let here = leans m (omega arith) (omega (arith, has m h)) in
           rw (parts-whole m y (omega arith) (omega arith), part-is m y (omega arith) le)
           (⊎-elim
           (λ (q : airOf m ≤ x).
           rw (parts-whole m x (omega arith) q, part-is m x q (omega arith))
-          (leaves-join b H L 0 _ _ 0 _ _ _ (lost b + lost (not b)) (leaves-same b H L 0 (tracerOf m) 0 refl) (middle-leaves b H L (f m .air) (f m .tracer) (has m h) (f m .slope) (safe m h) (leans m (omega arith) (omega arith)) (x - airOf m) (y - airOf m) (omega arith) (omega arith)) (omega arith) (omega (arith, two-floors b))))
+          (leaves-join b H L 0 _ _ 0 _ _ _ (lost b + lost (not b)) (none (tracerOf m)) (middle m h here (x - airOf m) (y - airOf m) (omega arith) (omega arith)) (omega arith) (omega (arith, two-floors b))))
           (λ (q : x < airOf m).
           rw (part-none m x h (omega arith))
-          (leaves-join b H L _ _ _ (lost (not b)) _ _ _ (lost b + 0) (rest-leaves m x (omega arith) q (λ k r u. leans k (omega arith) (omega (arith, sum-fewer (λ i. f i .air) (suc k) m r, has k (omega arith))))) (low-leaves b H L (f m .air) (f m .tracer) (has m h) (f m .slope) (safe m h) (leans m (omega arith) (omega (arith, has m h))) (y - airOf m) (omega arith)) (omega arith) (omega (arith, two-floors b))))
+          (leaves-join b H L _ _ _ (lost (not b)) _ _ _ (lost b + 0) (rest-leaves m x (omega arith) q (λ k r u. leans k (omega arith) (omega (arith, sum-fewer (λ i. f i .air) (suc k) m r, has k (omega arith))))) (up-to m h here (y - airOf m) (omega arith)) (omega arith) (omega (arith, two-floors b))))
           (le-or-lt (airOf m) x)))
           (le-or-lt y (airOf m))
 

@@ -1,16 +1,16 @@
--- Laws of one column under a table whose edges serve: its new air and its new tracers.
+-- Laws of one column under a table whose edges serve: its new air, its new tracers and their range.
 -- Assumes air in every old layer.
-use Prim.Native.Nat.{ℕ, zero, suc, _+_, _*_, _-_, _/_, _≤_, _<_, min, max}
+use Prim.Native.Nat.{ℕ, suc, _+_, _*_, _-_, _/_, _≤_, _<_, min, max}
 use mathlib.Core.List.{List}
 use mathlib.Core.Bool.{Bool, true, false, or-true}
 use mathlib.Core.Logic.{_⊎_, inl, inr, ⊎-elim}
-use mathlib.Core.Path.{_≡_, refl, sym, _∙_, ap, ap₂}
+use mathlib.Core.Path.{_≡_, refl, sym, _∙_, ap₂}
 use native.Mathlib.Nat.{zero-mul, zero-div, zero-add, mul-div-right, mul-sub}
 use native.Mathlib.Omega.{arith}
 use borrow.Author.Tests.{ltb-true, lt-ltb, leb-true, eqb-true, eqb-false}
 use lib.Dec.{eqb, leb, ltb}
 use Rattle.model.specs.Limits.{scale, airLimit, tableScale}
-use Rattle.model.specs.Basic.{at, sum, tab, every}
+use Rattle.model.specs.Basic.{at, sum, tab}
 use Rattle.model.specs.Scheme.{Mismatch, ratio, mismatch, plain}
 use Rattle.model.specs.Remap.{Layer, airAbove, edge, layerMismatch, layers, amountAbove, newAir, newTracer, edgesServe, shareAir}
 use Rattle.model.specs.Range.{inRange, isNearLayer}
@@ -46,6 +46,21 @@ edges-serve K table P fits serve =
 
     tests : (j : ℕ) → j < K → (ltb (edge table P j) (edge table P (suc j)) ≡ true) × (leb (newAir table P j) airLimit ≡ true)
     tests j h = both _ _ (every-at K _ serve j h)
+
+-- ---- new air
+module _ (K : ℕ) (table : List ℕ) (P : ℕ) (edges : Edges K table P) where
+  edge-rises : (j : ℕ) → j < K → edge table P j ≤ edge table P (suc j)
+  edge-rises j h = omega (arith, edges .rises j h)
+
+  pub edge-le : (j : ℕ) → j ≤ K → edge table P j ≤ P
+  edge-le j h = rw (edges .last) at (steps-rise K (edge table P) edge-rises j h)
+
+  -- each new layer has air, and together they have the column's
+  pub new-air-least : (j : ℕ) → j < K → 1 ≤ newAir table P j
+  new-air-least j h = omega (arith, edges .rises j h)
+
+  pub new-air-sum : sum K (newAir table P) ≡ P
+  new-air-sum = omega (arith, sum-steps K (edge table P) edge-rises, edges .first, edges .last)
 
 -- ---- a column's layers
 abbrev pub layerOf : Bool → ℕ → List ℕ → List ℕ → ℕ → Layer
@@ -96,7 +111,7 @@ module _ (K : ℕ) (shares : ℕ → Bool) (k : ℕ) (shared : shares k ≡ true
       let e : suc (k - 1) ≡ k = omega arith in
       rw (e, shared, lt-ltb k K h', or-true)
 
--- ---- new air and new tracers
+-- ---- new tracers
 module _ (cap : Bool) (K : ℕ) (table air gas : List ℕ) (has : (k : ℕ) → k < K → 1 ≤ at air k) where
   layer-safe : (k : ℕ) → k < K → Safe (layerMismatch cap K air gas k) (at air k) (at gas k)
   layer-safe k h =
@@ -132,18 +147,6 @@ module _ (cap : Bool) (K : ℕ) (table air gas : List ℕ) (has : (k : ℕ) → 
       (layer-slope cap K air gas k h)
 
   module _ (edges : Edges K table (airAbove air K)) where
-    edge-le : (j : ℕ) → j ≤ K → edge table (airAbove air K) j ≤ airAbove air K
-    edge-le j h =
-        rw (edges .last) at (steps-rise K (edge table (airAbove air K)) (λ i p. omega (arith, edges .rises i p)) j h)
-
-    -- each new layer has air, and together they have the column's
-    pub new-air-least : (j : ℕ) → j < K → 1 ≤ newAir table (airAbove air K) j
-    new-air-least j h = omega (arith, edges .rises j h)
-
-    pub new-air-sum : sum K (newAir table (airAbove air K)) ≡ airAbove air K
-    new-air-sum =
-        omega (arith, sum-steps K (edge table (airAbove air K)) (λ j h. omega (arith, edges .rises j h)), edges .first, edges .last)
-
     -- G at the edges: it never falls, so no new tracer is cut off
     above : ℕ → ℕ
     above j = amountAbove (layers cap K air gas) (edge table (airAbove air K) j)
@@ -171,7 +174,7 @@ module _ (cap : Bool) (K : ℕ) (table air gas : List ℕ) (has : (k : ℕ) → 
         at-edge : (j : ℕ) → j ≤ K → amountAbove (layers cap K air gas) (edge table (airAbove air K) j) ≡ z * edge table (airAbove air K) j
         at-edge j h =
             rw (layers-are cap K air gas)
-            (amount-even (layerOf cap K air gas) K has z (λ k p. (layer-level z even k p, even k p)) _ (edge-le j h))
+            (amount-even (layerOf cap K air gas) K has z (λ k p. (layer-level z even k p, even k p)) _ (edge-le K table _ edges j h))
 
     -- ---- the range: a new layer passes no fraction that bounds the layers near it, but for 1/scale and a unit
     shared : (j k : ℕ) → max (airAbove air k) (edge table (airAbove air K) j) < min (airAbove air (suc k)) (edge table (airAbove air K) (suc j)) → shareAir table air (airAbove air K) j k ≡ true
@@ -181,11 +184,11 @@ module _ (cap : Bool) (K : ℕ) (table air gas : List ℕ) (has : (k : ℕ) → 
     new-layer-bounded : (j : ℕ) → j < K → Bounded K (isNearLayer K (shareAir table air (airAbove air K) j)) air gas 1 (newAir table (airAbove air K) j) (newTracer table (airAbove air K) (layers cap K air gas) j)
     new-layer-bounded j h b H L inside =
         rw (layers-are cap K air gas)
-        (amount-between (layerOf cap K air gas) K has layer-safe b H L _ _ (edges .rises j h) (edge-le (suc j) h)
+        (amount-between (layerOf cap K air gas) K has layer-safe b H L _ _ (edges .rises j h) (edge-le K table _ edges (suc j) h)
         (λ k hk s. layer-leans (shareAir table air (airAbove air K) j) b H L inside k hk (shared j k s)))
 
     pub new-layer-in-range : (j : ℕ) → j < K → inRange K (isNearLayer K (shareAir table air (airAbove air K) j)) air gas 2 (newAir table (airAbove air K) j) (newTracer table (airAbove air K) (layers cap K air gas) j) ≡ true
     new-layer-in-range j h =
-        let some = layer-between (layerOf cap K air gas) K has K _ _ (omega arith) (edges .rises j h) (edge-le (suc j) h) in
-        in-range K _ air gas (some .0) (some .1) (near-self K (shareAir table air (airAbove air K) j) _ (shared j _ (some .2))) (has _ (some .1)) 1 _ _ (new-air-least j h) (edges .most j h)
+        let some = layer-between (layerOf cap K air gas) K has K _ _ (omega arith) (edges .rises j h) (edge-le K table _ edges (suc j) h) in
+        in-range K _ air gas (some .0) (some .1) (near-self K (shareAir table air (airAbove air K) j) _ (shared j _ (some .2))) (has _ (some .1)) 1 _ _ (new-air-least K table _ edges j h) (edges .most j h)
         (new-layer-bounded j h)

@@ -4,7 +4,7 @@ use Prim.Native.Nat.{ℕ, zero, suc, _+_, _*_, _-_, _≤_, _<_, min, max}
 use mathlib.Core.List.{List}
 use mathlib.Core.Bool.{Bool, true, false}
 use mathlib.Core.Logic.{⊎-elim}
-use mathlib.Core.Path.{_≡_, refl, sym, _∙_, ap}
+use mathlib.Core.Path.{_≡_, refl, _∙_, ap}
 use native.Mathlib.Nat.{le-refl, le-trans, add-le-add, min-le-left, max-eq-right}
 use native.Mathlib.Omega.{arith}
 use borrow.Author.Tests.{ltb-true, ltb-false}
@@ -28,7 +28,7 @@ how-many-lt (suc n) x y = one-more _ _ (x n) (y n) refl ∙ ap (λ (m : ℕ). m 
 abbrev meets : ℕ → ℕ → ℕ → ℕ → ℕ
 meets from to lo hi = min 1 (min to hi - max from lo)
 
--- one layer more: it meets the stretch if it is the first that ends below lo, and only a layer in which lo lies both meets it and starts above lo
+-- one layer more: the first that ends past lo meets the stretch, if this goes on; and but for the layer in which lo lies, a layer that meets it starts between lo and hi
 more-least : (from to lo hi : ℕ) → from < to → min 1 (min to hi - lo) ≤ min 1 (min from hi - lo) + meets from to lo hi
 more-least from to lo hi h =
     ⊎-elim
@@ -58,7 +58,7 @@ more-most from to lo hi h h' =
 meets-first : (from to hi : ℕ) → meets from to 0 hi ≤ min 1 (hi - from)
 meets-first from to hi = omega arith
 
--- how many of the first m layers meet a stretch, and how many start above x
+-- how many of the first m layers meet a stretch, and how many start before x
 abbrev meeting : (ℕ → ℕ) → ℕ → ℕ → ℕ → ℕ
 meeting a m lo hi = sum m (λ k. meets (a k) (a (suc k)) lo hi)
 

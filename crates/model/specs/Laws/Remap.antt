@@ -1,21 +1,20 @@
 -- What an accepted remap keeps: the sums over all cells as sums over the columns, each column by the laws of Column.antt.
 -- Assumes a world that fits, and of the table what the places 11 and 12 test.
-use Prim.Native.Nat.{ℕ, zero, suc, _+_, _*_, _-_, _/_, _%_, _≤_, _<_}
+use Prim.Native.Nat.{ℕ, _+_, _*_, _-_, _/_, _%_, _≤_, _<_}
 use mathlib.Core.List.{List}
-use mathlib.Core.Bool.{Bool, true, _&&_, true≢false}
-use mathlib.Core.Path.{_≡_, refl, sym, _∙_, ap, ap₂}
-use native.Mathlib.Nat.{div-add-mod', div-lt-iff-lt-mul, mod-lt, mod-eq-of-lt, div-eq-of-lt, mul-add-div-right, mul-add-mod-self-right, add-zero, mul-le-mul-right}
+use mathlib.Core.Bool.{true, _&&_, true≢false}
+use mathlib.Core.Path.{_≡_, sym, _∙_, ap, ap₂}
+use native.Mathlib.Nat.{div-lt-iff-lt-mul, mod-lt, mod-eq-of-lt, div-eq-of-lt, mul-add-div-right, mul-add-mod-self-right, add-zero, mul-le-mul-right}
 use native.Mathlib.Omega.{arith}
 use borrow.Author.Tests.{leb-true, le-leb, not-false}
 use lib.Dec.{leb, lit<}
 use lib.ListN.{length}
 use Rattle.model.specs.Limits.{airLimit}
-use Rattle.model.specs.Basic.{at, sum, tab, every}
-use Rattle.model.specs.World.{Grid, World, layerCells, worldCells, layerStart, gas, airFits}
+use Rattle.model.specs.Basic.{at, sum}
+use Rattle.model.specs.World.{Grid, World, layerCells, worldCells, layerStart, gas}
 use Rattle.model.specs.Remap.{column, columnAir, columnCount, isCap, layers, newAir, newTracer, overCells, remappedAir, remappedGas, remapServes, remapCount, remapped}
 use Rattle.model.specs.Range.{layerInRange, RemapInRange}
 use Rattle.model.specs.Step.{remap, within, gridFits, ownPlaces, accepted, refusal}
-use Rattle.model.specs.Lists.{CallInRange, Alike}
 use Rattle.model.specs.Laws.Basic.{both, every-at, sum-ext, sum-le, sum-same, sum-columns, length-tab, at-tab}
 use Rattle.model.specs.Laws.Substep.{AirIn, air-bounds}
 use Rattle.model.specs.Laws.Step.{Fits, passed, accepted-passed}
@@ -89,7 +88,7 @@ module _ (g : Grid) (table air : List ℕ) (airIn : AirIn (worldCells g) air) (e
       let hk : i / layerCells g < g .K = layer-in g i h in
       rw (at-tab (worldCells g) (λ i. newAir table (columnAir g air (i % layerCells g)) (i / layerCells g)) i h)
       (ap₂ _&&_
-      (le-leb 1 _ (new-air-least (isCap g c) (g .K) table (column g air c) (column g air c) (column-has c hc) (edges c hc) _ hk))
+      (le-leb 1 _ (new-air-least (g .K) table _ (edges c hc) _ hk))
       (le-leb _ airLimit (edges c hc .most _ hk)))
 
   pub remap-conserves : Conserves (worldCells g) air (remappedAir g table air) (remappedGas g table air)
@@ -100,7 +99,7 @@ module _ (g : Grid) (table air : List ℕ) (airIn : AirIn (worldCells g) air) (e
         airIn = air-in;
         airKept =
             sum-over g (λ k c. newAir table (columnAir g air c) k) ∙
-            sum-ext (layerCells g) _ _ (λ c hc. new-air-sum (isCap g c) (g .K) table (column g air c) (column g air c) (column-has c hc) (edges c hc)) ∙
+            sum-ext (layerCells g) _ _ (λ c hc. new-air-sum (g .K) table _ (edges c hc)) ∙
             sym (sum-list g air);
         gasLength = λ had e. length-remapped g table air had;
         gasKept =
