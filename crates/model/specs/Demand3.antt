@@ -83,7 +83,7 @@ worked =
     zonal 1 0 (four (pos 0) (pos 1000) (pos 0) (pos 0)) ∷
     remap (0 ∷ 0 ∷ 0 ∷ 32768 ∷ 200 ∷ 0 ∷ 0 ∷ 65536 ∷ []) ∷
     remap (0 ∷ 0 ∷ 200 ∷ 0 ∷ 200 ∷ 0 ∷ 0 ∷ 65536 ∷ []) ∷
-    reading 0 9 ∷
+    reading 0 8 ∷
     []
 
 pub worked-start : Loaded stair
@@ -94,7 +94,7 @@ pub worked-answers : tab 10 (λ i. step (point stair worked i) (callAt worked i)
 unfolding computes after
 worked-answers = refl
 
-pub worked-counts : tab 10 (λ i. step (point stair worked i) (callAt worked i) .count) ≡ 0 ∷ 0 ∷ 0 ∷ 0 ∷ 1 ∷ 1 ∷ 0 ∷ 26 ∷ 0 ∷ 24 ∷ []
+pub worked-counts : tab 10 (λ i. step (point stair worked i) (callAt worked i) .count) ≡ 0 ∷ 0 ∷ 0 ∷ 0 ∷ 1 ∷ 1 ∷ 0 ∷ 26 ∷ 0 ∷ 136 ∷ []
 unfolding computes after
 worked-counts = refl
 
