@@ -12,11 +12,12 @@ use lib.ListN.{length}
 use Rattle.model.specs.Limits.{airLimit}
 use Rattle.model.specs.Basic.{at, sum}
 use Rattle.model.specs.World.{Grid, World, layerCells, worldCells, layerStart, gas}
-use Rattle.model.specs.Remap.{column, columnAir, columnCount, isCap, layers, newAir, newTracer, overCells, remappedAir, remappedGas, remapServes, remapCount, remapped}
-use Rattle.model.specs.Range.{layerInRange, RemapInRange}
+use Rattle.model.specs.Remap.{column, columnAir, columnCount, isCap, layers, newAir, newTracer, overCells, shareAir, remappedAir, remappedGas, remapServes, remapCount, remapped}
+use Rattle.model.specs.Range.{inRange, isNearLayer, layerInRange, RemapInRange}
 use Rattle.model.specs.Step.{remap, within, gridFits, ownPlaces, accepted, refusal}
 use Rattle.model.specs.Laws.Basic.{both, every-at, sum-ext, sum-le, sum-same, sum-columns, length-tab, at-tab}
 use Rattle.model.specs.Laws.Substep.{AirIn, air-bounds}
+use Rattle.model.specs.Laws.World.{gas-moved}
 use Rattle.model.specs.Laws.Step.{Fits, passed, accepted-passed}
 use Rattle.model.specs.Laws.Keeps.{AcceptedKeeps}
 use Rattle.model.specs.Laws.Moved.{Even, Conserves, moved-kept, moved-alike}
@@ -55,6 +56,23 @@ module _ (g : Grid) where
       sum-columns (g .K) (layerCells g) (at l) ∙
       sum-ext (layerCells g) _ _ (λ c hc. sum-ext (g .K) _ _ (λ k hk. sym (at-column l c k hk)))
 
+-- ---- the amounts that a remap leaves in layer k at place c
+abbrev airAt : Grid → List ℕ → List ℕ → ℕ → ℕ → ℕ
+airAt g table air k c = newAir table (columnAir g air c) k
+
+abbrev gasAt : Grid → List ℕ → List ℕ → List ℕ → ℕ → ℕ → ℕ
+gasAt g table air had k c =
+    newTracer table (columnAir g air c) (layers (isCap g c) (g .K) (column g air c) (column g had c)) k
+
+module _ (g : Grid) (table air : List ℕ) (k c : ℕ) (hk : k < g .K) (hc : c < layerCells g) where
+  pub remapped-air-at : at (remappedAir g table air) (layerStart g k + c) ≡ newAir table (columnAir g air c) k
+  unfolding remappedAir
+  remapped-air-at = at-over g (airAt g table air) k c hk hc
+
+  pub remapped-gas-at : (had : List ℕ) → at (remappedGas g table air had) (layerStart g k + c) ≡ newTracer table (columnAir g air c) (layers (isCap g c) (g .K) (column g air c) (column g had c)) k
+  unfolding remappedGas
+  remapped-gas-at had = at-over g (gasAt g table air had) k c hk hc
+
 -- ---- a remap that serves
 length-remapped : (g : Grid) (table air had : List ℕ) → length (remappedGas g table air had) ≡ worldCells g
 unfolding remappedGas
@@ -64,21 +82,17 @@ module _ (g : Grid) (table air : List ℕ) (airIn : AirIn (worldCells g) air) (e
   column-has : (c : ℕ) → c < layerCells g → (k : ℕ) → k < g .K → 1 ≤ at (column g air c) k
   column-has c hc k hk = rw (at-column g air c k hk) (air-bounds _ (airIn _ (cell-in g k c hk hc)) .0)
 
-  abbrev newGas : List ℕ → ℕ → ℕ → ℕ
-  newGas had k c =
-      newTracer table (columnAir g air c) (layers (isCap g c) (g .K) (column g air c) (column g had c)) k
-
   even-kept : (had : List ℕ) (z : ℕ) → Even (worldCells g) z air had → Even (worldCells g) z (remappedAir g table air) (remappedGas g table air had)
   unfolding remappedAir remappedGas
   even-kept had z even i h =
       let c : ℕ = i % layerCells g in
       let hc : c < layerCells g = place-in g i in
-      at-tab (worldCells g) (λ i. newGas had (i / layerCells g) (i % layerCells g)) i h ∙
+      at-tab (worldCells g) (λ i. gasAt g table air had (i / layerCells g) (i % layerCells g)) i h ∙
       new-tracer-even (isCap g c) (g .K) table (column g air c) (column g had c) (column-has c hc) (edges c hc) z
       (λ k hk. at-column g had c k hk ∙ even _ (cell-in g k c hk hc) ∙ ap (λ (x : ℕ). z * x) (sym (at-column g air c k hk)))
       (i / layerCells g)
       (layer-in g i h) ∙
-      ap (λ (x : ℕ). z * x) (sym (at-tab (worldCells g) (λ i. newAir table (columnAir g air (i % layerCells g)) (i / layerCells g)) i h))
+      ap (λ (x : ℕ). z * x) (sym (at-tab (worldCells g) (λ i. airAt g table air (i / layerCells g) (i % layerCells g)) i h))
 
   air-in : AirIn (worldCells g) (remappedAir g table air)
   unfolding remappedAir
@@ -86,7 +100,7 @@ module _ (g : Grid) (table air : List ℕ) (airIn : AirIn (worldCells g) air) (e
       let c : ℕ = i % layerCells g in
       let hc : c < layerCells g = place-in g i in
       let hk : i / layerCells g < g .K = layer-in g i h in
-      rw (at-tab (worldCells g) (λ i. newAir table (columnAir g air (i % layerCells g)) (i / layerCells g)) i h)
+      rw (at-tab (worldCells g) (λ i. airAt g table air (i / layerCells g) (i % layerCells g)) i h)
       (ap₂ _&&_
       (le-leb 1 _ (new-air-least (g .K) table _ (edges c hc) _ hk))
       (le-leb _ airLimit (edges c hc .most _ hk)))
@@ -98,13 +112,13 @@ module _ (g : Grid) (table air : List ℕ) (airIn : AirIn (worldCells g) air) (e
         airLength = length-tab (worldCells g) _;
         airIn = air-in;
         airKept =
-            sum-over g (λ k c. newAir table (columnAir g air c) k) ∙
+            sum-over g (airAt g table air) ∙
             sum-ext (layerCells g) _ _ (λ c hc. new-air-sum (g .K) table _ (edges c hc)) ∙
             sym (sum-list g air);
         gasLength = λ had e. length-remapped g table air had;
         gasKept =
             λ had e.
-            sum-over g (newGas had) ∙
+            sum-over g (gasAt g table air had) ∙
             sum-ext (layerCells g) _ _ (λ c hc. new-tracer-sum (isCap g c) (g .K) table (column g air c) (column g had c) (column-has c hc) (edges c hc)) ∙
             sym (sum-list g had);
         evenKept = λ had z e. even-kept had z;
@@ -140,6 +154,13 @@ remap-keeps table w fits e =
           );
       apart = λ own other. absurd (true≢false other);
     }
+
+-- so the range, which `layerInRange` states of the new layers' definition, holds of the cells of the world afterwards
+pub remap-leaves-in-range : (table : List ℕ) (w : World) → Fits w → refusal w (remap table) ≡ 0 → (t c j : ℕ) → t < w .grid .N → c < layerCells (w .grid) → j < w .grid .K → inRange (w .grid .K) (isNearLayer (w .grid .K) (shareAir table (column (w .grid) (w .air) c) (columnAir (w .grid) (w .air) c) j)) (column (w .grid) (w .air) c) (column (w .grid) (gas w t) c) 2 (at (accepted w (remap table) .next .air) (layerStart (w .grid) j + c)) (at (gas (accepted w (remap table) .next) t) (layerStart (w .grid) j + c)) ≡ true
+unfolding accepted remapped layerInRange
+remap-leaves-in-range table w fits e t c j ht hc hj =
+    rw (gas-moved w (remappedAir (w .grid) table (w .air)) (remappedGas (w .grid) table (w .air)) (λ t h. length-remapped _ _ _ _) t ht, remapped-air-at (w .grid) table (w .air) j c hj hc, remapped-gas-at (w .grid) table (w .air) j c hj hc (gas w t))
+    (remap-in-range (w .grid) table (w .air) (fits .air) (remap-edges table w e) (gas w t) c j hc hj)
 
 some-layer : (g : Grid) → gridFits g ≡ true → 1 ≤ g .K
 some-layer g fits =
