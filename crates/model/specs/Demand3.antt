@@ -1,10 +1,11 @@
 -- Demand 3, one theorem about the list: after an accepted load, whatever calls are made, refused ones included, four things hold at each point.
--- Assumes only that `step` accepts the load; and, until they are proved too, that the list has no zonal or meridional sweep and no remap.
-use Prim.Native.Nat.{ℕ, zero, suc, _+_, _≤_, _<_}
-use mathlib.Core.List.{List, [], _∷_}
-use mathlib.Core.Bool.{Bool, true, false, false≢true}
+-- Assumes only that `step` accepts the load.
+use Prim.Native.Nat.{ℕ, _+_, _≤_, _<_}
+use mathlib.Core.List.{List, [], _∷_, _++_}
+use mathlib.Core.Bool.{Bool, true}
 use mathlib.Core.Path.{_≡_, refl, _∙_}
-use lib.ListN.{take}
+use lib.IntN.{pos, negℤ}
+use lib.ListN.{take, replicate}
 use Rattle.model.specs.Basic.{tab}
 use Rattle.model.specs.World.{World, gasTotal, airTotal}
 use Rattle.model.specs.Step.{Call, load, emission, withdrawal, zonal, meridional, remap, total, reading, firstOf, lentFits, ownPlaces, refusal, step}
@@ -15,19 +16,9 @@ use Rattle.model.specs.Laws.Lists.{EachKeeps, points-kept, points-alike,
 use Rattle.model.specs.Laws.Amounts.{load-keeps, emission-keeps, withdrawal-keeps, total-keeps, reading-keeps}
 use Rattle.model.specs.Laws.Zonal.{zonal-range, zonal-keeps}
 use Rattle.model.specs.Laws.Meridional.{meridional-range, meridional-keeps}
+use Rattle.model.specs.Laws.Remap.{remap-keeps}
 use Rattle.model.specs.Cases.{computes}
-use Rattle.model.specs.Cases.Marked.{row, six, hundreds}
-
--- The kinds of call proved so far
-abbrev pub proved : Call → Bool
-proved load = true
-proved (emission t c amount) = true
-proved (withdrawal t c amount) = true
-proved (zonal k r fluxes) = true
-proved (meridional k fluxes) = true
-proved (remap table) = false
-proved (total t) = true
-proved (reading t c) = true
+use Rattle.model.specs.Cases.Marked.{four, stair}
 
 -- What demand 3 says at point i of a list of calls made after the load of the world w
 pub record HoldsAt (w : World) (calls : List Call) (i : ℕ) : Type 0 where
@@ -42,19 +33,24 @@ pub record HoldsAt (w : World) (calls : List Call) (i : ℕ) : Type 0 where
   pub independent : (own : ℕ → Bool) (v : World) → Loaded v → Alike own w v → Alike own (point w calls i) (point v calls i) × (namesNoOther own w (callAt calls i) ≡ true → SameReply (point w calls i) (point v calls i) (callAt calls i))
 
 -- what each call keeps
-call-keeps : (call : Call) → proved call ≡ true → (w : World) → Fits w → StepKeeps w call
-call-keeps load p = step-keeps load load-keeps
-call-keeps (emission t c amount) p = step-keeps (emission t c amount) (emission-keeps t c amount)
-call-keeps (withdrawal t c amount) p = step-keeps (withdrawal t c amount) (withdrawal-keeps t c amount)
-call-keeps (zonal k r fluxes) p = step-keeps (zonal k r fluxes) (λ w fits e. zonal-keeps k r fluxes w fits e (zonal-range k r fluxes w fits e))
-call-keeps (meridional k fluxes) p = step-keeps (meridional k fluxes) (λ w fits e. meridional-keeps k fluxes w fits e (meridional-range k fluxes w fits e))
-call-keeps (remap table) p = absurd (false≢true p)
-call-keeps (total t) p = step-keeps (total t) (total-keeps t)
-call-keeps (reading t c) p = step-keeps (reading t c) (reading-keeps t c)
+call-keeps : (call : Call) (w : World) → Fits w → StepKeeps w call
+call-keeps load = step-keeps load load-keeps
+call-keeps (emission t c amount) = step-keeps (emission t c amount) (emission-keeps t c amount)
+call-keeps (withdrawal t c amount) = step-keeps (withdrawal t c amount) (withdrawal-keeps t c amount)
+call-keeps (zonal k r fluxes) =
+    step-keeps (zonal k r fluxes) (λ w fits e. zonal-keeps k r fluxes w fits e (zonal-range k r fluxes w fits e))
+call-keeps (meridional k fluxes) =
+    step-keeps (meridional k fluxes) (λ w fits e. meridional-keeps k fluxes w fits e (meridional-range k fluxes w fits e))
+call-keeps (remap table) = step-keeps (remap table) (remap-keeps table)
+call-keeps (total t) = step-keeps (total t) (total-keeps t)
+call-keeps (reading t c) = step-keeps (reading t c) (reading-keeps t c)
 
-pub demand-3 : (w : World) (calls : List Call) → Loaded w → ((i : ℕ) → proved (callAt calls i) ≡ true) → (i : ℕ) → HoldsAt w calls i
-demand-3 w calls start all i =
-    let each : EachKeeps calls = λ n. call-keeps (callAt calls n) (all n) in
+each-keeps : (calls : List Call) → EachKeeps calls
+each-keeps calls i = call-keeps (callAt calls i)
+
+pub demand-3 : (w : World) (calls : List Call) → Loaded w → (i : ℕ) → HoldsAt w calls i
+demand-3 w calls start i =
+    let each = each-keeps calls in
     let fits = loaded-fits w start in
     let kept = points-kept i w calls fits each in
     record {
@@ -71,47 +67,52 @@ demand-3 w calls start all i =
     }
 
 -- A world reached from an accepted load never meets the refusals 1 to 4 again, but 2 for the list that a call itself lends: the refusal is that of the call's own places alone
-pub reached : (w : World) (calls : List Call) → Loaded w → ((i : ℕ) → proved (callAt calls i) ≡ true) → (i : ℕ) → Loaded (point w calls i) × ((call : Call) → lentFits (w .grid) call ≡ true → refusal (point w calls i) call ≡ firstOf (ownPlaces call) (point w calls i))
-reached w calls start all i =
-    let kept = points-kept i w calls (loaded-fits w start) (λ n. call-keeps (callAt calls n) (all n)) in (
+pub reached : (w : World) (calls : List Call) → Loaded w → (i : ℕ) → Loaded (point w calls i) × ((call : Call) → lentFits (w .grid) call ≡ true → refusal (point w calls i) call ≡ firstOf (ownPlaces call) (point w calls i))
+reached w calls start i =
+    let kept = points-kept i w calls (loaded-fits w start) (each-keeps calls) in (
       fits-loaded (point w calls i) (kept .fits),
       λ call lent. own-refusal (point w calls i) call (kept .fits) (rw (kept .sameGrid) lent),
     )
 
--- A list that meets the premise, its answers and its totals by computation, so that the theorem is not empty: the world of m11, an emission of nothing, a refused one (m12), a withdrawal, an emission, a reading
-abbrev full : World
-full = row hundreds (six 0 268435455 0 0 0 0)
+-- A list that meets the premise, its answers, counts and totals by computation, so that the theorem is not empty: the world of m9, and calls of every kind, three of them refused
+abbrev worked : List Call
+worked =
+    emission 0 1 268433655 ∷ emission 0 1 1 ∷ withdrawal 0 1 268433600 ∷ emission 0 3 20 ∷
+    zonal 1 0 (four (pos 0) (pos 50) (pos 0) (pos 0)) ∷
+    meridional 2 (four (pos 30) (pos 0) (pos 7) (negℤ (pos 20)) ++ four (pos 10) (pos 10) (pos 0) (negℤ (pos 5))) ∷
+    zonal 1 0 (four (pos 0) (pos 1000) (pos 0) (pos 0)) ∷
+    remap (0 ∷ 0 ∷ 0 ∷ 32768 ∷ 200 ∷ 0 ∷ 0 ∷ 65536 ∷ []) ∷
+    remap (0 ∷ 0 ∷ 200 ∷ 0 ∷ 200 ∷ 0 ∷ 0 ∷ 65536 ∷ []) ∷
+    reading 0 8 ∷
+    []
 
-abbrev five : List Call
-five = emission 0 1 0 ∷ emission 0 1 1 ∷ withdrawal 0 1 55 ∷ emission 0 3 20 ∷ reading 0 1 ∷ []
-
-pub five-start : Loaded full
+pub worked-start : Loaded stair
 unfolding computes
-five-start = refl
+worked-start = refl
 
-pub five-proved : (i : ℕ) → proved (callAt five i) ≡ true
-five-proved zero = refl
-five-proved (suc zero) = refl
-five-proved (suc (suc zero)) = refl
-five-proved (suc (suc (suc zero))) = refl
-five-proved (suc (suc (suc (suc zero)))) = refl
-five-proved (suc (suc (suc (suc (suc i))))) = refl
-
-pub five-answers : tab 5 (λ i. step (point full five i) (callAt five i) .answer) ≡ 0 ∷ 6 ∷ 0 ∷ 0 ∷ 0 ∷ []
+pub worked-answers : tab 10 (λ i. step (point stair worked i) (callAt worked i) .answer) ≡ 0 ∷ 6 ∷ 0 ∷ 0 ∷ 0 ∷ 0 ∷ 9 ∷ 0 ∷ 12 ∷ 0 ∷ []
 unfolding computes after
-five-answers = refl
+worked-answers = refl
 
-pub five-totals : tab 6 (λ i. gasTotal (point full five i) 0) ≡ six 268435455 268435455 268435455 268435400 268435420 268435420
+pub worked-counts : tab 10 (λ i. step (point stair worked i) (callAt worked i) .count) ≡ 0 ∷ 0 ∷ 0 ∷ 0 ∷ 1 ∷ 1 ∷ 0 ∷ 26 ∷ 0 ∷ 136 ∷ []
 unfolding computes after
-five-totals = refl
+worked-counts = refl
 
-pub five-emitted : tab 6 (λ i. emitted full 0 (take i five)) ≡ six 0 0 0 0 20 20
+pub worked-totals : tab 11 (λ i. gasTotal (point stair worked i) 0) ≡ 1800 ∷ 268435455 ∷ 268435455 ∷ 1855 ∷ replicate 7 1875
+unfolding computes after
+worked-totals = refl
+
+pub worked-air : tab 11 (λ i. airTotal (point stair worked i)) ≡ replicate 11 1800
+unfolding computes after
+worked-air = refl
+
+pub worked-emitted : tab 11 (λ i. emitted stair 0 (take i worked)) ≡ 0 ∷ replicate 3 268433655 ++ replicate 7 268433675
 unfolding computes emitted
-five-emitted = refl
+worked-emitted = refl
 
-pub five-withdrawn : tab 6 (λ i. withdrawn full 0 (take i five)) ≡ six 0 0 0 55 55 55
+pub worked-withdrawn : tab 11 (λ i. withdrawn stair 0 (take i worked)) ≡ replicate 3 0 ++ replicate 8 268433600
 unfolding computes withdrawn
-five-withdrawn = refl
+worked-withdrawn = refl
 
-pub five-holds : (i : ℕ) → HoldsAt full five i
-five-holds = demand-3 full five five-start five-proved
+pub worked-holds : (i : ℕ) → HoldsAt stair worked i
+worked-holds = demand-3 stair worked worked-start

@@ -5,7 +5,7 @@ use mathlib.Core.List.{List, [], _∷_, _++_, append-assoc}
 use mathlib.Core.Bool.{Bool, true, false, and-eq-true-iff, or-true, _&&_, _||_, false≢true}
 use mathlib.Core.Path.{_≡_, refl, sym, _∙_, ap, ap₂}
 use mathlib.Core.Logic.{_⊎_, inl, inr, ⊎-elim}
-use native.Mathlib.Nat.{zero-add, zero-mul, add-zero, add-assoc, mul-add, mul-zero, le-refl, add-suc, eq-or-lt-of-le}
+use native.Mathlib.Nat.{zero-add, zero-mul, suc-mul, add-zero, add-assoc, mul-add, mul-zero, le-refl, add-suc, eq-or-lt-of-le}
 use native.Mathlib.Numerals.{add-one}
 use native.Mathlib.Omega.{arith}
 use borrow.Author.Tests.{ltb-true, ltb-false}
@@ -17,6 +17,13 @@ use Rattle.model.specs.Basic.{at, part, written, joined, tabFrom, tab, s
 -- ---- numbers below n + 1: those below n, and n
 pub below-cases : {i n : ℕ} → i < suc n → (i ≡ n) ⊎ (i < n)
 below-cases h = eq-or-lt-of-le (omega arith)
+
+pub le-or-lt : (a b : ℕ) → (a ≤ b) ⊎ (b < a)
+le-or-lt a b = go (ltb b a) refl
+  where
+    go : (t : Bool) → ltb b a ≡ t → (a ≤ b) ⊎ (b < a)
+    go true e = inr (ltb-true b a e)
+    go false e = inl (ltb-false b a e)
 
 -- ---- sums
 pub sum-ext : (n : ℕ) (f g : ℕ → ℕ) → ((i : ℕ) → i < n → f i ≡ g i) → sum n f ≡ sum n g
@@ -44,6 +51,11 @@ unfolding sum
 sum-le zero f g h = le-refl 0
 sum-le (suc n) f g h = omega (arith, sum-le n f g (λ i p. h i (omega arith)), h n (omega arith))
 
+pub sum-same : (n z : ℕ) → sum n (λ i. z) ≡ n * z
+unfolding sum
+sum-same zero z = omega arith
+sum-same (suc n) z = omega (arith, sum-same n z)
+
 -- one term is at most the sum
 pub term-le-sum : (n : ℕ) (f : ℕ → ℕ) (i : ℕ) → i < n → f i ≤ sum n f
 unfolding sum
@@ -66,6 +78,39 @@ pub sum-split : (a b : ℕ) (f : ℕ → ℕ) → sum (a + b) f ≡ sum a f + su
 unfolding sum
 sum-split a zero f = rw (add-zero a, add-zero)
 sum-split a (suc b) f = rw (add-suc a b, sum-split a b f) (add-assoc _ _ _)
+
+pub sum-first : (n : ℕ) (f : ℕ → ℕ) → sum (suc n) f ≡ f 0 + sum n (λ i. f (suc i))
+unfolding sum
+sum-first zero f = omega arith
+sum-first (suc n) f = omega (arith, sum-first n f)
+
+-- a sum of fewer terms
+pub sum-fewer : (f : ℕ → ℕ) (m n : ℕ) → m ≤ n → sum m f ≤ sum n f
+sum-fewer f m n h = let e : n ≡ m + (n - m) = omega arith in rw e (omega (arith, sum-split m (n - m) f))
+
+-- the steps of a list that never falls
+pub sum-steps : (n : ℕ) (e : ℕ → ℕ) → ((j : ℕ) → j < n → e j ≤ e (suc j)) → sum n (λ j. e (suc j) - e j) + e 0 ≡ e n
+unfolding sum
+sum-steps zero e h = omega arith
+sum-steps (suc n) e h = omega (arith, sum-steps n e (λ j p. h j (omega arith)), h n (omega arith))
+
+pub steps-rise : (n : ℕ) (e : ℕ → ℕ) → ((j : ℕ) → j < n → e j ≤ e (suc j)) → (j : ℕ) → j ≤ n → e j ≤ e n
+steps-rise n e h j le =
+    omega (arith, sum-steps n e h, sum-steps j e (λ i p. h i (omega arith)), sum-fewer (λ i. e (suc i) - e i) j n le)
+
+-- a sum over m rows of n terms each, by rows and by columns
+sum-rows : (m n : ℕ) (f : ℕ → ℕ) → sum (m * n) f ≡ sum m (λ k. sum n (λ i. f (k * n + i)))
+unfolding sum
+sum-rows zero n f = rw zero-mul
+sum-rows (suc m) n f = rw (suc-mul m n, sum-split (m * n) n f, sum-rows m n f)
+
+sum-swap : (m n : ℕ) (f : ℕ → ℕ → ℕ) → sum m (λ k. sum n (f k)) ≡ sum n (λ i. sum m (λ k. f k i))
+unfolding sum
+sum-swap zero n f = sym (sum-zero n)
+sum-swap (suc m) n f = rw (sum-swap m n f) (sym (sum-add n (λ i. sum m (λ k. f k i)) (f m)))
+
+pub sum-columns : (m n : ℕ) (f : ℕ → ℕ) → sum (m * n) f ≡ sum n (λ i. sum m (λ k. f (k * n + i)))
+sum-columns m n f = sum-rows m n f ∙ sum-swap m n (λ k i. f (k * n + i))
 
 -- ---- lists of values
 length-tabFrom : {A : Type 0} (i n : ℕ) (f : ℕ → A) → length (tabFrom i n f) ≡ n

@@ -13,7 +13,7 @@ use Rattle.model.specs.Basic.{at, sum, some}
 use Rattle.model.specs.Scheme.{ratio, Mismatch, mismatch, opposite, highPiece, lowPiece}
 use Rattle.model.specs.Range.{inRange}
 use Rattle.model.specs.Laws.Basic.{sum-ext, some-unless}
-use Rattle.model.specs.Laws.Scheme.{Safe, numerator, piece-is, tilt-le-level, mismatch-low, mismatch-high}
+use Rattle.model.specs.Laws.Scheme.{Safe, numerator, numerator-none, numerator-whole, numerators-meet, piece-is, tilt-le-level, mismatch-low, mismatch-high}
 
 -- x is past y by at most s: above it, or below it
 abbrev pub Within : Bool → ℕ → ℕ → ℕ → Type 0
@@ -85,12 +85,12 @@ ratio-inside false H L M T hM i =
     le-of-mul-le-mul-right (omega (arith, mul-le-mul-right L (floor-within false (scale * T) M hM), mul-le-mul-right scale i)) hM
 
 -- ---- room: x may move by g and is then past y by at most s
-abbrev Room : Bool → ℕ → ℕ → ℕ → ℕ → Type 0
+abbrev pub Room : Bool → ℕ → ℕ → ℕ → ℕ → Type 0
 Room true x g y s = x + g ≤ y + s
 Room false x g y s = y + g ≤ x + s
 
 -- a cell may lean by d: its end is past H/L by at most 1/scale
-abbrev CellRoom : Bool → ℕ → ℕ → ℕ → ℕ → ℕ → Type 0
+abbrev pub CellRoom : Bool → ℕ → ℕ → ℕ → ℕ → ℕ → Type 0
 CellRoom b H L M T d = Room b (2 * scale * T * L) (d * L * M) (2 * scale * H * M) (2 * L * M)
 
 -- g takes q to r
@@ -108,7 +108,7 @@ room-gap true H L M T q r g d f h e k =
 room-gap false H L M T q r g d f h e k =
     omega (arith, mul-le-mul-right L f, mul-le-mul-right M h, ap (λ (x : ℕ). x * L * M) e, mul-le-mul-right (L * M) k)
 
-room-level : (b : Bool) (H L M T : ℕ) → Inside b H L M T → CellRoom b H L M T 0
+pub room-level : (b : Bool) (H L M T : ℕ) → Inside b H L M T → CellRoom b H L M T 0
 room-level true H L M T i = omega (arith, mul-le-mul-right scale i)
 room-level false H L M T i = omega (arith, mul-le-mul-right scale i)
 
@@ -236,6 +236,13 @@ module _ (b : Bool) (H L M T : ℕ) (hM : 0 < M) (inside : Inside b H L M T) whe
       (room b H L M T M₂ T₂ _ hM hM₂ inside inside₂ (towards b)))
       (floor-within b _ _ (omega arith)))
 
+  -- between two neighbours it may lean at both ends
+  pub room-between : (D : Mismatch) (M₁ T₁ M₂ T₂ : ℕ) → 0 < M₁ → 0 < M₂ → Inside b H L M₁ T₁ → Inside b H L M₂ T₂ → Towards (opposite D) (ratio M T) (ratio M₁ T₁) → Towards D (ratio M T) (ratio M₂ T₂) → CellRoom b H L M T (D .size)
+  room-between D M₁ T₁ M₂ T₂ hM₁ hM₂ inside₁ inside₂ low high =
+      room-ends b (D .positive) H L M T (D .size)
+      (room b H L M T M₁ T₁ _ hM hM₁ inside inside₁ (low b))
+      (room b H L M T M₂ T₂ _ hM hM₂ inside inside₂ (high b))
+
   -- what it keeps in r units of air, after a piece from each end, between two neighbours
   pub ends-leave : (D : Mismatch) (M₁ T₁ M₂ T₂ m₁ m₂ r : ℕ) → 0 < M₁ → 0 < M₂ → Inside b H L M₁ T₁ → Inside b H L M₂ T₂ → Safe D M T → Towards (opposite D) (ratio M T) (ratio M₁ T₁) → Towards D (ratio M T) (ratio M₂ T₂) → m₁ + m₂ + r ≡ M → Leaves b H L r T (lowPiece D M T m₁ + highPiece D M T m₂) (2 * lost (not b))
   ends-leave D M₁ T₁ M₂ T₂ m₁ m₂ r hM₁ hM₂ inside₁ inside₂ safe low high e =
@@ -247,9 +254,7 @@ module _ (b : Bool) (H L M T : ℕ) (hM : 0 < M) (inside : Inside b H L M T) whe
       (middle-within b (D .positive) M _ m₁ m₂ r (D .size * L) _ _ _ _ e
       (numerator-tilted (opposite D) L M T m₁ (m₂ + r) safe (omega arith))
       (numerator-tilted D L M T m₂ (m₁ + r) safe (omega arith))
-      (room-ends b (D .positive) H L M T (D .size)
-      (room b H L M T M₁ T₁ _ hM hM₁ inside inside₁ (low b))
-      (room b H L M T M₂ T₂ _ hM hM₂ inside inside₂ (high b)))))
+      (room-between D M₁ T₁ M₂ T₂ hM₁ hM₂ inside₁ inside₂ low high)))
       (floors-within (not b) N₁ N₂ _ (omega arith)))
 
   -- and after n plain pieces
@@ -259,6 +264,75 @@ module _ (b : Bool) (H L M T : ℕ) (hM : 0 < M) (inside : Inside b H L M T) whe
       (leave b H L M T r (sum n m * (2 * scale * T)) _ (n * lost (not b)) hM
       (level-within b H L M T (sum n m) r e (room-level b H L M T inside))
       (level-floors (not b) (2 * scale * M) (2 * scale * T) n m (omega arith)))
+
+-- ---- the part of a cell between two of its points: p₂ units of tracer up to the higher one, p₁ up to the lower one
+leaves-add : (b : Bool) (H L r T p j r' T' p' j' : ℕ) → Leaves b H L r T p j → Leaves b H L r' T' p' j' → Leaves b H L (r + r') (T + T') (p + p') (j + j')
+leaves-add true H L r T p j r' T' p' j' h h' = omega arith
+leaves-add false H L r T p j r' T' p' j' h h' = omega arith
+
+pub leaves-join : (b : Bool) (H L r T p j r' T' p' j' : ℕ) {r'' j'' : ℕ} → Leaves b H L r T p j → Leaves b H L r' T' p' j' → r + r' ≡ r'' → j + j' ≡ j'' → Leaves b H L r'' (T + T') (p + p') j''
+leaves-join b H L r T p j r' T' p' j' h h' e e₂ = rw (← e, ← e₂) (leaves-add b H L r T p j r' T' p' j' h h')
+
+pub leaves-same : (b : Bool) (H L r p j : ℕ) → r ≡ 0 → Leaves b H L r p p j
+leaves-same true H L r p j e = omega arith
+leaves-same false H L r p j e = rw e (omega arith)
+
+pub leaves-near : (b : Bool) (H L r T p j : ℕ) → p ≤ T → Leaves b H L r T p j → Near b H L r (T - p) j
+leaves-near true H L r T p j h k = omega (arith, ap (λ (x : ℕ). x * (scale * L)) (sub-add-cancel h))
+leaves-near false H L r T p j h k = omega (arith, ap (λ (x : ℕ). x * (scale * L)) (sub-add-cancel h))
+
+part-leaves : (b : Bool) (H L M r N₁ N₂ p₁ p₂ j₁ j₂ : ℕ) → 0 < M → Within b (N₂ * L) (r * (2 * scale * H * M) + N₁ * L) (r * (2 * L * M)) → Within b (p₂ * (2 * scale * M)) N₂ (j₂ * (2 * scale * M)) → Within (not b) (p₁ * (2 * scale * M)) N₁ (j₁ * (2 * scale * M)) → Leaves b H L r p₂ p₁ (j₂ + j₁)
+part-leaves true H L M r N₁ N₂ p₁ p₂ j₁ j₂ hM h f₂ f₁ =
+    le-of-mul-le-mul-right {k = 2 * M} (omega (arith, mul-le-mul-right L f₁, mul-le-mul-right L f₂)) (omega arith)
+part-leaves false H L M r N₁ N₂ p₁ p₂ j₁ j₂ hM h f₂ f₁ =
+    le-of-mul-le-mul-right {k = 2 * M} (omega (arith, mul-le-mul-right L f₁, mul-le-mul-right L f₂)) (omega arith)
+
+exact-within : (b : Bool) (x y : ℕ) → x ≡ y → Within b x y 0
+exact-within true x y e = omega arith
+exact-within false x y e = omega arith
+
+-- all but what lies past the higher point
+all-but : (b : Bool) (L M T A n₁ n₂ N v : ℕ) → n₂ + N ≡ 2 * scale * M * T → Within b (M * (2 * scale * T * L)) (A + (n₁ + n₂ * L)) v → Within b (N * L) (A + n₁) v
+all-but true L M T A n₁ n₂ N v e h = omega (arith, ap (λ (x : ℕ). x * L) e)
+all-but false L M T A n₁ n₂ N v e h = omega (arith, ap (λ (x : ℕ). x * L) e)
+
+pub two-floors : (b : Bool) → lost b + lost (not b) ≡ 1
+two-floors true = refl
+two-floors false = refl
+
+module _ (b : Bool) (H L M T : ℕ) (hM : 0 < M) (D : Mismatch) (safe : Safe D M T) (leans : CellRoom b H L M T (D .size)) where
+  -- the numerators of the low-end pieces up to x and up to y
+  part-within : (x y : ℕ) → x ≤ y → y ≤ M → Within b (numerator (opposite D) M T y * L) ((y - x) * (2 * scale * H * M) + numerator (opposite D) M T x * L) ((y - x) * (2 * L * M))
+  part-within x y h h' =
+      let past : M - (M - y) ≡ y = omega arith in
+      all-but b L M T _ _ _ _ _
+      (rw past at (numerators-meet D M T safe (M - y) (omega arith)))
+      (middle-within b (D .positive) M _ x (M - y) (y - x) (D .size * L) _ _ _ _ (omega arith)
+      (numerator-tilted (opposite D) L M T x (M - y + (y - x)) safe (omega arith))
+      (numerator-tilted D L M T (M - y) (x + (y - x)) safe (omega arith))
+      leans)
+
+  floored : (b : Bool) (x : ℕ) → Within b (lowPiece D M T x * (2 * scale * M)) (numerator (opposite D) M T x) (lost b * (2 * scale * M))
+  floored b x = rw (piece-is (opposite D) M T x) (floor-within b _ _ (omega arith))
+
+  none : (b : Bool) → Within b (0 * (2 * scale * M)) (numerator (opposite D) M T 0) (0 * (2 * scale * M))
+  none b = rw (numerator-none (opposite D) M T 0 refl, zero-mul) (exact-within b 0 0 refl)
+
+  whole : (b : Bool) → Within b (T * (2 * scale * M)) (numerator (opposite D) M T M) (0 * (2 * scale * M))
+  whole b = rw (numerator-whole (opposite D) M T safe, zero-mul) (exact-within b _ _ (omega arith))
+
+  -- a part in the middle, at the low end, at the high end, and all of it: each point inside the cell costs a floor
+  pub middle-leaves : (x y : ℕ) → x ≤ y → y ≤ M → Leaves b H L (y - x) (lowPiece D M T y) (lowPiece D M T x) (lost b + lost (not b))
+  middle-leaves x y h h' = part-leaves b H L M (y - x) _ _ _ _ _ _ hM (part-within x y h h') (floored b y) (floored (not b) x)
+
+  pub low-leaves : (y : ℕ) → y ≤ M → Leaves b H L (y - 0) (lowPiece D M T y) 0 (lost b + 0)
+  low-leaves y h = part-leaves b H L M (y - 0) _ _ _ _ _ _ hM (part-within 0 y (omega arith) h) (floored b y) (none (not b))
+
+  pub high-leaves : (x : ℕ) → x ≤ M → Leaves b H L (M - x) T (lowPiece D M T x) (0 + lost (not b))
+  high-leaves x h = part-leaves b H L M (M - x) _ _ _ _ _ _ hM (part-within x M h (omega arith)) (whole b) (floored (not b) x)
+
+  pub all-leaves : Leaves b H L (M - 0) T 0 (0 + 0)
+  all-leaves = part-leaves b H L M (M - 0) _ _ _ _ _ _ hM (part-within 0 M (omega arith) (omega arith)) (whole b) (none (not b))
 
 -- ---- the cell afterwards: p₂ units of tracer left it, r units of air stayed, and m with p units came in; each face cost a unit, of what came in or of what stayed
 pub replaced : (b : Bool) (H L r T m p p₂ f M' T' : ℕ) → Near b H L m p (f * lost b) → Leaves b H L r T p₂ (f * lost (not b)) → r + m ≡ M' → T + p - p₂ ≡ T' → Near b H L M' T' f

@@ -87,6 +87,14 @@ unfolding numerator
 numerator-of D M T m k e =
     ap (λ (u : ℕ). tilted (D .positive) (2 * scale * m * T) (D .size * m * u)) (omega arith)
 
+pub numerator-none : (D : Mismatch) (M T m : ℕ) → m ≡ 0 → numerator D M T m ≡ 0
+unfolding numerator
+numerator-none D M T m e = rw e (go (D .positive))
+  where
+    go : (b : Bool) → tilted b (2 * scale * 0 * T) (D .size * 0 * (M - 0)) ≡ 0
+    go true = omega arith
+    go false = omega arith
+
 -- m of m + j + k units, and m + j of them
 tilted-rises : (b : Bool) (d T m j k : ℕ) → d * (m + j + k) ≤ 2 * scale * T → tilted b (2 * scale * m * T) (d * m * (j + k)) ≤ tilted b (2 * scale * (m + j) * T) (d * (m + j) * k)
 tilted-rises true d T m j k s = omega (arith, mul-le-mul-right j s)
@@ -122,6 +130,9 @@ module _ (D : Mismatch) (M T : ℕ) (safe : Safe D M T) where
       go k e =
           let s : D .size * (m + k) ≤ 2 * scale * T = rw e safe in
           rw (numerator-of D M T m k e, numerator-of (opposite D) M T k m (omega arith), ← e) (tilted-meet (D .positive) (D .size) T m k s)
+
+  pub numerator-whole : numerator D M T M ≡ 2 * scale * M * T
+  numerator-whole = omega (arith, numerators-meet M (le-refl M), numerator-none (opposite D) M T (M - M) (omega arith))
 
   pub numerator-le : (m : ℕ) → m ≤ M → numerator D M T m ≤ 2 * scale * M * T
   numerator-le m h = omega (arith, numerators-meet m h)
