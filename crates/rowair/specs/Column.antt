@@ -3,7 +3,6 @@
 use Prim.Native.Nat.{ℕ, _+_, _-_, _≤_, _<_}
 use mathlib.Core.Bool.{Bool, true, false, _&&_}
 use mathlib.Core.Path.{_≡_, refl, sym, _∙_, ap, ap₂}
-use native.Mathlib.Nat.{add-assoc}
 use native.Mathlib.Omega.{arith}
 use borrow.Author.Tests.{leb-true, leb-false, le-leb, lt-leb}
 use lib.Dec.{leb}
@@ -18,25 +17,20 @@ use Rattle.model.specs.Laws.Substep.{at-after-flow, air-bounds}
 abbrev pub columnAllowed : ℕ → ℕ → ℕ → Bool
 columnAllowed m out come = leb out m && airFits (m + come - out)
 
--- the same without a difference that could be cut off
-not-empty : (all out : ℕ) → leb (out + 1) all ≡ leb 1 (all - out)
-not-empty all out = go (leb (out + 1) all) refl
+-- ---- the same without a difference that could be cut off
+same-test : (a b c d : ℕ) → (a ≤ b → c ≤ d) → (b < a → d < c) → leb a b ≡ leb c d
+same-test a b c d up down = go (leb a b) refl
   where
-    go : (b : Bool) → leb (out + 1) all ≡ b → b ≡ leb 1 (all - out)
-    go true e = sym (le-leb 1 (all - out) (omega (arith, leb-true (out + 1) all e)))
-    go false e = sym (lt-leb 1 (all - out) (omega (arith, leb-false (out + 1) all e)))
+    go : (t : Bool) → leb a b ≡ t → t ≡ leb c d
+    go true e = sym (le-leb c d (up (leb-true a b e)))
+    go false e = sym (lt-leb c d (down (leb-false a b e)))
 
-not-over : (all out : ℕ) → leb all (out + airLimit) ≡ leb (all - out) airLimit
-not-over all out = go (leb all (out + airLimit)) refl
-  where
-    go : (b : Bool) → leb all (out + airLimit) ≡ b → b ≡ leb (all - out) airLimit
-    go true e = sym (le-leb (all - out) airLimit (omega (arith, leb-true all (out + airLimit) e)))
-    go false e = sym (lt-leb (all - out) airLimit (omega (arith, leb-false all (out + airLimit) e)))
-
-pub column-test : (m out a b : ℕ) → leb out m && (leb (out + 1) (m + a + b) && leb (m + a + b) (out + airLimit)) ≡ columnAllowed m out (a + b)
-column-test m out a b =
-    ap₂ (λ (x y : Bool). leb out m && (x && y)) (not-empty (m + a + b) out) (not-over (m + a + b) out) ∙
-    ap (λ (n : ℕ). leb out m && airFits (n - out)) (add-assoc m a b)
+pub column-test : (m out come : ℕ) → leb out m && (leb (out + 1) (m + come) && leb (m + come) (out + airLimit)) ≡ columnAllowed m out come
+column-test m out come =
+    let after : ℕ = m + come - out in
+    let some = same-test (out + 1) (m + come) 1 after (λ h. omega arith) (λ h. omega arith) in
+    let fits = same-test (m + come) (out + airLimit) after airLimit (λ h. omega arith) (λ h. omega arith) in
+    ap₂ (λ (a b : Bool). leb out m && (a && b)) some fits
 
 -- so nothing is cut off, and what it has afterwards fits
 pub record ColumnNeed (m out come : ℕ) : Type 0 where

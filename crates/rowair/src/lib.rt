@@ -17,7 +17,7 @@ fn column_allowed(m: Air, outwest: Air, outeast: Air, inwest: Air, ineast: Air) 
 {
     let have = m.0 as u64;
     let given = (outwest.0 as u64) + (outeast.0 as u64);
-    let all = have + (inwest.0 as u64) + (ineast.0 as u64);
+    let all = have + ((inwest.0 as u64) + (ineast.0 as u64));
     (given <= have) & ((given + 1 <= all) & (all <= given + 65535))
 }
 
@@ -45,8 +45,8 @@ fn column_after(m: Air, outwest: Air, outeast: Air, inwest: Air, ineast: Air) ->
 {
     let have = m.0 as u64;
     let given = (outwest.0 as u64) + (outeast.0 as u64);
-    let all = have + (inwest.0 as u64) + (ineast.0 as u64);
-    let after = (all - given) as u32;
+    let gained = (inwest.0 as u64) + (ineast.0 as u64);
+    let after = (have + gained - given) as u32;
     Air(after)
 }
 

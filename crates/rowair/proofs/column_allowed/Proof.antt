@@ -21,11 +21,11 @@ add-given c = search needs
 cast-all : tie.Need-cast-all
 cast-all c = search needs
 
-add-all : tie.Need-add-all
-add-all c = search needs
-
 cast-all-2 : tie.Need-cast-all-2
 cast-all-2 c = search needs
+
+add-all : tie.Need-add-all
+add-all c = search needs
 
 add-all-2 : tie.Need-add-all-2
 add-all-2 c = search needs
@@ -39,7 +39,7 @@ add-result-2 c = search needs
 returns : tie.Need-returns
 returns c =
     let a = c .before .before .before .before .before .args in
-    column-test (a .m .0) (a .outwest .0 + a .outeast .0) (a .inwest .0) (a .ineast .0)
+    column-test (a .m .0) (a .outwest .0 + a .outeast .0) (a .inwest .0 + a .ineast .0)
 
 pub column-allowed-spec : {M : Type 1} → statement M
 column-allowed-spec =
@@ -50,8 +50,8 @@ column-allowed-spec =
     cast-given-2
     add-given
     cast-all
-    add-all
     cast-all-2
+    add-all
     add-all-2
     add-result
     add-result-2
