@@ -4,7 +4,7 @@ use Prim.Native.Nat.{ℕ, suc, _+_, _*_, _≤_, _<_}
 use mathlib.Core.List.{List}
 use mathlib.Core.Path.{_≡_}
 use mathlib.Core.Bool.{Bool, true, _&&_, and-eq-true-iff}
-use native.Mathlib.Nat.{mul-le-mul-right}
+use native.Mathlib.Nat.{mul-le-mul, mul-le-mul-right}
 use native.Mathlib.Omega.{arith}
 use borrow.Author.Tests.{leb-true}
 use lib.Dec.{leb}
@@ -76,3 +76,9 @@ in-range g e =
       lowN = n .0;
       highN = n .1;
     }
+
+-- a world has at most 32 layers of 3,170 cells
+pub world-cells-few : (g : declared.Grid) → InRange g → model.worldCells (gridOf g) ≤ 101440
+world-cells-few g range =
+    let layer : model.layerCells (gridOf g) ≤ 3170 = omega (arith, mul-le-mul {n₂ = 44} {m₂ = 72} (range .highR) (range .highW)) in
+    mul-le-mul {n₂ = 32} {m₂ = 3170} (range .highK) layer

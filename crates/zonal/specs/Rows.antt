@@ -41,7 +41,7 @@ row-room {tracers} {first} {cells} {w} {n} fit t h =
     (omega arith, omega arith)
 
 -- a part that is lent as `&s[a..e]` with e = a + w
-part-lent : (l : List ℕ) (a w : ℕ) → part l a (a + w - a) ≡ part l a w
+pub part-lent : (l : List ℕ) (a w : ℕ) → part l a (a + w - a) ≡ part l a w
 part-lent l a w = rw (add-sub-cancel-left a w)
 
 pub part-wide : (l : List ℕ) (a w : ℕ) → a + w ≤ length l → w ≤ 72 → length (part l a (a + w - a)) ≤ 72
@@ -64,7 +64,7 @@ abbrev pub storedUpTo : List ℕ → ℕ → ℕ → ℕ → ℕ → List (List 
 storedUpTo tracers first cells w t rows = storedRows tracers first cells w t rows ++ drop (t * cells) tracers
 
 -- a part that was lent as `&mut s[a..e]` with e = a + w, put back
-put-back : (l new : List ℕ) (a w : ℕ) → length new ≡ w → putMid a (a + w - a) l new ≡ written l a new
+pub put-back : (l new : List ℕ) (a w : ℕ) → length new ≡ w → putMid a (a + w - a) l new ≡ written l a new
 put-back l new a w e =
     let k : a + (a + w - a) ≡ a + length new = omega arith in
     sym (append-assoc (take a l) new _) ∙

@@ -1,8 +1,11 @@
 // The zonal sweep of one row in one layer.
 ghost use mathlib.Core.Path.{_≡_};
 ghost use Prim.Native.Nat.{ℕ, _+_, _*_, _≤_, _<_};
+ghost use Rattle.model.specs.Step.{step, zonal as zonal-call};
+ghost use Rattle.units.specs.Answer.{Agrees};
 ghost use Rattle.units.specs.Grid.{worldOf};
 ghost use Rattle.zonal.specs.Calls.{IsRowPlace};
+ghost use Rattle.zonal.specs.World.{TracersNeed, sweptTracers};
 ghost use Rattle.zonal.specs.Rows.{RowsFit, AreRows, storedRows};
 ghost use Rattle.zonal.specs.Swept.{SweepNeed, AreSwept};
 use places::Lent;
@@ -11,9 +14,11 @@ use places::fluxes_fit;
 use row::load_air;
 use row::load_gas;
 use row::parts_of;
+use row::store_air;
 use row::store_gas;
 use rowair::count;
 use rowair::step_air;
+use rowair::sweep_air;
 use rowgas::step_rows;
 use units::Air;
 use units::Answer;
@@ -22,6 +27,7 @@ use units::Refusal;
 use units::Tracer;
 use units::number;
 use units::row_start;
+use units::world_cells;
 
 // The row of each of the first n tracers, from its part of the lent amounts: tracer t's starts at `first` past t·K·C.
 fn load_rows(tracers: &[u32], first: usize, cells: usize, w: usize, n: usize) -> [[Tracer; 72]; 8]
@@ -141,4 +147,49 @@ fn row_place(
         first,
         count: n,
     }
+}
+
+// The row of every tracer, loaded, swept and written back.
+fn sweep_tracers(
+    g: Grid,
+    tracers: &mut [u32],
+    air: [Air; 72],
+    first: usize,
+    substeps: u32,
+    fluxes: &[i32],
+)
+    requires { ⌜ TracersNeed g (now tracers) air first (now fluxes) substeps ⌝ }
+    ensures { λ x. ⌜ now (tracers .exit) ≡ sweptTracers g (now (tracers .entry)) air first (now (fluxes .entry)) substeps ⌝ }
+{
+    let w = g.w as usize;
+    let n = g.n as usize;
+    let cells = world_cells(g) as usize;
+    let rows = load_rows(tracers, first, cells, w, n);
+    let swept = sweep_rows(rows, air, fluxes, substeps, n);
+    store_rows(swept, tracers, first, cells, w, n);
+}
+
+// Sweeps one row in one layer, in the air and in all tracers.
+pub fn zonal(
+    g: Grid,
+    air: &mut [u32],
+    tracers: &mut [u32],
+    layer: u32,
+    row: u32,
+    fluxes: &[i32],
+) -> Answer
+    ensures { λ x. ⌜ Agrees (step (worldOf g (now (air .entry)) (now (tracers .entry))) (zonal-call layer row (now (fluxes .entry)))) x (now (air .exit)) (now (tracers .exit)) ⌝ }
+{
+    let place = row_place(g, air, tracers, layer, row, fluxes);
+    let answer = place.answer;
+    if number(answer) == 0 {} else {
+        return answer;
+    }
+    let first = place.first;
+    let substeps = place.count;
+    let end = first + (g.w as usize);
+    let start = load_air(&air[first..end]);
+    sweep_tracers(g, tracers, start, first, substeps, fluxes);
+    store_air(sweep_air(start, fluxes, substeps), &mut air[first..end]);
+    answer
 }

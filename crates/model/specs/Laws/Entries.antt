@@ -1,6 +1,6 @@
 -- Lists as a loop fills them: what holds of the entries set so far, and of those not set yet.
 -- Assumes nothing.
-use Prim.Native.Nat.{ℕ, zero, suc, _+_, _≤_, _<_}
+use Prim.Native.Nat.{ℕ, zero, suc, _+_, _-_, _≤_, _<_}
 use mathlib.Core.List.{List, [], _∷_, _++_, append-assoc, append-nil}
 use mathlib.Core.Bool.{Bool, true, false}
 use mathlib.Core.Logic.{_⊎_, inl, inr, ⊎-elim}
@@ -11,8 +11,9 @@ use native.Mathlib.Omega.{arith}
 use borrow.Author.Tests.{ltb-true, ltb-false}
 use lib.Dec.{ltb}
 use lib.ListN.{length, getD, set, take, drop}
-use lib.Seq.{getD-set-same, getD-set-other, take-append-add, take-append-le, drop-append-add, drop-append-le}
-use Rattle.model.specs.Basic.{written, joined, tabFrom, tab}
+use lib.Seq.{getD-set-same, getD-set-other, take-append-add, take-append-le, drop-append-add, drop-append-le, ext-getD}
+use Rattle.model.specs.Basic.{at, part, written, joined, tabFrom, tab, sum}
+use Rattle.model.specs.Laws.Basic.{length-part, at-part, sum-ext, sum-split}
 
 module _ {A : Type 0} (d : A) (l : List A) (n : ℕ) (x : A) where
   -- P holds of the entries below n, and of the one that is set at n
@@ -60,3 +61,28 @@ written-middle a g r new first h =
     let back : drop (length a + first + length new) (a ++ (g ++ r)) ≡ drop (first + length new) g ++ r =
     ap (λ (k : ℕ). drop k (a ++ (g ++ r))) (add-assoc (length a) first (length new)) ∙ drop-append-add a (g ++ r) (first + length new) ∙ drop-append-le (first + length new) g r h in
     ap₂ (λ (x y : List ℕ). x ++ new ++ y) front back ∙ simp append-assoc
+
+-- lists joined are the same where each is
+pub joined-ext : (n : ℕ) (f g : ℕ → List ℕ) → ((t : ℕ) → t < n → f t ≡ g t) → joined (tab n f) ≡ joined (tab n g)
+joined-ext zero f g same = unfold tabFrom in refl
+joined-ext (suc n) f g same =
+    ap (λ (k : ℕ). joined (tab k f)) (sym (add-one n)) ∙ joined-more n f ∙
+    ap₂ (λ (a b : List ℕ). a ++ b) (joined-ext n f g (λ t h. same t (omega arith))) (same n (omega arith)) ∙
+    sym (joined-more n g) ∙ ap (λ (k : ℕ). joined (tab k g)) (add-one n)
+
+-- a part of a part
+pub part-part : (l : List ℕ) (a n b m : ℕ) → a + n ≤ length l → b + m ≤ n → part (part l a n) b m ≡ part l (a + b) m
+part-part l a n b m fits inside =
+    ext-getD 0 (part (part l a n) b m) (part l (a + b) m)
+    (length-part (part l a n) b m (rw (length-part l a n fits) inside) ∙ sym (length-part l (a + b) m (omega arith)))
+    (λ i h.
+    let k : i < m = rw (length-part (part l a n) b m (rw (length-part l a n fits) inside)) at h in
+    at-part (part l a n) b m i k ∙ at-part l a n (b + i) (omega arith) ∙ ap (at l) (omega arith) ∙ sym (at-part l (a + b) m i k))
+
+-- the sum of a part is at most the sum of all
+pub part-sum-le : (n : ℕ) (l : List ℕ) (a m : ℕ) → a + m ≤ n → sum m (at (part l a m)) ≤ sum n (at l)
+part-sum-le n l a m fits =
+    let rest : ℕ = n - (a + m) in
+    let whole : n ≡ a + m + rest = omega arith in
+    rw whole
+    (omega (arith, sum-ext m (at (part l a m)) (λ i. at l (a + i)) (λ i h. at-part l a m i h), sum-split (a + m) rest (at l), sum-split a m (at l)))

@@ -33,7 +33,7 @@ sweptGas mesh a fluxes n air had =
     written had a (gasAfter mesh fluxes n (part air a (mesh .cells)) (part had a (mesh .cells)) n)
 
 -- some of the cells have air of 1 to 65,535, where all have
-cells-in : (a m cells : ℕ) → a + m ≤ cells → (air : List ℕ) → AirIn cells air → AirIn m (part air a m)
+pub cells-in : (a m cells : ℕ) → a + m ≤ cells → (air : List ℕ) → AirIn cells air → AirIn m (part air a m)
 cells-in a m cells inside air fits i h = rw (at-part air a m i h) (fits (a + i) (omega arith))
 
 module _ (mesh : Mesh) (a : ℕ) (fluxes : List ℤ) (n cells : ℕ) (inside : a + mesh .cells ≤ cells) (air : List ℕ) where
