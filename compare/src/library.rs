@@ -40,6 +40,20 @@ extern "C" {
         cell: u32,
         amount: u32,
     ) -> u64;
+    fn puldeho_zonal(
+        w: u32,
+        r: u32,
+        k: u32,
+        n: u32,
+        air: *mut u32,
+        airs: usize,
+        tracers: *mut u32,
+        amounts: usize,
+        layer: u32,
+        row: u32,
+        fluxes: *const i32,
+        faces: usize,
+    ) -> u64;
     fn puldeho_total(
         w: u32,
         r: u32,
@@ -97,7 +111,21 @@ pub fn call(world: &mut World, call: &Call) -> Option<Answer> {
             Call::Cell { tracer, cell } => {
                 puldeho_cell(w, r, k, n, air, airs, tracers, amounts, *tracer, *cell)
             }
-            Call::Zonal { .. } | Call::Meridional { .. } | Call::Remap { .. } => return None,
+            Call::Zonal { layer, row, fluxes } => puldeho_zonal(
+                w,
+                r,
+                k,
+                n,
+                air,
+                airs,
+                tracers,
+                amounts,
+                *layer,
+                *row,
+                fluxes.as_ptr(),
+                fluxes.len(),
+            ),
+            Call::Meridional { .. } | Call::Remap { .. } => return None,
         }
     };
     Some(Answer {

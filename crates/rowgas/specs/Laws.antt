@@ -19,7 +19,7 @@ use Rattle.model.specs.Laws.Basic.{at-tab, tab-ext, sum-tab, term-le-sum}
 use Rattle.model.specs.Laws.Scheme.{mismatch-twice}
 use Rattle.model.specs.Laws.Ring.{west-in, east-in, ring-regular}
 use Rattle.model.specs.Laws.Substep.{AirIn, Covers, air-bounds, allowed-is, length-after-flow, at-after-flow, balance, total-after-flow, piece-up, piece-down, pieces-covered, gas-total-after-flow}
-use Rattle.scheme.specs.Leaves.{mismatchOf, Giver}
+use Rattle.scheme.specs.Leaves.{mismatchOf, Giver, IsMismatch}
 use Rattle.row.specs.Row.{airAt, gasAt, airRow, gasRow, flowOf, row-is}
 use Rattle.rowgas.specs.Gas.{HasAir, mismatchAt, AreRatios, AreMismatches, Givers, ArePieces, pieceFlow, Exchange, Gives, StepNeed, stepped, IsStep, rowOf, StepsNeed, AreSteps}
 
@@ -59,6 +59,10 @@ module _ (w : ℕ) (air : List Air) (gas : List Tracer) where
     where
       own : (j : ℕ) → j < w → at q j ≡ cellRatio (airRow w air) (gasRow w gas) j
       own j p = ratios .is j p ∙ sym (row-ratio j p)
+
+-- the mismatch with the columns found west and east of column k
+pub found-mismatch : (w k : ℕ) (q : List ℕ) (d : code.Mismatch) (west east : ℕ) → west ≡ westOf w k → east ≡ eastOf w k → IsMismatch (at q west) (at q k) (at q east) d → IsMismatch (at q (westOf w k)) (at q k) (at q (eastOf w k)) d
+found-mismatch w k q d west east e e' is = rw (e, e') at is
 
 -- ---- what a column gives
 amount-le : (w : ℕ) (gas : List Tracer) → sum w (at (gasRow w gas)) ≤ totalLimit → (k : ℕ) → k < w → gasAt gas k ≤ totalLimit

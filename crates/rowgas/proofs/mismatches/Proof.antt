@@ -9,6 +9,7 @@ use Rattle.model.specs.Sweep.{eastOf, westOf}
 use Rattle.model.specs.Laws.Entries.{entries-more}
 use Rattle.scheme.specs.Leaves.{IsMismatch}
 use Rattle.rowgas.specs.Gas.{mismatchAt}
+use Rattle.rowgas.specs.Laws.{found-mismatch}
 use borrow.Author.Needs.{needs}
 use Rattle.rowgas.proofs.mismatches.Statement.{statement}
 use Rattle.rowgas.proofs.mismatches.Tie as tie
@@ -65,11 +66,11 @@ loop-again : tie.Need-loop-again Inv-loop μ-loop
 loop-again c =
     let w = c .before .before .before .before .before .args .w in
     let q = c .before .before .before .before .before .args .t1 in
-    let l = c .before .before .before .before .loop in
-    let own = rw (c .before .before .west-of .ensures .0, c .before .east-of .ensures .0) at (c .mismatch .ensures) in (
+    let l = c .before .before .before .before .loop in (
       search needs,
       search needs,
-      entries-more _ (l .d) (l .i) _ (λ k x. IsMismatch (at q (westOf w k)) (at q k) (at q (eastOf w k)) x) (omega arith) (l .inv .2) own,
+      entries-more _ (l .d) (l .i) _ (λ k x. IsMismatch (at q (westOf w k)) (at q k) (at q (eastOf w k)) x) (omega arith) (l .inv .2)
+          (found-mismatch w (l .i) q _ _ _ (c .before .before .west-of .ensures .0) (c .before .east-of .ensures .0) (c .mismatch .ensures)),
     )
 
 returns : tie.Need-returns Inv-loop μ-loop
