@@ -25,10 +25,6 @@ use Rattle.rowgas.specs.Gas.{HasAir, mismatchAt, AreRatios, AreMismatche
 
 -- ---- the ring's cells
 module _ (w : ℕ) where
-  leaving-column : (flow : Flow) (k : ℕ) → leaving (ring w) flow k ≡ flow .toLow (westOf w k) + flow .toHigh k
-  unfolding ring leaving
-  leaving-column flow k = refl
-
   west-of-east : (k : ℕ) → k < w → westOf w (eastOf w k) ≡ k
   unfolding ring
   west-of-east k h = ring-regular w .highHas k h

@@ -18,7 +18,7 @@ use units::Air;
 use units::Mismatch;
 use units::Tracer;
 
-// The ratio of each column; 0 past the row.
+// The ratio of each column.
 pub fn ratios(air: [Air; 72], gas: [Tracer; 72], w: usize) -> [u64; 72]
     requires { ⌜ HasAir w air ⌝ }
     ensures { λ r. ⌜ AreRatios w air gas r ⌝ }
@@ -78,7 +78,7 @@ fn low_given(d: Mismatch, have: Air, t: Tracer, m: Air) -> Tracer
     }
 }
 
-// What passes each face of a tracer towards its high side and towards its low side; 0 past the row's faces.
+// What passes each face of a tracer, towards its high side and towards its low side.
 pub struct Pieces {
     pub to_high: [Tracer; 72],
     pub to_low: [Tracer; 72],
