@@ -116,16 +116,18 @@ fn index(random: &mut Random, n: u64) -> u32 {
     }
 }
 
-fn fluxes(random: &mut Random, faces: u64, typical: u64, limit: u64) -> Vec<i32> {
+/// Fluxes round one common value, so that cells keep about the air they have; now and then a wild one.
+fn fluxes(random: &mut Random, faces: u64, most: u64, noise: u64, limit: u64) -> Vec<i32> {
     let faces = if random.one_in(50) { faces + 1 } else { faces };
-    let push = random.below(typical * 3 + 1) as i64 - typical as i64;
+    let common = random.below(2 * most + 1) as i64 - most as i64;
+    let wild = random.one_in(8);
     (0..faces)
-        .map(|_| match random.below(400) {
+        .map(|_| match random.below(if wild { 100 } else { 20_000 }) {
             0 => i32::MIN,
             1 => limit as i32,
             2 => -(limit as i32) - 1,
-            3..=60 => 0,
-            _ => (push + random.below(typical + 1) as i64 - (typical / 2) as i64)
+            3..=8 => 0,
+            _ => (common + random.below(2 * noise + 1) as i64 - noise as i64)
                 .clamp(-(limit as i64), limit as i64) as i32,
         })
         .collect()
@@ -195,22 +197,28 @@ pub fn call(random: &mut Random, world: &World) -> Call {
             }
         }
         6..=8 => {
-            let push = typical * random.between(1, 6);
+            let most = typical * random.below(8);
+            let noise = typical / random.between(3, 30);
             Call::Zonal {
                 layer: index(random, k),
                 row: index(random, r),
-                fluxes: fluxes(random, w.min(80), push, 1_048_560),
+                fluxes: fluxes(random, w.min(80), most, noise, 1_048_560),
             }
         }
-        9 | 10 => Call::Meridional {
-            layer: index(random, k),
-            fluxes: fluxes(
-                random,
-                (w * (r + 1)).min(5000),
-                (typical / 3).max(1),
-                65_535,
-            ),
-        },
+        9 | 10 => {
+            let most = typical / random.between(2, 40);
+            let noise = typical / random.between(10, 80);
+            Call::Meridional {
+                layer: index(random, k),
+                fluxes: fluxes(
+                    random,
+                    (w * (r + 1)).min(5000),
+                    most / w.max(1),
+                    noise,
+                    65_535,
+                ),
+            }
+        }
         _ => Call::Remap {
             table: table(random, k.clamp(1, 40)),
         },
