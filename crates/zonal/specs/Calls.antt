@@ -22,7 +22,7 @@ use Rattle.units.specs.declared.Answer.{Answer}
 use Rattle.units.specs.declared.Answer.the-variants.{Accepted, Refused}
 use Rattle.units.specs.declared.Refusal.{Refusal}
 use Rattle.units.specs.declared.Refusal.the-variants.{Index, Fluxes, Zonal}
-use Rattle.units.specs.Answer.{refusalNumber, numberOf, countOf, Agrees}
+use Rattle.units.specs.Answer.{refusalNumber, numberOf, Agrees}
 use Rattle.units.specs.Agrees.{refused-agrees, place-agrees, accepted-agrees}
 use Rattle.places.specs.declared.Lent.the-variants.{RowFluxes}
 use Rattle.places.specs.Tested.{IsTested, Passed}
@@ -103,7 +103,6 @@ pub record RowFound (w : World) (k r : ℕ) (fluxes : List ℤ) (first count : �
 pub record IsRowPlace (w : World) (k r : ℕ) (fluxes : List ℤ) (answer : Answer) (first count : ℕ) : Type 0 where
   pub refused : (numberOf answer ≡ 0 → ⊥) → Agrees (step w (zonal k r fluxes)) answer (w .air) (w .tracers)
   pub found : numberOf answer ≡ 0 → RowFound w k r fluxes first count
-  pub counted : numberOf answer ≡ 0 → countOf answer ≡ count
 
 module _ (w : World) (k r : ℕ) (fluxes : List ℤ) (answer : Answer) (first count : ℕ) where
   pub place-common : (tested : Answer) (sums : List ℕ) → IsTested w (RowFluxes (length fluxes)) tested sums → (numberOf tested ≡ 0 → ⊥) → answer ≡ tested → IsRowPlace w k r fluxes answer first count
@@ -111,7 +110,6 @@ module _ (w : World) (k r : ℕ) (fluxes : List ℤ) (answer : Answer) (first co
       record {
         refused = λ _. rw e (refused-agrees w (zonal k r fluxes) tested (is .refused nonzero (zonal k r fluxes) refl) nonzero (is .count));
         found = λ z. absurd (nonzero (rw e at z));
-        counted = λ z. absurd (nonzero (rw e at z));
       }
 
   pub place-refused : (p : Refusal) → (refusalNumber p ≡ 0 → ⊥) → answer ≡ Refused p → refusal w (zonal k r fluxes) ≡ refusalNumber p → IsRowPlace w k r fluxes answer first count
@@ -119,7 +117,6 @@ module _ (w : World) (k r : ℕ) (fluxes : List ℤ) (answer : Answer) (first co
       record {
         refused = λ _. rw e (place-agrees w (zonal k r fluxes) p by nonzero);
         found = λ z. absurd (nonzero (rw e at z));
-        counted = λ z. absurd (nonzero (rw e at z));
       }
 
   pub place-found : answer ≡ Accepted count → RowFound w k r fluxes first count → IsRowPlace w k r fluxes answer first count
@@ -127,5 +124,4 @@ module _ (w : World) (k r : ℕ) (fluxes : List ℤ) (answer : Answer) (first co
       record {
         refused = λ nonzero. absurd (nonzero (ap numberOf e));
         found = λ z. found;
-        counted = λ z. ap countOf e;
       }

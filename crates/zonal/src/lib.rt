@@ -191,5 +191,5 @@ pub fn zonal(
     let start = load_air(&air[first..end]);
     sweep_tracers(g, tracers, start, first, substeps, fluxes);
     store_air(sweep_air(start, fluxes, substeps), &mut air[first..end]);
-    answer
+    Answer::Accepted(substeps)
 }
