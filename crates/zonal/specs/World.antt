@@ -29,8 +29,8 @@ use Rattle.units.specs.Grid.{gridOf, worldOf, InRange, in-range, world-cells-fe
 use Rattle.row.specs.Row.{airRow, gasRow}
 use Rattle.rowair.specs.Substeps.{rowServes, rowChain}
 use Rattle.rowgas.specs.Gas.{rowOf}
-use Rattle.zonal.specs.Rows.{RowsFit, AreRows, storedRows, part-lent, put-back}
-use Rattle.zonal.specs.Swept.{SweepNeed, AreSwept}
+use Rattle.rows.specs.Rows.{RowsFit, AreRows, storedRows, part-lent, put-back}
+use Rattle.rows.specs.Swept.{SweepNeed, AreSwept}
 use Rattle.zonal.specs.Calls.{RowFound, row-loaded}
 
 -- a row of W columns from cell `first` on, in a world of the grid's lengths, and a count that serves

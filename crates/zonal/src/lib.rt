@@ -1,99 +1,27 @@
 // The zonal sweep of one row in one layer.
 ghost use mathlib.Core.Path.{_≡_};
-ghost use Prim.Native.Nat.{ℕ, _+_, _*_, _≤_, _<_};
 ghost use Rattle.model.specs.Step.{step, zonal as zonal-call};
 ghost use Rattle.units.specs.Answer.{Agrees};
 ghost use Rattle.units.specs.Grid.{worldOf};
 ghost use Rattle.zonal.specs.Calls.{IsRowPlace};
 ghost use Rattle.zonal.specs.World.{TracersNeed, sweptTracers};
-ghost use Rattle.zonal.specs.Rows.{RowsFit, AreRows, storedRows};
-ghost use Rattle.zonal.specs.Swept.{SweepNeed, AreSwept};
 use places::Lent;
 use places::common_places;
 use places::fluxes_fit;
 use row::load_air;
-use row::load_gas;
-use row::parts_of;
 use row::store_air;
-use row::store_gas;
 use rowair::count;
-use rowair::step_air;
 use rowair::sweep_air;
-use rowgas::step_rows;
+use rows::load_rows;
+use rows::store_rows;
+use rows::sweep_rows;
 use units::Air;
 use units::Answer;
 use units::Grid;
 use units::Refusal;
-use units::Tracer;
 use units::number;
 use units::row_start;
 use units::world_cells;
-
-// The row of each of the first n tracers, from its part of the lent amounts: tracer t's starts at `first` past t·K·C.
-fn load_rows(tracers: &[u32], first: usize, cells: usize, w: usize, n: usize) -> [[Tracer; 72]; 8]
-    requires { ⌜ RowsFit (now tracers) first cells w n ⌝ }
-    ensures { λ r. ⌜ AreRows (now (tracers .entry)) first cells w n r ⌝ }
-{
-    let none = [Tracer(0); 72];
-    let mut rows = [none; 8];
-    let mut t = 0;
-    while t < n {
-        let a = t * cells + first;
-        let e = a + w;
-        let r = load_gas(&tracers[a..e]);
-        rows[t] = r;
-        t += 1;
-    }
-    rows
-}
-
-// Writes the row of each of the first n tracers back to its part.
-fn store_rows(
-    rows: [[Tracer; 72]; 8],
-    tracers: &mut [u32],
-    first: usize,
-    cells: usize,
-    w: usize,
-    n: usize,
-)
-    requires { ⌜ RowsFit (now tracers) first cells w n ⌝ }
-    ensures { λ r. ⌜ now (tracers .exit) ≡ storedRows (now (tracers .entry)) first cells w n rows ⌝ }
-{
-    let mut t = 0;
-    while t < n {
-        let a = t * cells + first;
-        let e = a + w;
-        let r = rows[t];
-        store_gas(r, &mut tracers[a..e]);
-        t += 1;
-    }
-}
-
-// The rows of the first `tracers` tracers after n substeps.
-fn sweep_rows(
-    rows: [[Tracer; 72]; 8],
-    air: [Air; 72],
-    fluxes: &[i32],
-    n: u32,
-    tracers: usize,
-) -> [[Tracer; 72]; 8]
-    requires { ⌜ SweepNeed rows air (now fluxes) n tracers ⌝ }
-    ensures { λ r. ⌜ AreSwept rows air (now (fluxes .entry)) n tracers r ⌝ }
-{
-    let w = fluxes.len();
-    let mut current = rows;
-    let mut current_air = air;
-    let mut s = 0;
-    while s < n {
-        let f = parts_of(fluxes, n, s + 1);
-        let next = step_rows(current, current_air, f, w, tracers);
-        let next_air = step_air(current_air, f, w);
-        current = next;
-        current_air = next_air;
-        s += 1;
-    }
-    current
-}
 
 // The answer of places 1 to 9; where the row starts, and its substep count.
 pub struct RowPlace {

@@ -8,7 +8,7 @@ use lib.ListN.{length}
 use Rattle.model.specs.Step.{zonalCount}
 use Rattle.units.specs.Grid.{worldOf, in-range}
 use Rattle.units.specs.declared.Refusal.the-variants.{Index, Fluxes, Zonal}
-use Rattle.zonal.specs.Rows.{part-wide}
+use Rattle.rows.specs.Rows.{part-wide}
 use Rattle.zonal.specs.Calls.{place-common, place-refused, place-found, no-layer, no-row, flux-too-large, none-serves, sweep-accepted, count-found}
 use borrow.Author.Needs.{needs}
 use Rattle.zonal.proofs.row_place.Statement.{statement}

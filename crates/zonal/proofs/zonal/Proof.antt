@@ -3,7 +3,7 @@
 use mathlib.Core.Path.{refl, sym, _∙_}
 use native.Mathlib.Omega.{arith}
 use Rattle.units.specs.Grid.{in-range}
-use Rattle.zonal.specs.Rows.{part-wide}
+use Rattle.rows.specs.Rows.{part-wide}
 use Rattle.zonal.specs.World.{row-near, row-in-air, count-serves, tracers-need, zonal-agrees}
 use borrow.Author.Needs.{needs}
 use Rattle.zonal.proofs.zonal.Statement.{statement}

@@ -1,4 +1,4 @@
--- `zonal::store_rows` meets its contract. The loop's invariant: the rows of the tracers passed are written, the others are as lent.
+-- `rows::store_rows` meets its contract. The loop's invariant: the rows of the tracers passed are written, the others are as lent.
 -- Assumes nothing.
 use Prim.Native.Nat.{_≤_, _-_}
 use mathlib.Core.Path.{_≡_, ap, _∙_}
@@ -6,9 +6,9 @@ use lib.ListN.{length}
 use native.Mathlib.Omega.{arith}
 use borrow.Author.Needs.{needs}
 use Rattle.rowgas.specs.Gas.{rowOf}
-use Rattle.zonal.specs.Rows.{storedUpTo, row-room, stored-none, stored-more, stored-all, length-stored-up-to, row-written}
-use Rattle.zonal.proofs.store_rows.Statement.{statement}
-use Rattle.zonal.proofs.store_rows.Tie as tie
+use Rattle.rows.specs.Rows.{storedUpTo, row-room, stored-none, stored-more, stored-all, length-stored-up-to, row-written}
+use Rattle.rows.proofs.store_rows.Statement.{statement}
+use Rattle.rows.proofs.store_rows.Tie as tie
 
 abbrev Inv-loop : tie.InvT-loop
 Inv-loop tracers₀ first cells w n rows t₀ tracers t = (t ≤ n) × (tracers ≡ storedUpTo tracers₀ first cells w t rows)

@@ -1,11 +1,11 @@
--- `zonal::sweep_rows` meets its contract. The loop's invariant: the air and every tracer after s substeps.
+-- `rows::sweep_rows` meets its contract. The loop's invariant: the air and every tracer after s substeps.
 -- Assumes nothing.
 use Prim.Native.Nat.{_≤_, _-_}
 use native.Mathlib.Omega.{arith}
 use borrow.Author.Needs.{needs}
-use Rattle.zonal.specs.Swept.{After, after-none, step-allowed, rows-may-step, after-more, after-all}
-use Rattle.zonal.proofs.sweep_rows.Statement.{statement}
-use Rattle.zonal.proofs.sweep_rows.Tie as tie
+use Rattle.rows.specs.Swept.{After, after-none, step-allowed, rows-may-step, after-more, after-all}
+use Rattle.rows.proofs.sweep_rows.Statement.{statement}
+use Rattle.rows.proofs.sweep_rows.Tie as tie
 
 abbrev Inv-loop : tie.InvT-loop
 Inv-loop fluxes n tracers w current₀ current-air₀ s₀ current current-air s =

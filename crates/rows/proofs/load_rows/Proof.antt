@@ -1,13 +1,13 @@
--- `zonal::load_rows` meets its contract. The loop's invariant: the rows of the tracers passed.
+-- `rows::load_rows` meets its contract. The loop's invariant: the rows of the tracers passed.
 -- Assumes nothing.
 use Prim.Native.Nat.{_≤_, _-_}
 use mathlib.Core.Path.{_≡_}
 use native.Mathlib.Omega.{arith}
 use lib.ListN.{length}
 use borrow.Author.Needs.{needs}
-use Rattle.zonal.specs.Rows.{AreRows, rows-none, rows-more, row-room}
-use Rattle.zonal.proofs.load_rows.Statement.{statement}
-use Rattle.zonal.proofs.load_rows.Tie as tie
+use Rattle.rows.specs.Rows.{AreRows, rows-none, rows-more, row-room}
+use Rattle.rows.proofs.load_rows.Statement.{statement}
+use Rattle.rows.proofs.load_rows.Tie as tie
 
 abbrev Inv-loop : tie.InvT-loop
 Inv-loop tracers first cells w n rows₀ t₀ rows t = (t ≤ n) × (length rows ≡ 8) × AreRows tracers first cells w t rows
