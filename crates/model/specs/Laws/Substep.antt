@@ -69,15 +69,15 @@ allowed-is mesh flow air e =
 
 -- ---- the mismatch of a cell
 module _ (mesh : Mesh) (air gas : List ℕ) (c : ℕ) where
-  mismatch-between : (l h : ℕ) → mesh .sides c ≡ between l h → cellMismatch mesh air gas c ≡ mismatch (cellRatio air gas (mesh .lowCell l)) (cellRatio air gas c) (cellRatio air gas (mesh .highCell h))
+  pub mismatch-between : (l h : ℕ) → mesh .sides c ≡ between l h → cellMismatch mesh air gas c ≡ mismatch (cellRatio air gas (mesh .lowCell l)) (cellRatio air gas c) (cellRatio air gas (mesh .highCell h))
   unfolding cellMismatch
   mismatch-between l h e = rw (e, cellMismatch)
 
-  mismatch-south : (k n : ℕ) → mesh .sides c ≡ southCap k n → cellMismatch mesh air gas c ≡ plain
+  pub mismatch-south : (k n : ℕ) → mesh .sides c ≡ southCap k n → cellMismatch mesh air gas c ≡ plain
   unfolding cellMismatch
   mismatch-south k n e = rw (e, cellMismatch)
 
-  mismatch-north : (k n : ℕ) → mesh .sides c ≡ northCap k n → cellMismatch mesh air gas c ≡ plain
+  pub mismatch-north : (k n : ℕ) → mesh .sides c ≡ northCap k n → cellMismatch mesh air gas c ≡ plain
   unfolding cellMismatch
   mismatch-north k n e = rw (e, cellMismatch)
 
