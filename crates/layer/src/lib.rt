@@ -25,8 +25,10 @@ pub fn flow_of(fluxes: &[i32]) -> LayerFlow
     while i < fluxes.len() {
         let x = fluxes[i];
         let f = split(x);
-        high[i] = f.to_high;
-        low[i] = f.to_low;
+        let up = f.to_high;
+        let down = f.to_low;
+        high[i] = up;
+        low[i] = down;
         i += 1;
     }
     LayerFlow {
