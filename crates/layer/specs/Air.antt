@@ -2,12 +2,14 @@
 -- Assumes nothing.
 use Prim.Native.Nat.{ℕ, _+_, _*_, _≤_, _<_}
 use mathlib.Core.List.{List}
+use mathlib.Core.Bool.{true}
 use mathlib.Core.Path.{_≡_, refl}
 use lib.IntN.{ℤ}
 use lib.ListN.{length}
 use Rattle.layer.specs.declared.LayerFlow.{LayerFlow}
-use Rattle.model.specs.Sweep.{Flow, forward, backward, parts}
+use Rattle.model.specs.Sweep.{Flow, layer, allowed, forward, backward, parts}
 use Rattle.row.specs.Row.{airAt, Filled, filled-at}
+use Rattle.layer.specs.Cells.{Over}
 
 -- the flow that the arrays hold
 abbrev pub flowOf : LayerFlow → Flow
@@ -22,3 +24,8 @@ filled-flow fluxes f high low =
       toHigh = λ k. filled-at 3240 fluxes 1 1 forward refl (f .«to_high») high k i;
       toLow = λ k. filled-at 3240 fluxes 1 1 backward refl (f .«to_low») low k i;
     }
+
+-- a substep that is allowed
+pub record AirNeed (w rows : ℕ) (flow : Flow) (air : List ℕ) : Type 0 where
+  pub over : Over w rows air
+  pub permits : allowed (layer w rows) flow air ≡ true
