@@ -4,12 +4,15 @@ use Prim.Native.Nat.{ℕ, _+_, _*_, _≤_, _<_}
 use mathlib.Core.List.{List}
 use mathlib.Core.Bool.{true}
 use mathlib.Core.Path.{_≡_, refl}
+use native.Mathlib.Omega.{arith}
 use lib.IntN.{ℤ}
 use lib.ListN.{length}
 use Rattle.layer.specs.declared.LayerFlow.{LayerFlow}
-use Rattle.model.specs.Sweep.{Flow, layer, allowed, forward, backward, parts}
+use Rattle.model.specs.Basic.{at}
+use Rattle.model.specs.Sweep.{Flow, layer, afterFlow, allowed, forward, backward, parts}
+use Rattle.model.specs.Laws.Substep.{allowed-is, air-bounds}
 use Rattle.row.specs.Row.{airAt, Filled, filled-at}
-use Rattle.layer.specs.Cells.{Over}
+use Rattle.layer.specs.Cells.{Over, Moves}
 
 -- the flow that the arrays hold
 abbrev pub flowOf : LayerFlow → Flow
@@ -29,3 +32,13 @@ filled-flow fluxes f high low =
 pub record AirNeed (w rows : ℕ) (flow : Flow) (air : List ℕ) : Type 0 where
   pub over : Over w rows air
   pub permits : allowed (layer w rows) flow air ≡ true
+
+pub air-moves : {w rows : ℕ} {flow : Flow} {air : List ℕ} → AirNeed w rows flow air → Moves w rows flow air
+unfolding layer
+air-moves {w} {rows} {flow} {air} need =
+    let allows = allowed-is (layer w rows) flow air (need .permits) in
+    record {
+      over = need .over;
+      covers = allows .covers;
+      after = λ c h. omega (arith, air-bounds (at (afterFlow (layer w rows) flow air) c) (allows .after c h) .1);
+    }

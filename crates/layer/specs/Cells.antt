@@ -56,9 +56,9 @@ pub record Cell (mesh : Mesh) (flow : Flow) (c e l : ℕ) : Type 0 where
   pub leaves : l ≡ leaving mesh flow c
 
 module _ (w rows : ℕ) (flow : Flow) where
-  pub south-cell : Cell (layer w rows) flow 0 (sum w (λ i. flow .toLow (0 + i))) (sum w (λ i. flow .toHigh (0 + i)))
+  pub south-cell : {e l : ℕ} → IsSum (flow .toLow) 0 w e → IsSum (flow .toHigh) 0 w l → Cell (layer w rows) flow 0 e l
   unfolding layer leaving
-  south-cell = record { inside = omega arith; enters = refl; leaves = refl }
+  south-cell enters leaves = record { inside = omega arith; enters = enters .is; leaves = leaves .is }
 
   pub row-cell : (j : ℕ) → j < rows * w → Cell (layer w rows) flow (1 + j) (flow .toHigh j + flow .toLow (w + j)) (flow .toLow j + flow .toHigh (w + j))
   unfolding layer
@@ -69,13 +69,13 @@ module _ (w rows : ℕ) (flow : Flow) where
         leaves = sym (leaving-inner w rows flow j h);
       }
 
-  pub north-cell : Cell (layer w rows) flow (1 + rows * w) (sum w (λ i. flow .toHigh (rows * w + i))) (sum w (λ i. flow .toLow (rows * w + i)))
+  pub north-cell : {e l : ℕ} → IsSum (flow .toHigh) (rows * w) w e → IsSum (flow .toLow) (rows * w) w l → Cell (layer w rows) flow (1 + rows * w) e l
   unfolding layer
-  north-cell =
+  north-cell enters leaves =
       record {
         inside = omega arith;
-        enters = sym (leaving-north w rows (reversed flow));
-        leaves = sym (leaving-north w rows flow);
+        enters = enters .is ∙ sym (leaving-north w rows (reversed flow));
+        leaves = leaves .is ∙ sym (leaving-north w rows flow);
       }
 
 module _ {mesh : Mesh} {flow : Flow} {c e l : ℕ} (cell : Cell mesh flow c e l) (amounts : List ℕ) where
@@ -158,3 +158,46 @@ module _ {w rows : ℕ} {flow : Flow} {before : List ℕ} (moves : Moves w rows 
           left = λ k p. getD-set-other l (1 + j) (1 + k) x 0 (λ u. omega arith) ∙ moved .left k (omega arith);
           south = getD-set-other l (1 + j) 0 x 0 (λ u. omega arith) ∙ moved .south;
         }
+
+  -- the rows passed on, and then the caps
+  module _ {l : List ℕ} (moved : Moved w rows flow before l (rows * w)) where
+    pub south-exchange : {e₀ l₀ : ℕ} → Cell (layer w rows) flow 0 e₀ l₀ → Exchange (at l 0) e₀ l₀
+    south-exchange south =
+        rw (moved .south) (cell-exchange south before (moves .covers) (moves .after 0 (omega arith)))
+
+    pub north-exchange : {e₁ l₁ : ℕ} → Cell (layer w rows) flow (1 + rows * w) e₁ l₁ → Exchange (at l (1 + rows * w)) e₁ l₁
+    north-exchange north =
+        rw (moved .left (rows * w) (omega arith))
+        (cell-exchange north before (moves .covers) (moves .after (1 + rows * w) (omega arith)))
+
+    module _ {e₀ l₀ e₁ l₁ : ℕ} (south : Cell (layer w rows) flow 0 e₀ l₀) (north : Cell (layer w rows) flow (1 + rows * w) e₁ l₁) where
+      pub all-moved : (x y : ℕ) → x ≡ at l 0 + e₀ - l₀ → y ≡ at l (1 + rows * w) + e₁ - l₁ → set (set l 0 x) (1 + rows * w) y ≡ afterFlow (layer w rows) flow before
+      all-moved x y ex ey =
+          ext-getD 0 _ _ (long ∙ sym (length-after-flow (layer w rows) flow before ∙ cells))
+          (λ c h. each c (rw long at h))
+        where
+          long : length (set (set l 0 x) (1 + rows * w) y) ≡ 2 + rows * w
+          long =
+              length-set (set l 0 x) (1 + rows * w) y ∙ length-set l 0 x ∙ moved .long ∙ moves .over .long
+
+          room : length (set l 0 x) ≡ 2 + rows * w
+          room = length-set l 0 x ∙ moved .long ∙ moves .over .long
+
+          above : (k : ℕ) → k ≤ rows * w → at (set (set l 0 x) (1 + rows * w) y) (1 + k) ≡ at (afterFlow (layer w rows) flow before) (1 + k)
+          above k h =
+              ⊎-elim
+              (λ (q : k ≡ rows * w).
+              rw (q, getD-set-same (set l 0 x) (1 + rows * w) y 0 (omega (arith, room)), ey, moved .left (rows * w) (omega arith)) (cell-after north before))
+              (λ (q : k < rows * w).
+              getD-set-other (set l 0 x) (1 + rows * w) (1 + k) y 0 (λ u. omega arith) ∙
+              getD-set-other l 0 (1 + k) x 0 (λ u. omega arith) ∙ moved .done k q)
+              (eq-or-lt-of-le h)
+
+          each : (c : ℕ) → c < 2 + rows * w → at (set (set l 0 x) (1 + rows * w) y) c ≡ at (afterFlow (layer w rows) flow before) c
+          each zero h =
+              getD-set-other (set l 0 x) (1 + rows * w) 0 y 0 (λ u. omega arith) ∙
+              getD-set-same l 0 x 0 (omega (arith, moved .long, moves .over .long)) ∙
+              rw (ex, moved .south) (cell-after south before)
+          each (suc k) h =
+              let e : suc k ≡ 1 + k = omega arith in
+              rw e (above k (omega arith))

@@ -136,13 +136,7 @@ fn air_after(have: Air, enters: u64, leaves: u64) -> Air
 }
 
 // The same for a cell between the caps.
-fn row_air_after(
-    have: Air,
-    from_south: Air,
-    from_north: Air,
-    to_south: Air,
-    to_north: Air,
-) -> Air
+fn row_air_after(have: Air, from_south: Air, from_north: Air, to_south: Air, to_north: Air) -> Air
     requires { ⌜ Exchange (have .0) («from_south» .0 + «from_north» .0) («to_south» .0 + «to_north» .0) ⌝ }
     ensures { λ r. ⌜ r .0 ≡ have .0 + («from_south» .0 + «from_north» .0) - («to_south» .0 + «to_north» .0) ⌝ }
 {
@@ -184,7 +178,7 @@ pub fn step_layer_air(air: &mut [u32], f: LayerFlow, w: usize, rows: usize)
     let low = f.to_low;
     step_rows_air(air, f, w, rows);
     let at_south = air_after(Air(air[0]), air_sum(low, 0, w), air_sum(high, 0, w));
-    air[0] = at_south.0;
     let at_north = air_after(Air(air[north]), air_sum(high, n, w), air_sum(low, n, w));
+    air[0] = at_south.0;
     air[north] = at_north.0;
 }

@@ -9,8 +9,6 @@ use Rattle.row.specs.Row.{airAt}
 use borrow.Author.Needs.{needs}
 use Rattle.layer.proofs.air_sum.Statement.{statement}
 use Rattle.layer.proofs.air_sum.Tie as tie
-use Rattle.layer.proofs.air_sum.Reads as reads
-use Rattle.layer.proofs.air_sum.Lts as lts
 
 abbrev Inv-loop : tie.InvT-loop
 Inv-loop first w a total₀ i₀ total i = (i ≤ w) × (total ≡ sum i (λ k. airAt a (first + k))) × (total ≤ 4294967295 * i)
@@ -43,14 +41,14 @@ loop-less : tie.Need-loop-less Inv-loop μ-loop
 loop-less c = search needs
 
 loop-again : tie.Need-loop-again Inv-loop μ-loop
-loop-again c = 
+loop-again c =
     let l = c .before .before .before .loop in
     let a = c .before .before .before .before .args in
     let own : ℕ = airAt (a .t1) (a .first + l .i) in
     (search needs, ap (λ (x : ℕ). x + own) (l .inv .1) ∙ sym (sum-more (l .i) _), search needs)
 
 returns : tie.Need-returns Inv-loop μ-loop
-returns c = 
+returns c =
     let l = c .before .loop in
     let done : l .i ≡ c .before .before .args .w = omega arith in
     record { is = rw done at (l .inv .1); small = search needs }

@@ -5,8 +5,6 @@ use borrow.Author.Tests.{le-leb, lt-leb}
 use borrow.Author.Needs.{needs}
 use Rattle.layer.proofs.cell_allows.Statement.{statement}
 use Rattle.layer.proofs.cell_allows.Tie as tie
-use Rattle.layer.proofs.cell_allows.Reads as reads
-use Rattle.layer.proofs.cell_allows.Lts as lts
 
 cast-m : tie.Need-cast-m
 cast-m c = search needs

@@ -13,9 +13,6 @@ use Rattle.row.specs.Row.{Filled, filled-none, filled-more}
 use Rattle.layer.specs.Air.{filled-flow}
 use Rattle.layer.proofs.flow_of.Statement.{statement}
 use Rattle.layer.proofs.flow_of.Tie as tie
-use Rattle.layer.proofs.flow_of.Reads as reads
-use Rattle.layer.proofs.flow_of.Lts as lts
-use Rattle.scheme.proofs.split.Reads as split-reads
 
 abbrev Inv-loop : tie.InvT-loop
 Inv-loop fluxes high₀ low₀ i₀ high low i = (i ≤ length fluxes) × Filled 3240 fluxes 1 1 forward high i × Filled 3240 fluxes 1 1 backward low i
@@ -54,7 +51,7 @@ loop-less : tie.Need-loop-less Inv-loop μ-loop
 loop-less c = search needs
 
 loop-again : tie.Need-loop-again Inv-loop μ-loop
-loop-again c = 
+loop-again c =
     let l = c .before .before .before .before .before .loop in
     let halves = c .before .before .split .ensures in
     let x = flux (c .before .before .before .before .before .before .args .fluxes .now) (l .i) in
@@ -65,7 +62,7 @@ loop-again c =
     )
 
 returns : tie.Need-returns Inv-loop μ-loop
-returns c = 
+returns c =
     let l = c .before .loop in
     let done : l .i ≡ length (c .before .before .args .fluxes .now) = omega arith in
     filled-flow _ _ (rw done at (l .inv .1)) (rw done at (l .inv .2))

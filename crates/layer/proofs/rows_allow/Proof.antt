@@ -12,9 +12,6 @@ use Rattle.layer.specs.Air.{flowOf}
 use borrow.Author.Needs.{needs}
 use Rattle.layer.proofs.rows_allow.Statement.{statement}
 use Rattle.layer.proofs.rows_allow.Tie as tie
-use Rattle.layer.proofs.rows_allow.Reads as reads
-use Rattle.layer.proofs.rows_allow.Lts as lts
-use Rattle.layer.proofs.row_cell_allows.Reads as row-cell-allows-reads
 
 abbrev Inv-loop : tie.InvT-loop
 Inv-loop air w rows f n ok₀ j₀ ok j = (j ≤ rows * w) × (ok ≡ every j (λ k. cellAllowed (layer w rows) (flowOf f) air (1 + k)))
@@ -74,7 +71,7 @@ loop-less : tie.Need-loop-less Inv-loop μ-loop
 loop-less c = search needs
 
 loop-again : tie.Need-loop-again Inv-loop μ-loop
-loop-again c = 
+loop-again c =
     let l = c .before .before .before .before .before .before .before .loop in
     let a = c .before .before .before .before .before .before .before .before .before .args in
     let own = row-cell (a .w) (a .rows) (flowOf (a .t2)) (l .j) (omega arith) in (
@@ -83,7 +80,7 @@ loop-again c =
     )
 
 returns : tie.Need-returns Inv-loop μ-loop
-returns c = 
+returns c =
     let l = c .before .loop in
     let done : l .j ≡ c .before .before .before .args .rows * c .before .before .before .args .w = omega arith in
     rw done at (l .inv .1)

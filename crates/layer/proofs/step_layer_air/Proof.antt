@@ -1,79 +1,71 @@
+-- `layer::step_layer_air` meets its contract: the rows are passed on, and then the two caps.
+-- Assumes nothing.
+use native.Mathlib.Omega.{arith}
+use lib.ListN.{length-set}
+use Rattle.layer.specs.Cells.{south-cell, north-cell, south-exchange, north-exchange, all-moved}
+use Rattle.layer.specs.Air.{flowOf, air-moves}
 use borrow.Author.Needs.{needs}
 use Rattle.layer.proofs.step_layer_air.Statement.{statement}
 use Rattle.layer.proofs.step_layer_air.Tie as tie
-use Rattle.layer.proofs.step_layer_air.Reads as reads
-use Rattle.layer.proofs.step_layer_air.Lts as lts
-use Rattle.layer.proofs.air_after.Reads as air-after-reads
-use Rattle.layer.proofs.air_sum.Reads as air-sum-reads
-use Rattle.layer.proofs.step_rows_air.Reads as step-rows-air-reads
 
--- src/lib.rt:181:13
 mul-n : tie.Need-mul-n
 mul-n c = search needs
 
--- src/lib.rt:182:17
 add-north : tie.Need-add-north
 add-north c = search needs
 
--- src/lib.rt:185:5
 step-rows-air-requires : tie.Need-step-rows-air-requires
-step-rows-air-requires c κs = ?
+step-rows-air-requires c κs = air-moves (c .before .before .before .before .pre)
 
--- src/lib.rt:186:34
 slice-read-t15 : tie.Need-slice-read-t15
 slice-read-t15 c = search needs
 
--- src/lib.rt:186:43
 air-sum-requires : tie.Need-air-sum-requires
 air-sum-requires c κs = search needs
 
--- src/lib.rt:186:63
 air-sum-requires-2 : tie.Need-air-sum-requires-2
 air-sum-requires-2 c κs = search needs
 
--- src/lib.rt:186:9
 air-after-requires : tie.Need-air-after-requires
-air-after-requires c κs = ?
+air-after-requires c κs =
+    let south = south-cell _ _ (flowOf (c .before .before .before .before .before .before .before .before .before .before .args .f)) (c .before .air-sum .ensures) (c .air-sum2 .ensures) in
+    south-exchange (air-moves (c .before .before .before .before .before .before .before .before .before .before .pre)) (c .before .before .before .before .before .step-rows-air .ensures) south
 
--- src/lib.rt:187:5
-slice-write-air : tie.Need-slice-write-air
-slice-write-air c = search needs
+mul-t19 : tie.Need-mul-t19
+mul-t19 c = search needs
 
--- src/lib.rt:188:34
-mul-t20 : tie.Need-mul-t20
-mul-t20 c = search needs
-
--- src/lib.rt:188:34
 slice-read-t15-2 : tie.Need-slice-read-t15-2
-slice-read-t15-2 c = ?
+slice-read-t15-2 c = omega (arith, c .before .before .before .before .before .before .before .step-rows-air .ensures .long, c .before .before .before .before .before .before .before .before .before .before .before .before .pre .over .long)
 
--- src/lib.rt:188:47
 air-sum-requires-3 : tie.Need-air-sum-requires-3
 air-sum-requires-3 c κs = search needs
 
--- src/lib.rt:188:68
 air-sum-requires-4 : tie.Need-air-sum-requires-4
 air-sum-requires-4 c κs = search needs
 
--- src/lib.rt:188:9
 air-after-requires-2 : tie.Need-air-after-requires-2
-air-after-requires-2 c κs = ?
+air-after-requires-2 c κs =
+    let north = north-cell _ _ (flowOf (c .before .before .before .before .before .before .before .before .before .before .before .before .before .before .args .f)) (c .before .air-sum3 .ensures) (c .air-sum4 .ensures) in
+    north-exchange (air-moves (c .before .before .before .before .before .before .before .before .before .before .before .before .before .before .pre)) (c .before .before .before .before .before .before .before .before .before .step-rows-air .ensures) north
 
--- src/lib.rt:189:5
+slice-write-air : tie.Need-slice-write-air
+slice-write-air c = search needs
+
 mul-air : tie.Need-mul-air
 mul-air c = search needs
 
--- src/lib.rt:189:5
 slice-write-air-2 : tie.Need-slice-write-air-2
-slice-write-air-2 c = ?
+slice-write-air-2 c = simp length-set (omega (arith, c .before .before .before .before .before .before .before .before .before .before .step-rows-air .ensures .long, c .before .before .before .before .before .before .before .before .before .before .before .before .before .before .before .pre .over .long))
 
--- src/lib.rt:177:1
 same-length : tie.Need-same-length
 same-length c = search needs
 
--- src/lib.rt:177:1
 returns : tie.Need-returns
-returns c = ?
+returns c =
+    let flow = flowOf (c .before .before .before .before .before .before .before .before .before .before .before .before .before .before .before .args .f) in
+    let south = south-cell (c .before .before .before .before .before .before .before .before .before .before .before .before .before .before .before .args .w) (c .before .before .before .before .before .before .before .before .before .before .before .before .before .before .before .args .rows) flow (c .before .before .before .before .before .before .air-sum .ensures) (c .before .before .before .before .before .air-sum2 .ensures) in
+    let north = north-cell (c .before .before .before .before .before .before .before .before .before .before .before .before .before .before .before .args .w) (c .before .before .before .before .before .before .before .before .before .before .before .before .before .before .before .args .rows) flow (c .before .before .air-sum3 .ensures) (c .before .air-sum4 .ensures) in
+    all-moved (air-moves (c .before .before .before .before .before .before .before .before .before .before .before .before .before .before .before .pre)) (c .before .before .before .before .before .before .before .before .before .before .step-rows-air .ensures) south north _ _ (c .before .before .before .before .air-after .ensures) (c .air-after2 .ensures)
 
 pub step-layer-air-spec : {M : Type 1} → statement M
 step-layer-air-spec =
@@ -86,12 +78,12 @@ step-layer-air-spec =
     air-sum-requires
     air-sum-requires-2
     air-after-requires
-    slice-write-air
-    mul-t20
+    mul-t19
     slice-read-t15-2
     air-sum-requires-3
     air-sum-requires-4
     air-after-requires-2
+    slice-write-air
     mul-air
     slice-write-air-2
     same-length

@@ -9,9 +9,6 @@ use Rattle.layer.specs.Air.{flowOf}
 use borrow.Author.Needs.{needs}
 use Rattle.layer.proofs.step_rows_air.Statement.{statement}
 use Rattle.layer.proofs.step_rows_air.Tie as tie
-use Rattle.layer.proofs.step_rows_air.Reads as reads
-use Rattle.layer.proofs.step_rows_air.Lts as lts
-use Rattle.layer.proofs.row_air_after.Reads as row-air-after-reads
 
 abbrev Inv-loop : tie.InvT-loop
 Inv-loop air₀ w rows f n j₀ air j = (j ≤ rows * w) × Moved w rows (flowOf f) air₀ air j
@@ -77,7 +74,7 @@ loop-less : tie.Need-loop-less Inv-loop μ-loop
 loop-less c = search needs
 
 loop-again : tie.Need-loop-again Inv-loop μ-loop
-loop-again c = 
+loop-again c =
     let l = c .before .before .before .before .before .before .before .loop in
     let pre = c .before .before .before .before .before .before .before .before .before .pre in
     (search needs, moved-more pre (l .inv .1) (omega arith) _ (c .row-air-after .ensures))
@@ -86,7 +83,7 @@ same-length : tie.Need-same-length Inv-loop μ-loop
 same-length c = c .before .loop .inv .1 .long
 
 returns : tie.Need-returns Inv-loop μ-loop
-returns c = 
+returns c =
     let l = c .before .loop in
     let done : l .j ≡ c .before .before .before .args .rows * c .before .before .before .args .w = omega arith in
     rw done at (l .inv .1)
