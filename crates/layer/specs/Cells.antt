@@ -39,6 +39,13 @@ pub record IsSum (f : ℕ → ℕ) (first w r : ℕ) : Type 0 where
   pub is : r ≡ sum w (λ i. f (first + i))
   pub small : r ≤ 309237645240
 
+-- ---- what holds of the south cap, of every cell between the caps and of the north cap holds of every cell
+pub by-cell : (P : ℕ → Type 0) (n : ℕ) → P 0 → ((j : ℕ) → j < n → P (1 + j)) → P (1 + n) → (c : ℕ) → c < 2 + n → P c
+by-cell P n south row north zero h = south
+by-cell P n south row north (suc j) h =
+    let e : suc j ≡ 1 + j = omega arith in
+    rw e (⊎-elim (λ (q : j ≡ n). rw q north) (λ (q : j < n). row j q) (eq-or-lt-of-le (omega arith)))
+
 -- ---- what a cell exchanges
 -- it gives no more than it has, and what it then has fits 32 bits
 pub record Exchange (have enters leaves : ℕ) : Type 0 where
@@ -174,30 +181,32 @@ module _ {w rows : ℕ} {flow : Flow} {before : List ℕ} (moves : Moves w rows 
       pub all-moved : (x y : ℕ) → x ≡ at l 0 + e₀ - l₀ → y ≡ at l (1 + rows * w) + e₁ - l₁ → set (set l 0 x) (1 + rows * w) y ≡ afterFlow (layer w rows) flow before
       all-moved x y ex ey =
           ext-getD 0 _ _ (long ∙ sym (length-after-flow (layer w rows) flow before ∙ cells))
-          (λ c h. each c (rw long at h))
+          (λ c h. by-cell (λ k. at l₂ k ≡ at after k) (rows * w) first row last c (rw long at h))
         where
-          long : length (set (set l 0 x) (1 + rows * w) y) ≡ 2 + rows * w
-          long =
-              length-set (set l 0 x) (1 + rows * w) y ∙ length-set l 0 x ∙ moved .long ∙ moves .over .long
+          l₂ : List ℕ
+          l₂ = set (set l 0 x) (1 + rows * w) y
+
+          after : List ℕ
+          after = afterFlow (layer w rows) flow before
 
           room : length (set l 0 x) ≡ 2 + rows * w
           room = length-set l 0 x ∙ moved .long ∙ moves .over .long
 
-          above : (k : ℕ) → k ≤ rows * w → at (set (set l 0 x) (1 + rows * w) y) (1 + k) ≡ at (afterFlow (layer w rows) flow before) (1 + k)
-          above k h =
-              ⊎-elim
-              (λ (q : k ≡ rows * w).
-              rw (q, getD-set-same (set l 0 x) (1 + rows * w) y 0 (omega (arith, room)), ey, moved .left (rows * w) (omega arith)) (cell-after north before))
-              (λ (q : k < rows * w).
-              getD-set-other (set l 0 x) (1 + rows * w) (1 + k) y 0 (λ u. omega arith) ∙
-              getD-set-other l 0 (1 + k) x 0 (λ u. omega arith) ∙ moved .done k q)
-              (eq-or-lt-of-le h)
+          long : length l₂ ≡ 2 + rows * w
+          long = length-set (set l 0 x) (1 + rows * w) y ∙ room
 
-          each : (c : ℕ) → c < 2 + rows * w → at (set (set l 0 x) (1 + rows * w) y) c ≡ at (afterFlow (layer w rows) flow before) c
-          each zero h =
+          first : at l₂ 0 ≡ at after 0
+          first =
               getD-set-other (set l 0 x) (1 + rows * w) 0 y 0 (λ u. omega arith) ∙
               getD-set-same l 0 x 0 (omega (arith, moved .long, moves .over .long)) ∙
               rw (ex, moved .south) (cell-after south before)
-          each (suc k) h =
-              let e : suc k ≡ 1 + k = omega arith in
-              rw e (above k (omega arith))
+
+          row : (k : ℕ) → k < rows * w → at l₂ (1 + k) ≡ at after (1 + k)
+          row k h =
+              getD-set-other (set l 0 x) (1 + rows * w) (1 + k) y 0 (λ u. omega arith) ∙
+              getD-set-other l 0 (1 + k) x 0 (λ u. omega arith) ∙ moved .done k h
+
+          last : at l₂ (1 + rows * w) ≡ at after (1 + rows * w)
+          last =
+              getD-set-same (set l 0 x) (1 + rows * w) y 0 (omega (arith, room)) ∙
+              rw (ey, moved .left (rows * w) (omega arith)) (cell-after north before)
