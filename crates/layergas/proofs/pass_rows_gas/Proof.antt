@@ -1,14 +1,14 @@
--- `layer::pass_rows_gas` meets its contract. The loop's invariant: the cells passed have their gas afterwards, the others what they had.
+-- `layergas::pass_rows_gas` meets its contract. The loop's invariant: the cells passed have their gas afterwards, the others what they had.
 -- Assumes nothing.
 use Prim.Native.Nat.{ℕ, _+_, _*_, _-_, _≤_}
 use mathlib.Core.Path.{_≡_}
 use native.Mathlib.Omega.{arith}
 use lib.ListN.{length}
 use Rattle.layer.specs.Cells.{Moved, moved-none, moved-more, row-exchange}
-use Rattle.layer.specs.Gas.{pieceFlow}
+use Rattle.layergas.specs.Gas.{pieceFlow}
 use borrow.Author.Needs.{needs}
-use Rattle.layer.proofs.pass_rows_gas.Statement.{statement}
-use Rattle.layer.proofs.pass_rows_gas.Tie as tie
+use Rattle.layergas.proofs.pass_rows_gas.Statement.{statement}
+use Rattle.layergas.proofs.pass_rows_gas.Tie as tie
 
 abbrev Inv-loop : tie.InvT-loop
 Inv-loop gas₀ w rows p n j₀ gas j = (j ≤ rows * w) × Moved w rows (pieceFlow p) gas₀ gas j

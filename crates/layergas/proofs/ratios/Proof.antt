@@ -1,4 +1,4 @@
--- `layer::ratios` meets its contract. The loop's invariant: the cells passed have their ratio.
+-- `layergas::ratios` meets its contract. The loop's invariant: the cells passed have their ratio.
 -- Assumes nothing.
 use Prim.Native.Nat.{ℕ, _-_, _≤_, _<_}
 use mathlib.Core.Path.{_≡_}
@@ -8,8 +8,8 @@ use Rattle.model.specs.Basic.{at}
 use Rattle.model.specs.Sweep.{cellRatio}
 use Rattle.model.specs.Laws.Entries.{entries-more}
 use borrow.Author.Needs.{needs}
-use Rattle.layer.proofs.ratios.Statement.{statement}
-use Rattle.layer.proofs.ratios.Tie as tie
+use Rattle.layergas.proofs.ratios.Statement.{statement}
+use Rattle.layergas.proofs.ratios.Tie as tie
 
 abbrev Inv-loop : tie.InvT-loop
 Inv-loop air gas q₀ c₀ q c = (c ≤ length air) × (length q ≡ 3170) × ((k : ℕ) → k < c → at q k ≡ cellRatio air gas k)

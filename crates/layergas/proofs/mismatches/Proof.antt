@@ -1,12 +1,12 @@
--- `layer::mismatches` meets its contract. The loop's invariant: the cells passed have their mismatch, the others none.
+-- `layergas::mismatches` meets its contract. The loop's invariant: the cells passed have their mismatch, the others none.
 -- Assumes nothing.
 use Prim.Native.Nat.{_*_, _-_, _≤_}
 use mathlib.Core.Path.{_≡_}
 use native.Mathlib.Omega.{arith}
-use Rattle.layer.specs.Gas.{AreMismatches, mismatches-none, mismatches-more}
+use Rattle.layergas.specs.Gas.{AreMismatches, mismatches-none, mismatches-more}
 use borrow.Author.Needs.{needs}
-use Rattle.layer.proofs.mismatches.Statement.{statement}
-use Rattle.layer.proofs.mismatches.Tie as tie
+use Rattle.layergas.proofs.mismatches.Statement.{statement}
+use Rattle.layergas.proofs.mismatches.Tie as tie
 
 abbrev Inv-loop : tie.InvT-loop
 Inv-loop w rows q d₀ n j₀ d j = (j ≤ rows * w) × AreMismatches w rows q d j

@@ -12,7 +12,7 @@ use lib.Seq.{getD-set-same, getD-set-other}
 use Rattle.units.specs.declared.Air.{Air}
 use Rattle.units.specs.declared.Tracer.{Tracer}
 use Rattle.units.specs.declared.Mismatch as code
-use Rattle.layer.specs.declared.LayerPieces.{LayerPieces}
+use Rattle.layergas.specs.declared.LayerPieces.{LayerPieces}
 use Rattle.model.specs.Limits.{totalLimit}
 use Rattle.model.specs.Basic.{at, sum}
 use Rattle.model.specs.Scheme.{Mismatch, plain, mismatch, highPiece, lowPiece}

@@ -1,11 +1,11 @@
--- `layer::north_of` meets its contract.
+-- `layergas::north_of` meets its contract.
 -- Assumes nothing.
 use mathlib.Core.Path.{sym, _∙_}
 use native.Mathlib.Omega.{arith}
 use Rattle.model.specs.Laws.Layer.{north-inner, north-cap}
 use borrow.Author.Needs.{needs}
-use Rattle.layer.proofs.north_of.Statement.{statement}
-use Rattle.layer.proofs.north_of.Tie as tie
+use Rattle.layergas.proofs.north_of.Statement.{statement}
+use Rattle.layergas.proofs.north_of.Tie as tie
 
 add-result : tie.Need-add-result
 add-result c = search needs

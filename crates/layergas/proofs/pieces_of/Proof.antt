@@ -1,4 +1,4 @@
--- `layer::pieces_of` meets its contract. The loop's invariant: the faces passed have their two pieces.
+-- `layergas::pieces_of` meets its contract. The loop's invariant: the faces passed have their two pieces.
 -- Assumes nothing.
 use Prim.Native.Nat.{ℕ, _+_, _*_, _-_, _≤_, _<_}
 use mathlib.Core.Path.{_≡_, refl, _∙_}
@@ -7,11 +7,11 @@ use lib.ListN.{length}
 use Rattle.model.specs.Sweep.{layer, pieces}
 use Rattle.model.specs.Laws.Entries.{entries-more}
 use Rattle.row.specs.Row.{gasAt}
 use Rattle.layer.specs.Air.{flowOf}
-use Rattle.layer.specs.Gas.{gives-high, gives-low, high-is, low-is}
+use Rattle.layergas.specs.Gas.{gives-high, gives-low, high-is, low-is}
 use borrow.Author.Needs.{needs}
-use Rattle.layer.proofs.pieces_of.Statement.{statement}
-use Rattle.layer.proofs.pieces_of.Tie as tie
+use Rattle.layergas.proofs.pieces_of.Statement.{statement}
+use Rattle.layergas.proofs.pieces_of.Tie as tie
 
 abbrev Inv-loop : tie.InvT-loop
 Inv-loop air gas w rows d f n faces high₀ low₀ i₀ high low i =

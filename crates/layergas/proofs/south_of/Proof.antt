@@ -1,11 +1,11 @@
--- `layer::south_of` meets its contract.
+-- `layergas::south_of` meets its contract.
 -- Assumes nothing.
 use mathlib.Core.Path.{sym, _∙_}
 use native.Mathlib.Omega.{arith}
 use Rattle.model.specs.Laws.Layer.{south-cap, south-inner}
 use borrow.Author.Needs.{needs}
-use Rattle.layer.proofs.south_of.Statement.{statement}
-use Rattle.layer.proofs.south_of.Tie as tie
+use Rattle.layergas.proofs.south_of.Statement.{statement}
+use Rattle.layergas.proofs.south_of.Tie as tie
 
 add-result : tie.Need-add-result
 add-result c = search needs

@@ -1,9 +1,9 @@
--- `layer::layer_pieces` meets its contract: ratios, mismatches and the pieces that they give.
+-- `layergas::layer_pieces` meets its contract: ratios, mismatches and the pieces that they give.
 -- Assumes nothing.
-use Rattle.layer.specs.Gas.{has-air, givers}
+use Rattle.layergas.specs.Gas.{has-air, givers}
 use borrow.Author.Needs.{needs}
-use Rattle.layer.proofs.layer_pieces.Statement.{statement}
-use Rattle.layer.proofs.layer_pieces.Tie as tie
+use Rattle.layergas.proofs.layer_pieces.Statement.{statement}
+use Rattle.layergas.proofs.layer_pieces.Tie as tie
 
 ratios-requires : tie.Need-ratios-requires
 ratios-requires c κs = has-air (c .before .before .pre)

@@ -1,4 +1,4 @@
--- `layer::gas_sum` meets its contract. The loop's invariant: `total` is the sum of the entries passed, each below 2^32.
+-- `layergas::gas_sum` meets its contract. The loop's invariant: `total` is the sum of the entries passed, each below 2^32.
 -- Assumes nothing.
 use Prim.Native.Nat.{ℕ, _+_, _*_, _-_, _≤_}
 use mathlib.Core.Path.{_≡_, sym, _∙_, ap, ap₂}
@@ -7,8 +7,8 @@ use Rattle.model.specs.Basic.{sum}
 use Rattle.model.specs.Laws.Basic.{sum-none, sum-more}
 use Rattle.row.specs.Row.{gasAt}
 use borrow.Author.Needs.{needs}
-use Rattle.layer.proofs.gas_sum.Statement.{statement}
-use Rattle.layer.proofs.gas_sum.Tie as tie
+use Rattle.layergas.proofs.gas_sum.Statement.{statement}
+use Rattle.layergas.proofs.gas_sum.Tie as tie
 
 abbrev Inv-loop : tie.InvT-loop
 Inv-loop first w a total₀ i₀ total i = (i ≤ w) × (total ≡ sum i (λ k. gasAt a (first + k))) × (total ≤ 4294967295 * i)

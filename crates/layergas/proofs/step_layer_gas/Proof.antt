@@ -1,10 +1,10 @@
--- `layer::step_layer_gas` meets its contract: all pieces are taken, and then passed on.
+-- `layergas::step_layer_gas` meets its contract: all pieces are taken, and then passed on.
 -- Assumes nothing.
 use mathlib.Core.Path.{_∙_}
-use Rattle.layer.specs.Gas.{gas-moves, same-after}
+use Rattle.layergas.specs.Gas.{gas-moves, same-after}
 use borrow.Author.Needs.{needs}
-use Rattle.layer.proofs.step_layer_gas.Statement.{statement}
-use Rattle.layer.proofs.step_layer_gas.Tie as tie
+use Rattle.layergas.proofs.step_layer_gas.Statement.{statement}
+use Rattle.layergas.proofs.step_layer_gas.Tie as tie
 
 layer-pieces-requires : tie.Need-layer-pieces-requires
 layer-pieces-requires c κs = search needs

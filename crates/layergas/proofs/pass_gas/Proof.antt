@@ -1,12 +1,12 @@
--- `layer::pass_gas` meets its contract: the rows are passed on, and then the two caps.
+-- `layergas::pass_gas` meets its contract: the rows are passed on, and then the two caps.
 -- Assumes nothing.
 use native.Mathlib.Omega.{arith}
 use lib.ListN.{length-set}
 use Rattle.layer.specs.Cells.{south-cell, north-cell, south-exchange, north-exchange, all-moved}
-use Rattle.layer.specs.Gas.{pieceFlow}
+use Rattle.layergas.specs.Gas.{pieceFlow}
 use borrow.Author.Needs.{needs}
-use Rattle.layer.proofs.pass_gas.Statement.{statement}
-use Rattle.layer.proofs.pass_gas.Tie as tie
+use Rattle.layergas.proofs.pass_gas.Statement.{statement}
+use Rattle.layergas.proofs.pass_gas.Tie as tie
 
 mul-n : tie.Need-mul-n
 mul-n c = search needs
