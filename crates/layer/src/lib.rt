@@ -43,6 +43,14 @@ pub fn flow_of(fluxes: &[i32]) -> LayerFlow
     }
 }
 
+// What passes some of a cap's faces, with one face more.
+fn with_face(total: u64, m: Air) -> u64
+    requires { ⌜ total ≤ 309237645240 ⌝ }
+    ensures { λ r. ⌜ (r ≡ total + m .0) × (r ≤ total + 4294967295) ⌝ }
+{
+    total + (m.0 as u64)
+}
+
 // The sum of the w entries from entry `first` on.
 fn air_sum(a: [Air; 3240], first: usize, w: usize) -> u64
     requires { ⌜ Faces first w ⌝ }
@@ -52,8 +60,7 @@ fn air_sum(a: [Air; 3240], first: usize, w: usize) -> u64
     let mut i = 0;
     while i < w {
         let k = first + i;
-        let m = a[k];
-        total += m.0 as u64;
+        total = with_face(total, a[k]);
         i += 1;
     }
     total

@@ -1,7 +1,7 @@
 -- `layer::air_sum` meets its contract. The loop's invariant: `total` is the sum of the entries passed, each below 2^32.
 -- Assumes nothing.
 use Prim.Native.Nat.{ℕ, _+_, _*_, _-_, _≤_}
-use mathlib.Core.Path.{_≡_, sym, _∙_, ap, ap₂}
+use mathlib.Core.Path.{_≡_, sym, _∙_, ap}
 use native.Mathlib.Omega.{arith}
 use Rattle.model.specs.Basic.{sum}
 use Rattle.model.specs.Laws.Basic.{sum-none, sum-more}
@@ -22,17 +22,14 @@ loop-holds c = (search needs, sym (sum-none _), search needs)
 add-k : tie.Need-add-k Inv-loop μ-loop
 add-k c = search needs
 
-mul-m : tie.Need-mul-m Inv-loop μ-loop
-mul-m c = search needs
+mul-with-face : tie.Need-mul-with-face Inv-loop μ-loop
+mul-with-face c = search needs
 
-array-copy-out-m : tie.Need-array-copy-out-m Inv-loop μ-loop
-array-copy-out-m c = search needs
+array-copy-out-with-face : tie.Need-array-copy-out-with-face Inv-loop μ-loop
+array-copy-out-with-face c = search needs
 
-cast-total : tie.Need-cast-total Inv-loop μ-loop
-cast-total c = search needs
-
-add-total : tie.Need-add-total Inv-loop μ-loop
-add-total c = search needs
+with-face-requires : tie.Need-with-face-requires Inv-loop μ-loop
+with-face-requires c κs = search needs
 
 add-i : tie.Need-add-i Inv-loop μ-loop
 add-i c = search needs
@@ -45,7 +42,7 @@ loop-again c =
     let l = c .before .before .before .loop in
     let a = c .before .before .before .before .args in
     let own : ℕ = airAt (a .t1) (a .first + l .i) in
-    (search needs, ap (λ (x : ℕ). x + own) (l .inv .1) ∙ sym (sum-more (l .i) _), search needs)
+    (search needs, c .with-face .ensures .0 ∙ ap (λ (x : ℕ). x + own) (l .inv .1) ∙ sym (sum-more (l .i) _), search needs)
 
 returns : tie.Need-returns Inv-loop μ-loop
 returns c =
@@ -61,10 +58,9 @@ air-sum-spec =
     μ-loop
     loop-holds
     add-k
-    mul-m
-    array-copy-out-m
-    cast-total
-    add-total
+    mul-with-face
+    array-copy-out-with-face
+    with-face-requires
     add-i
     loop-less
     loop-again
