@@ -2,16 +2,14 @@
 // Every piece is taken into an array before any amount changes.
 ghost use mathlib.Core.Path.{_≡_};
 ghost use Prim.Native.Nat.{_+_, _-_, _<_};
-ghost use Rattle.model.specs.Scheme.{highPiece, lowPiece};
 ghost use Rattle.model.specs.Sweep.{ring, afterFlow};
-ghost use Rattle.scheme.specs.Leaves.{mismatchOf, Giver};
 ghost use Rattle.row.specs.Row.{gasRow};
 ghost use Rattle.rowgas.specs.Gas.{HasAir, AreRatios, Columns, AreMismatches, Givers, ArePieces, pieceFlow, Exchange, Gives, StepNeed, IsStep, StepsNeed, AreSteps};
 use row::Flows;
 use row::east_of;
 use row::west_of;
-use scheme::high_piece;
-use scheme::low_piece;
+use scheme::high_given;
+use scheme::low_given;
 use scheme::mismatch;
 use scheme::ratio;
 use units::Air;
@@ -54,31 +52,7 @@ pub fn mismatches(q: [u64; 72], w: usize) -> [Mismatch; 72]
     d
 }
 
-// The piece from a column's high end; none where no air passes.
-fn high_given(d: Mismatch, have: Air, t: Tracer, m: Air) -> Tracer
-    requires { ⌜ Giver d have t m ⌝ }
-    ensures { λ p. ⌜ p .0 ≡ highPiece (mismatchOf d) (have .0) (t .0) (m .0) ⌝ }
-{
-    if m.0 == 0 {
-        Tracer(0)
-    } else {
-        high_piece(d, have, t, m)
-    }
-}
-
-// The piece from a column's low end.
-fn low_given(d: Mismatch, have: Air, t: Tracer, m: Air) -> Tracer
-    requires { ⌜ Giver d have t m ⌝ }
-    ensures { λ p. ⌜ p .0 ≡ lowPiece (mismatchOf d) (have .0) (t .0) (m .0) ⌝ }
-{
-    if m.0 == 0 {
-        Tracer(0)
-    } else {
-        low_piece(d, have, t, m)
-    }
-}
-
-// What passes each face of a tracer, towards its high side and towards its low side.
+// What passes each face of a tracer towards its high side and towards its low side; 0 past the row's faces.
 pub struct Pieces {
     pub to_high: [Tracer; 72],
     pub to_low: [Tracer; 72],

@@ -13,23 +13,23 @@ use Rattle.model.specs.Laws.Basic.{sum-add, sum-split, sum-ext}
 use Rattle.model.specs.Laws.Mesh.{out, leaving-is, Regular, Meets, OnHighSide, OnLowSide, passes-on}
 
 -- ---- the faces of the cells between the caps, and of the north cap
-sides-inner : (W n j : ℕ) → j < n → layerSides W n (suc j) ≡ between j (W + j)
+pub sides-inner : (W n j : ℕ) → j < n → layerSides W n (suc j) ≡ between j (W + j)
 sides-inner W n j h = rw (lt-ltb j n h, layerSides)
 
-sides-north : (W n j : ℕ) → n ≤ j → layerSides W n (suc j) ≡ northCap n W
+pub sides-north : (W n j : ℕ) → n ≤ j → layerSides W n (suc j) ≡ northCap n W
 sides-north W n j h = rw (le-ltb j n h, layerSides)
 
 -- ---- the cell south of a face, and north of it
-south-cap : (W f : ℕ) → f < W → southOf W f ≡ 0
+pub south-cap : (W f : ℕ) → f < W → southOf W f ≡ 0
 south-cap W f h = rw (lt-ltb f W h, southOf)
 
-south-inner : (W f : ℕ) → W ≤ f → southOf W f ≡ suc (f - W)
+pub south-inner : (W f : ℕ) → W ≤ f → southOf W f ≡ suc (f - W)
 south-inner W f h = rw (le-ltb f W h, southOf) (omega arith)
 
-north-inner : (n f : ℕ) → f < n → northOf n f ≡ suc f
+pub north-inner : (n f : ℕ) → f < n → northOf n f ≡ suc f
 north-inner n f h = rw (lt-ltb f n h, northOf) (omega arith)
 
-north-cap : (n f : ℕ) → n ≤ f → northOf n f ≡ suc n
+pub north-cap : (n f : ℕ) → n ≤ f → northOf n f ≡ suc n
 north-cap n f h = rw (le-ltb f n h, northOf) (omega arith)
 
 module _ (W R : ℕ) where
@@ -81,19 +81,19 @@ module _ (W R : ℕ) where
 
   -- ---- what leaves all cells: the south cap, the cells between, the north cap
   module _ (flow : Flow) where
-    leaving-inner : (j : ℕ) → j < R * W → leaving (layer W R) flow (1 + j) ≡ flow .toLow j + flow .toHigh (W + j)
+    pub leaving-inner : (j : ℕ) → j < R * W → leaving (layer W R) flow (1 + j) ≡ flow .toLow j + flow .toHigh (W + j)
     unfolding layer leaving
     leaving-inner j h =
         let e : 1 + j ≡ suc j = omega arith in
         leaving-is (layer W R) flow (1 + j) ∙ ap (out flow) (ap (layerSides W (R * W)) e ∙ sides-inner W (R * W) j h)
 
-    leaving-north : leaving (layer W R) flow (1 + R * W) ≡ sum W (λ i. flow .toLow (R * W + i))
+    pub leaving-north : leaving (layer W R) flow (1 + R * W) ≡ sum W (λ i. flow .toLow (R * W + i))
     unfolding layer leaving
     leaving-north =
         let e : 1 + R * W ≡ suc (R * W) = omega arith in
         leaving-is (layer W R) flow (1 + R * W) ∙ ap (out flow) (ap (layerSides W (R * W)) e ∙ sides-north W (R * W) (R * W) (omega arith))
 
-    leaving-south : leaving (layer W R) flow 0 ≡ sum W (flow .toHigh)
+    pub leaving-south : leaving (layer W R) flow 0 ≡ sum W (flow .toHigh)
     unfolding layer leaving
     leaving-south = sum-ext W (λ i. flow .toHigh (0 + i)) (flow .toHigh) (λ i h. ap (flow .toHigh) (zero-add i))
 

@@ -93,7 +93,7 @@ module _ (mesh : Mesh) (c : ℕ) where
       go (southCap k n) e on = absurd on
       go (northCap k n) e on = rw (e, isNear, among (mesh .lowCell) k n f (on .0) (on .1), or-true)
 
-  high-leaves : (flow : Flow) (f : ℕ) → OnHighSide f (mesh .sides c) → flow .toHigh f ≤ leaving mesh flow c
+  pub high-leaves : (flow : Flow) (f : ℕ) → OnHighSide f (mesh .sides c) → flow .toHigh f ≤ leaving mesh flow c
   unfolding leaving
   high-leaves flow f = go (mesh .sides c) refl
     where
@@ -104,7 +104,7 @@ module _ (mesh : Mesh) (c : ℕ) where
           rw (e, leaving) (rw i at (term-le-sum n (λ i. flow .toHigh (k + i)) (f - k) (omega arith)))
       go (northCap k n) e on = absurd on
 
-  low-leaves : (flow : Flow) (f : ℕ) → OnLowSide f (mesh .sides c) → flow .toLow f ≤ leaving mesh flow c
+  pub low-leaves : (flow : Flow) (f : ℕ) → OnLowSide f (mesh .sides c) → flow .toLow f ≤ leaving mesh flow c
   unfolding leaving
   low-leaves flow f = go (mesh .sides c) refl
     where

@@ -14,7 +14,7 @@ use Rattle.model.specs.World.{airFits}
 use Rattle.model.specs.Scheme.{Mismatch, mismatch, plain, opposite, highPiece, lowPiece}
 use Rattle.model.specs.Sweep.{Mesh, Sides, between, southCap, northCap, Flow, leaving, entering, afterFlow, allowed, cellRatio, cellMismatch, pieces}
 use Rattle.model.specs.Laws.Basic.{both, every-at, sum-ext, sum-add, length-tab, at-tab, term-le-sum}
-use Rattle.model.specs.Laws.Scheme.{Safe, mismatch-safe, mismatch-equal, plain-safe, plain-pieces-le, pieces-le, piece-constant, ratio-constant}
+use Rattle.model.specs.Laws.Scheme.{Safe, ratio-safe, mismatch-twice, mismatch-equal, plain-pieces-le, pieces-le, piece-constant, ratio-constant}
 use Rattle.model.specs.Laws.Mesh.{out, leaving-is, Meets, Regular, leaving-times, entering-times}
 
 -- every one of n cells has air of 1 to 65,535
@@ -69,27 +69,29 @@ allowed-is mesh flow air e =
 
 -- ---- the mismatch of a cell
 module _ (mesh : Mesh) (air gas : List ℕ) (c : ℕ) where
-  mismatch-between : (l h : ℕ) → mesh .sides c ≡ between l h → cellMismatch mesh air gas c ≡ mismatch (cellRatio air gas (mesh .lowCell l)) (cellRatio air gas c) (cellRatio air gas (mesh .highCell h))
+  pub mismatch-between : (l h : ℕ) → mesh .sides c ≡ between l h → cellMismatch mesh air gas c ≡ mismatch (cellRatio air gas (mesh .lowCell l)) (cellRatio air gas c) (cellRatio air gas (mesh .highCell h))
   unfolding cellMismatch
   mismatch-between l h e = rw (e, cellMismatch)
 
-  mismatch-south : (k n : ℕ) → mesh .sides c ≡ southCap k n → cellMismatch mesh air gas c ≡ plain
+  pub mismatch-south : (k n : ℕ) → mesh .sides c ≡ southCap k n → cellMismatch mesh air gas c ≡ plain
   unfolding cellMismatch
   mismatch-south k n e = rw (e, cellMismatch)
 
-  mismatch-north : (k n : ℕ) → mesh .sides c ≡ northCap k n → cellMismatch mesh air gas c ≡ plain
+  pub mismatch-north : (k n : ℕ) → mesh .sides c ≡ northCap k n → cellMismatch mesh air gas c ≡ plain
   unfolding cellMismatch
   mismatch-north k n e = rw (e, cellMismatch)
 
-  pub cell-safe : Safe (cellMismatch mesh air gas c) (at air c) (at gas c)
-  cell-safe = go (mesh .sides c) refl
+  -- it is at most twice the cell's ratio, and so it is safe
+  pub cell-twice : cellMismatch mesh air gas c .size ≤ 2 * cellRatio air gas c
+  cell-twice = go (mesh .sides c) refl
     where
-      go : (s : Sides) → mesh .sides c ≡ s → Safe (cellMismatch mesh air gas c) (at air c) (at gas c)
-      go (between l h) e =
-          rw (mismatch-between l h e)
-          (mismatch-safe (cellRatio air gas (mesh .lowCell l)) (cellRatio air gas (mesh .highCell h)) (at air c) (at gas c))
-      go (southCap k n) e = rw (mismatch-south k n e) (plain-safe (at air c) (at gas c))
-      go (northCap k n) e = rw (mismatch-north k n e) (plain-safe (at air c) (at gas c))
+      go : (s : Sides) → mesh .sides c ≡ s → cellMismatch mesh air gas c .size ≤ 2 * cellRatio air gas c
+      go (between l h) e = rw (mismatch-between l h e) (mismatch-twice _ (cellRatio air gas c) _)
+      go (southCap k n) e = rw (mismatch-south k n e) (omega arith)
+      go (northCap k n) e = rw (mismatch-north k n e) (omega arith)
+
+  pub cell-safe : Safe (cellMismatch mesh air gas c) (at air c) (at gas c)
+  cell-safe = ratio-safe (cellMismatch mesh air gas c) (at air c) (at gas c) cell-twice
 
 -- ---- the pieces of a substep
 module _ (mesh : Mesh) (flow : Flow) (air gas : List ℕ) where

@@ -14,13 +14,13 @@ use Rattle.row.proofs.parts_of.Tie as tie
 
 abbrev Inv-loop : tie.InvT-loop
 Inv-loop fluxes n s high₀ low₀ i₀ high low i =
-    (i ≤ length fluxes) × Filled fluxes n s forward high i × Filled fluxes n s backward low i
+    (i ≤ length fluxes) × Filled 72 fluxes n s forward high i × Filled 72 fluxes n s backward low i
 
 abbrev μ-loop : tie.MeasureT-loop
 μ-loop fluxes n s high₀ low₀ i₀ high low i = length fluxes - i
 
 loop-holds : tie.Need-loop-holds Inv-loop μ-loop
-loop-holds c = (search needs, filled-none _ _ _ _, filled-none _ _ _ _)
+loop-holds c = (search needs, filled-none _ _ _ _ _, filled-none _ _ _ _ _)
 
 mul-x : tie.Need-mul-x Inv-loop μ-loop
 mul-x c = search needs
@@ -62,15 +62,15 @@ loop-again c =
     let x = flux (c .before .before .before .before .before .before .args .fluxes .now) (l .i) in
     let same = toZ-ofZ {w = w32} {z = x} (sfits-of (c .before .before .before .x .given)) in (
       search needs,
-      filled-more _ _ _ _ _ _ _ (search needs) (l .inv .1) (c .before .flux-part .ensures .is ∙ ap (fluxPart _ _) (halves .high ∙ ap forward same)),
-      filled-more _ _ _ _ _ _ _ (search needs) (l .inv .2) (c .flux-part2 .ensures .is ∙ ap (fluxPart _ _) (halves .low ∙ ap backward same)),
+      filled-more _ _ _ _ _ _ _ _ (search needs) (l .inv .1) (c .before .flux-part .ensures .is ∙ ap (fluxPart _ _) (halves .high ∙ ap forward same)),
+      filled-more _ _ _ _ _ _ _ _ (search needs) (l .inv .2) (c .flux-part2 .ensures .is ∙ ap (fluxPart _ _) (halves .low ∙ ap backward same)),
     )
 
 returns : tie.Need-returns Inv-loop μ-loop
 returns c =
     let l = c .before .loop in
     let done : l .i ≡ length (c .before .before .args .fluxes .now) = omega arith in
-    filled-flow _ _ _ _ (rw done at (l .inv .1)) (rw done at (l .inv .2))
+    filled-flow _ _ _ _ _ (rw done at (l .inv .1)) (rw done at (l .inv .2))
 
 pub parts-of-spec : {M : Type 1} → statement M
 parts-of-spec =

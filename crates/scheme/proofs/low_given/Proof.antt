@@ -1,12 +1,12 @@
--- `rowgas::low_given` meets its contract: no air carries nothing.
+-- `scheme::low_given` meets its contract: no air carries nothing.
 -- Assumes nothing.
 use mathlib.Core.Path.{sym, _∙_, ap}
 use Rattle.model.specs.Scheme.{highPiece, opposite}
 use Rattle.model.specs.Laws.Scheme.{piece-none}
 use Rattle.scheme.specs.Leaves.{mismatchOf}
 use borrow.Author.Needs.{needs}
-use Rattle.rowgas.proofs.low_given.Statement.{statement}
-use Rattle.rowgas.proofs.low_given.Tie as tie
+use Rattle.scheme.proofs.low_given.Statement.{statement}
+use Rattle.scheme.proofs.low_given.Tie as tie
 
 low-piece-requires : tie.Need-low-piece-requires
 low-piece-requires c κs = search needs

@@ -1,12 +1,12 @@
--- `rowgas::high_given` meets its contract: no air carries nothing.
+-- `scheme::high_given` meets its contract: no air carries nothing.
 -- Assumes nothing.
 use mathlib.Core.Path.{sym, _∙_, ap}
 use Rattle.model.specs.Scheme.{highPiece}
 use Rattle.model.specs.Laws.Scheme.{piece-none}
 use Rattle.scheme.specs.Leaves.{mismatchOf}
 use borrow.Author.Needs.{needs}
-use Rattle.rowgas.proofs.high_given.Statement.{statement}
-use Rattle.rowgas.proofs.high_given.Tie as tie
+use Rattle.scheme.proofs.high_given.Statement.{statement}
+use Rattle.scheme.proofs.high_given.Tie as tie
 
 high-piece-requires : tie.Need-high-piece-requires
 high-piece-requires c κs = search needs
