@@ -6,11 +6,10 @@ use mathlib.Core.Bool.{Bool}
 use mathlib.Core.Path.{_≡_}
 use lib.ListN.{length}
 use Rattle.units.specs.declared.Air.{Air}
-use Rattle.units.specs.declared.Tracer.{Tracer}
-use Rattle.model.specs.Limits.{airLimit, totalLimit}
-use Rattle.model.specs.Basic.{at, sum, tab}
+use Rattle.model.specs.Limits.{airLimit}
+use Rattle.model.specs.Basic.{at, tab}
 use Rattle.model.specs.Remap.{airAbove, edge, newAir, edgesServe}
-use Rattle.row.specs.Row.{airAt, gasAt, airRow, gasRow}
+use Rattle.row.specs.Row.{airAt, airRow}
 
 -- ---- P
 -- up to 32 layers, none with more air than a cell may have

@@ -1,19 +1,19 @@
 -- What the loops over a column's edges need: the tests of the edges, and the air between them, as the model has them.
 -- Assumes nothing.
-use Prim.Native.Nat.{ℕ, suc, _+_, _-_, _*_, _/_, _^_, _≤_, _<_}
+use Prim.Native.Nat.{ℕ, suc, _+_, _-_, _*_, _^_, _≤_, _<_}
 use mathlib.Core.List.{List}
-use mathlib.Core.Bool.{Bool, true, _&&_}
-use mathlib.Core.Path.{_≡_, refl, sym, ap, ap₂, _∙_}
-use native.Mathlib.Nat.{mul-le-mul, div-le-self}
+use mathlib.Core.Bool.{Bool, _&&_}
+use mathlib.Core.Path.{_≡_, ap₂, _∙_}
+use native.Mathlib.Nat.{mul-le-mul}
 use native.Mathlib.Numerals.{add-one}
 use native.Mathlib.Omega.{arith}
 use lib.Dec.{leb, ltb}
 use Rattle.units.specs.declared.Air.{Air}
 use Rattle.model.specs.Limits.{airLimit, tableScale, tableLimit}
-use Rattle.model.specs.Basic.{at, every, tab}
+use Rattle.model.specs.Basic.{at, every}
 use Rattle.model.specs.Remap.{edge, newAir, edgesServe}
 use Rattle.model.specs.Laws.Basic.{every-ext, tab-ext}
-use Rattle.row.specs.Row.{airAt, airRow}
+use Rattle.row.specs.Row.{airAt}
 use Rattle.column.specs.Column.{AreEdges, IsServing, Served, IsNewAir}
 
 -- ---- numbers: b·P in 64 bits

@@ -1,12 +1,11 @@
 -- `column::edges_serve` meets its contract. The loop's invariant: the tests passed, of the edges passed.
 -- Assumes nothing.
 use Prim.Native.Nat.{ℕ, _-_, _≤_}
-use mathlib.Core.Bool.{Bool, _&&_}
+use mathlib.Core.Bool.{_&&_}
 use mathlib.Core.Path.{_≡_, sym, ap, ap₂, _∙_}
 use native.Mathlib.Omega.{arith}
 use Rattle.model.specs.Basic.{every}
 use Rattle.model.specs.Laws.Basic.{every-none, every-more}
-use Rattle.column.specs.Column.{IsServing}
 use Rattle.column.specs.Laws.{servesAt, serving-is}
 use borrow.Author.Needs.{needs}
 use Rattle.column.proofs.edges_serve.Statement.{statement}
