@@ -150,7 +150,9 @@ pub fn mismatches(q: [u64; 32], cap: bool, k: usize) -> [Mismatch; 32]
     }
     let mut i = 1;
     while i + 1 < k {
-        d[i] = mismatch(q[i - 1], q[i], q[i + 1]);
+        let low = q[i - 1];
+        let high = q[i + 1];
+        d[i] = mismatch(low, q[i], high);
         i += 1;
     }
     d

@@ -26,29 +26,29 @@ loop-holds c = (search needs, search needs, search needs, filled-none _ _)
 add-loop : tie.Need-add-loop Inv-loop μ-loop
 add-loop c = search needs
 
-sub-mismatch : tie.Need-sub-mismatch Inv-loop μ-loop
-sub-mismatch c = search needs
+sub-low : tie.Need-sub-low Inv-loop μ-loop
+sub-low c = search needs
+
+mul-low : tie.Need-mul-low Inv-loop μ-loop
+mul-low c = search needs
+
+array-read-low : tie.Need-array-read-low Inv-loop μ-loop
+array-read-low c = search needs
+
+add-high : tie.Need-add-high Inv-loop μ-loop
+add-high c = search needs
+
+mul-high : tie.Need-mul-high Inv-loop μ-loop
+mul-high c = search needs
+
+array-read-high : tie.Need-array-read-high Inv-loop μ-loop
+array-read-high c = search needs
 
 mul-mismatch : tie.Need-mul-mismatch Inv-loop μ-loop
 mul-mismatch c = search needs
 
 array-read-mismatch : tie.Need-array-read-mismatch Inv-loop μ-loop
 array-read-mismatch c = search needs
-
-mul-mismatch-2 : tie.Need-mul-mismatch-2 Inv-loop μ-loop
-mul-mismatch-2 c = search needs
-
-array-read-mismatch-2 : tie.Need-array-read-mismatch-2 Inv-loop μ-loop
-array-read-mismatch-2 c = search needs
-
-add-mismatch : tie.Need-add-mismatch Inv-loop μ-loop
-add-mismatch c = search needs
-
-mul-mismatch-3 : tie.Need-mul-mismatch-3 Inv-loop μ-loop
-mul-mismatch-3 c = search needs
-
-array-read-mismatch-3 : tie.Need-array-read-mismatch-3 Inv-loop μ-loop
-array-read-mismatch-3 c = search needs
 
 mismatch-requires : tie.Need-mismatch-requires Inv-loop μ-loop
 mismatch-requires c κs = search needs
@@ -89,14 +89,14 @@ mismatches-spec =
     returns
     loop-holds
     add-loop
-    sub-mismatch
+    sub-low
+    mul-low
+    array-read-low
+    add-high
+    mul-high
+    array-read-high
     mul-mismatch
     array-read-mismatch
-    mul-mismatch-2
-    array-read-mismatch-2
-    add-mismatch
-    mul-mismatch-3
-    array-read-mismatch-3
     mismatch-requires
     mul-d
     array-set-from-d
