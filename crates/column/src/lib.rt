@@ -201,8 +201,8 @@ pub fn new_tracer(
             i += 1;
             continue;
         }
-        let part = Air((edge - above) as u32);
-        let next = plus(whole, low_piece(d[i], m, t, part));
+        let inside = (edge - above) as u32; // the air of layer i above the edge
+        let next = plus(whole, low_piece(d[i], m, t, Air(inside)));
         new[j] = minus(next, last);
         last = next;
         j += 1;

@@ -83,13 +83,13 @@ loop-again c =
       l .inv .4,
     )
 
-sub-t31 : tie.Need-sub-t31 Inv-loop μ-loop
-sub-t31 c =
+sub-inside : tie.Need-sub-inside Inv-loop μ-loop
+sub-inside c =
     let l = c .before .before .before .before .before .loop in
     omega (arith, l .inv .0 .ahead (omega arith))
 
-cast-t35 : tie.Need-cast-t35 Inv-loop μ-loop
-cast-t35 c =
+cast-inside : tie.Need-cast-inside Inv-loop μ-loop
+cast-inside c =
     let start = c .before .before .before .before .before .before in
     let l = c .before .before .before .before .before .loop in
     omega (arith, start .pre .spans .most (l .i) (l .inv .0 .layer))
@@ -170,8 +170,8 @@ new-tracer-spec =
     add-i
     loop-less
     loop-again
-    sub-t31
-    cast-t35
+    sub-inside
+    cast-inside
     mul-low-piece
     array-copy-out-low-piece
     low-piece-requires
