@@ -77,7 +77,7 @@ module _ (f : ℕ → Layer) where
       sym (sum-first n (λ k. layerPart (i + k) x))
 
   -- a point of layer k
-  part-is : (k x : ℕ) → airOf k ≤ x → x ≤ airOf (suc k) → layerPart k x ≡ layerPiece (f k) (x - airOf k)
+  pub part-is : (k x : ℕ) → airOf k ≤ x → x ≤ airOf (suc k) → layerPart k x ≡ layerPiece (f k) (x - airOf k)
   unfolding sum
   part-is k x low high = ap (layerPiece (f k)) (omega arith)
 
@@ -91,7 +91,7 @@ module _ (f : ℕ → Layer) where
         sum-ext n _ _ (λ k h. ap (λ (k : ℕ). layerPart k x) (zero-add k))
 
     -- a point at or before the low end of layer k, and at or past its high end
-    part-none : (k x : ℕ) → k < n → x ≤ airOf k → layerPart k x ≡ 0
+    pub part-none : (k x : ℕ) → k < n → x ≤ airOf k → layerPart k x ≡ 0
     part-none k x h le =
         let e : min (x - airOf k) (f k .air) ≡ 0 = omega arith in
         rw e (piece-none _ _ _ (has k h))
@@ -105,7 +105,7 @@ module _ (f : ℕ → Layer) where
     pub amount-none : amountAbove (tab n f) 0 ≡ 0
     amount-none = amount-is 0 ∙ sum-ext n _ (λ k. 0) (λ k h. part-none k 0 h (omega arith)) ∙ sum-zero n
 
-    parts-whole : (m x : ℕ) → m ≤ n → airOf m ≤ x → sum m (λ k. layerPart k x) ≡ tracerOf m
+    pub parts-whole : (m x : ℕ) → m ≤ n → airOf m ≤ x → sum m (λ k. layerPart k x) ≡ tracerOf m
     parts-whole m x h le =
         sum-ext m _ (λ k. f k .tracer)
         (λ k p. part-whole k x (omega arith) (omega (arith, sum-fewer (λ i. f i .air) (suc k) m p)))

@@ -1,0 +1,23 @@
+-- `column::edge_of` meets its contract: b·p is below 2^54.
+-- Assumes nothing.
+use Prim.Native.Nat.{_*_}
+use native.Mathlib.Nat.{div-le-self}
+use native.Mathlib.Omega.{arith}
+use Rattle.column.specs.Laws.{product-fits}
+use borrow.Author.Needs.{needs}
+use Rattle.column.proofs.edge_of.Statement.{statement}
+use Rattle.column.proofs.edge_of.Tie as tie
+
+mul-result : tie.Need-mul-result
+mul-result c = omega (arith, product-fits (c .args .b) (c .args .p) (omega arith) (omega arith))
+
+add-result : tie.Need-add-result
+add-result c =
+    let a = c .args in
+    omega (arith, product-fits (a .b) (a .p) (omega arith) (omega arith), div-le-self (a .b * a .p) 65536)
+
+returns : tie.Need-returns
+returns c = search needs
+
+pub edge-of-spec : {M : Type 1} → statement M
+edge-of-spec = tie.close (tie.spec mul-result add-result returns)

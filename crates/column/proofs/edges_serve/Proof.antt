@@ -1,0 +1,79 @@
+-- `column::edges_serve` meets its contract. The loop's invariant: the tests passed, of the edges passed.
+-- Assumes nothing.
+use Prim.Native.Nat.{ℕ, _-_, _≤_}
+use mathlib.Core.Bool.{_&&_}
+use mathlib.Core.Path.{_≡_, sym, ap, ap₂, _∙_}
+use native.Mathlib.Omega.{arith}
+use Rattle.model.specs.Basic.{every}
+use Rattle.model.specs.Laws.Basic.{every-none, every-more}
+use Rattle.column.specs.Laws.{servesAt, serving-is}
+use borrow.Author.Needs.{needs}
+use Rattle.column.proofs.edges_serve.Statement.{statement}
+use Rattle.column.proofs.edges_serve.Tie as tie
+
+abbrev Inv-loop : tie.InvT-loop
+Inv-loop k e ok₀ j₀ ok j = (j ≤ k) × (ok ≡ every j (servesAt e))
+
+abbrev μ-loop : tie.MeasureT-loop
+μ-loop k e ok₀ j₀ ok j = k - j
+
+loop-holds : tie.Need-loop-holds Inv-loop μ-loop
+loop-holds c = (search needs, sym (every-none _))
+
+mul-layer-serves : tie.Need-mul-layer-serves Inv-loop μ-loop
+mul-layer-serves c = search needs
+
+array-read-layer-serves : tie.Need-array-read-layer-serves Inv-loop μ-loop
+array-read-layer-serves c = search needs
+
+add-layer-serves : tie.Need-add-layer-serves Inv-loop μ-loop
+add-layer-serves c = search needs
+
+mul-layer-serves-2 : tie.Need-mul-layer-serves-2 Inv-loop μ-loop
+mul-layer-serves-2 c = search needs
+
+array-read-layer-serves-2 : tie.Need-array-read-layer-serves-2 Inv-loop μ-loop
+array-read-layer-serves-2 c = search needs
+
+layer-serves-requires : tie.Need-layer-serves-requires Inv-loop μ-loop
+layer-serves-requires c κs = search needs
+
+add-j : tie.Need-add-j Inv-loop μ-loop
+add-j c = search needs
+
+loop-less : tie.Need-loop-less Inv-loop μ-loop
+loop-less c = search needs
+
+loop-again : tie.Need-loop-again Inv-loop μ-loop
+loop-again c =
+    let a = c .before .before .before .args in
+    let l = c .before .before .loop in (
+      search needs,
+      ap₂ _&&_ (l .inv .1) (c .layer-serves .ensures) ∙ sym (every-more (l .j) (servesAt (a .t1))),
+    )
+
+returns : tie.Need-returns Inv-loop μ-loop
+returns c =
+    let a = c .before .before .args in
+    let l = c .before .loop in
+    let done : l .j ≡ a .k = omega arith in
+    let is : l .ok ≡ every (a .k) (servesAt (a .t1)) = l .inv .1 ∙ ap (λ (n : ℕ). every n (servesAt (a .t1))) done in
+    rw is (serving-is (a .k) (a .t1))
+
+pub edges-serve-spec : {M : Type 1} → statement M
+edges-serve-spec =
+    tie.close
+    (tie.spec
+    Inv-loop
+    μ-loop
+    loop-holds
+    mul-layer-serves
+    array-read-layer-serves
+    add-layer-serves
+    mul-layer-serves-2
+    array-read-layer-serves-2
+    layer-serves-requires
+    add-j
+    loop-less
+    loop-again
+    returns)

@@ -1,0 +1,116 @@
+-- `column::pairs` meets its contract. The loop's invariant: where the walk stands, and the pairs counted: those of the new layers passed, and of this one with the old layers passed.
+-- The measure is what is left of old and new layers. Assumes nothing.
+use Prim.Native.Nat.{_+_, _-_, _≤_}
+use mathlib.Core.Path.{_≡_, sym}
+use native.Mathlib.Omega.{arith}
+use Rattle.model.specs.Basic.{howMany}
+use Rattle.column.specs.Walk.{Place, place-start, pass-layer, pass-edge, next-fits}
+use Rattle.column.specs.Pairs.{sharesAt, pairsTo, pairs-start, pairs-more, pairs-edge, pairs-all}
+use borrow.Author.Needs.{needs}
+use Rattle.column.proofs.pairs.Statement.{statement}
+use Rattle.column.proofs.pairs.Tie as tie
+
+abbrev Inv-loop : tie.InvT-loop
+Inv-loop k air e count₀ i₀ j₀ above₀ count i j above = Place k air e i j above × (count ≡ pairsTo k air e j + howMany i (sharesAt air e j)) × (count ≤ i + j)
+
+abbrev μ-loop : tie.MeasureT-loop
+μ-loop k air e count₀ i₀ j₀ above₀ count i j above = (k - i) + (k - j)
+
+loop-holds : tie.Need-loop-holds Inv-loop μ-loop
+loop-holds c =
+    let a = c .args in
+    (place-start (c .pre), sym (pairs-start (a .k) (a .t1) (a .t2)), search needs)
+
+mul-m : tie.Need-mul-m Inv-loop μ-loop
+mul-m c = search needs
+
+array-copy-out-m : tie.Need-array-copy-out-m Inv-loop μ-loop
+array-copy-out-m c = search needs
+
+cast-lower : tie.Need-cast-lower Inv-loop μ-loop
+cast-lower c = search needs
+
+add-lower : tie.Need-add-lower Inv-loop μ-loop
+add-lower c = omega (arith, next-fits (c .before .before .before .before .pre) (c .before .before .before .loop .inv .0))
+
+mul-shared : tie.Need-mul-shared Inv-loop μ-loop
+mul-shared c = search needs
+
+array-read-shared : tie.Need-array-read-shared Inv-loop μ-loop
+array-read-shared c = search needs
+
+shared-requires : tie.Need-shared-requires Inv-loop μ-loop
+shared-requires c κs = search needs
+
+add-count : tie.Need-add-count Inv-loop μ-loop
+add-count c = search needs
+
+add-if1 : tie.Need-add-if1 Inv-loop μ-loop
+add-if1 c = search needs
+
+mul-if1 : tie.Need-mul-if1 Inv-loop μ-loop
+mul-if1 c = search needs
+
+array-read-if1 : tie.Need-array-read-if1 Inv-loop μ-loop
+array-read-if1 c = search needs
+
+add-i : tie.Need-add-i Inv-loop μ-loop
+add-i c = search needs
+
+loop-less : tie.Need-loop-less Inv-loop μ-loop
+loop-less c = search needs
+
+loop-again : tie.Need-loop-again Inv-loop μ-loop
+loop-again c =
+    let start = c .before .before .before .before .before .before in
+    let l = c .before .before .before .before .before .loop in (
+      pass-layer (start .pre) (l .inv .0) (omega arith) (c .if1 .taken),
+      pairs-more (start .pre) (l .inv .0) (omega arith) (l .inv .1) (c .before .shared .ensures),
+      omega (arith, c .before .shared .ensures),
+    )
+
+add-j : tie.Need-add-j Inv-loop μ-loop
+add-j c = search needs
+
+loop-less-2 : tie.Need-loop-less-2 Inv-loop μ-loop
+loop-less-2 c = search needs
+
+loop-again-2 : tie.Need-loop-again-2 Inv-loop μ-loop
+loop-again-2 c =
+    let start = c .before .before .before .before .before .before in
+    let l = c .before .before .before .before .before .loop in (
+      pass-edge (start .pre) (l .inv .0) (omega arith),
+      pairs-edge (start .pre) (l .inv .0) (omega arith) (c .if1 .left) (pairs-more (start .pre) (l .inv .0) (omega arith) (l .inv .1) (c .before .shared .ensures)),
+      omega (arith, c .before .shared .ensures),
+    )
+
+returns : tie.Need-returns Inv-loop μ-loop
+returns c =
+    let l = c .before .loop in
+    pairs-all (c .before .before .pre) (l .inv .0) (omega arith) (l .inv .1) (l .inv .2)
+
+pub pairs-spec : {M : Type 1} → statement M
+pairs-spec =
+    tie.close
+    (tie.spec
+    Inv-loop
+    μ-loop
+    loop-holds
+    mul-m
+    array-copy-out-m
+    cast-lower
+    add-lower
+    mul-shared
+    array-read-shared
+    shared-requires
+    add-count
+    add-if1
+    mul-if1
+    array-read-if1
+    add-i
+    loop-less
+    loop-again
+    add-j
+    loop-less-2
+    loop-again-2
+    returns)

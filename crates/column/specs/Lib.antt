@@ -1,0 +1,7 @@
+pub mod Column
+pub mod Gas
+pub mod Laws
+pub mod Walk
+pub mod Slopes
+pub mod Pairs
+pub mod Remap

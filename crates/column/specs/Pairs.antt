@@ -1,0 +1,127 @@
+-- The pairs of an old and a new layer that share air, as the walk counts them: those of the new layers passed, and of this one with the old layers passed.
+-- Assumes nothing.
+use Prim.Native.Nat.{ℕ, zero, suc, _+_, _-_, _≤_, _<_, min, max}
+use mathlib.Core.List.{List}
+use mathlib.Core.Bool.{Bool, true, false}
+use mathlib.Core.Logic.{⊎-elim}
+use mathlib.Core.Path.{_≡_, refl, sym, ap, ap₂, _∙_}
+use native.Mathlib.Nat.{eq-or-lt-of-le}
+use native.Mathlib.Numerals.{add-one}
+use native.Mathlib.Omega.{arith}
+use borrow.Author.Tests.{lt-ltb, le-ltb, ltb-true, ltb-false}
+use lib.Dec.{ltb}
+use Rattle.units.specs.declared.Air.{Air}
+use Rattle.model.specs.Basic.{at, sum, howMany}
+use Rattle.model.specs.Remap.{airAbove, shareAir, columnCount}
+use Rattle.model.specs.Laws.Basic.{sum-none, sum-more, sum-ext, sum-fewer, at-tab}
+use Rattle.row.specs.Row.{airAt, airRow}
+use Rattle.column.specs.Column.{AreEdges}
+use Rattle.column.specs.Gas.{Spans, IsPairs}
+use Rattle.column.specs.Walk.{Place, rises-next, last-is, next-is}
+
+-- ---- how many
+how-many-ext : (n : ℕ) (p q : ℕ → Bool) → ((t : ℕ) → t < n → p t ≡ q t) → howMany n p ≡ howMany n q
+unfolding howMany
+how-many-ext zero p q same = refl
+how-many-ext (suc n) p q same =
+    ap₂ (λ (b : Bool) (m : ℕ). elim b [ true ↦ suc m | false ↦ m ]) (same n (omega arith)) (how-many-ext n p q (λ t h. same t (omega arith)))
+
+-- past m none
+how-many-past : (n m : ℕ) (p : ℕ → Bool) → m ≤ n → ((t : ℕ) → m ≤ t → t < n → p t ≡ false) → howMany n p ≡ howMany m p
+unfolding howMany
+how-many-past zero m p h none = let e : 0 ≡ m = omega arith in ap (λ (i : ℕ). howMany i p) e
+how-many-past (suc n) m p h none =
+    ⊎-elim
+    (λ (e : m ≡ suc n). ap (λ (i : ℕ). howMany i p) (sym e))
+    (λ (lt : m < suc n).
+    ap (λ (b : Bool). elim b [ true ↦ suc (howMany n p) | false ↦ howMany n p ]) (none n (omega arith) (omega arith)) ∙
+    how-many-past n m p (omega arith) (λ t a b. none t a (omega arith)))
+    (eq-or-lt-of-le h)
+
+how-many-zero : (p : ℕ → Bool) → howMany 0 p ≡ 0
+unfolding howMany
+how-many-zero p = refl
+
+how-many-none : (n : ℕ) (p : ℕ → Bool) → ((t : ℕ) → t < n → p t ≡ false) → howMany n p ≡ 0
+how-many-none n p none = how-many-past n 0 p (omega arith) (λ t a b. none t b) ∙ how-many-zero p
+
+-- one more, where the test is `x < y`
+how-many-more : (n x y : ℕ) (p : ℕ → Bool) → p n ≡ ltb x y → howMany (n + 1) p ≡ howMany n p + min 1 (y - x)
+unfolding howMany
+how-many-more n x y p is = ap (λ (i : ℕ). howMany i p) (add-one n) ∙ ap (λ (b : Bool). elim b [ true ↦ suc (howMany n p) | false ↦ howMany n p ]) is ∙ go (ltb x y) refl
+  where
+    go : (b : Bool) → ltb x y ≡ b → elim b [ true ↦ suc (howMany n p) | false ↦ howMany n p ] ≡ howMany n p + min 1 (y - x)
+    go true e = omega (arith, ltb-true x y e)
+    go false e = omega (arith, ltb-false x y e)
+
+-- ---- old layer i and new layer j share air
+abbrev top : List Air → List ℕ → ℕ → ℕ → ℕ
+top air e j i = max (sum i (airAt air)) (at e j)
+
+abbrev end : List Air → List ℕ → ℕ → ℕ → ℕ
+end air e j i = min (sum (i + 1) (airAt air)) (at e (j + 1))
+
+abbrev pub sharesAt : List Air → List ℕ → ℕ → ℕ → Bool
+sharesAt air e j i = ltb (top air e j i) (end air e j i)
+
+-- the pairs of the first j new layers
+abbrev pub pairsTo : ℕ → List Air → List ℕ → ℕ → ℕ
+pairsTo k air e j = sum j (λ t. howMany k (sharesAt air e t))
+
+pub pairs-start : (k : ℕ) (air : List Air) (e : List ℕ) → pairsTo k air e 0 + howMany 0 (sharesAt air e 0) ≡ 0
+pairs-start k air e = ap₂ _+_ (sum-none _) (how-many-zero _)
+
+-- an old layer that ends at or before the upper edge, and one that starts at or past the lower
+module _ (air : List Air) (e : List ℕ) (j t : ℕ) where
+  ends-before : sum (t + 1) (airAt air) ≤ at e j → sharesAt air e j t ≡ false
+  ends-before h = le-ltb (top air e j t) (end air e j t) (omega arith)
+
+  starts-past : at e (j + 1) ≤ sum t (airAt air) → sharesAt air e j t ≡ false
+  starts-past h = le-ltb (top air e j t) (end air e j t) (omega arith)
+
+module _ {k : ℕ} {air : List Air} {e : List ℕ} (spans : Spans k air e) {i j passed : ℕ} (p : Place k air e i j passed) where
+  -- the old layers above end before here
+  none-above : (x : ℕ) → passed ≤ at e x → howMany i (sharesAt air e x) ≡ 0
+  none-above x h =
+      how-many-none i _ (λ t q. ends-before air e x t (omega (arith, sum-fewer (airAt air) (t + 1) i (omega arith), p .is)))
+
+  module _ (h : j < k) where
+    -- the two layers at which the walk stands
+    here : sharesAt air e j i ≡ ltb (at e j) (passed + airAt air i)
+    here = go (ltb (at e j) (passed + airAt air i)) refl
+      where
+        go : (b : Bool) → ltb (at e j) (passed + airAt air i) ≡ b → sharesAt air e j i ≡ b
+        go true u = lt-ltb (top air e j i) (end air e j i) (omega (arith, ltb-true (at e j) (passed + airAt air i) u, next-is spans p, p .is, p .ahead h, rises-next spans j h, spans .least i (p .layer)))
+        go false u = le-ltb (top air e j i) (end air e j i) (omega (arith, ltb-false (at e j) (passed + airAt air i) u, next-is spans p))
+
+    pub pairs-more : {count more : ℕ} → count ≡ pairsTo k air e j + howMany i (sharesAt air e j) → more ≡ min 1 (passed + airAt air i - at e j) → count + more ≡ pairsTo k air e j + howMany (i + 1) (sharesAt air e j)
+    pairs-more is more = omega (arith, is, more, how-many-more i (at e j) (passed + airAt air i) (sharesAt air e j) here)
+
+    -- past the lower edge there is nothing left to count in new layer j, and nothing yet in the next
+    pub pairs-edge : {count : ℕ} → at e (j + 1) ≤ passed + airAt air i → count ≡ pairsTo k air e j + howMany (i + 1) (sharesAt air e j) → count ≡ pairsTo k air e (j + 1) + howMany i (sharesAt air e (j + 1))
+    pairs-edge le is =
+        let rest = how-many-past k (i + 1) (sharesAt air e j) (omega (arith, p .layer)) (λ t a b. starts-past air e j t (omega (arith, sum-fewer (airAt air) (i + 1) t a, next-is spans p))) in
+        omega (arith, is, rest, sum-more j (λ t. howMany k (sharesAt air e t)), none-above (j + 1) (omega (arith, p .ahead h)))
+
+  -- the model's count
+  share-is : (table : List ℕ) → AreEdges table (airAbove (airRow k air) k) k e → (x t : ℕ) → x < k → t < k → sharesAt air e x t ≡ shareAir table (airRow k air) (airAbove (airRow k air) k) x t
+  unfolding shareAir
+  share-is table are x t hx ht =
+      λ n.
+      ltb (max (upto t (omega arith) n) (are .is x (omega arith) n))
+      (min ((ap (λ (i : ℕ). sum i (airAt air)) (add-one t) ∙ upto (suc t) ht) n) ((ap (at e) (add-one x) ∙ are .is (suc x) hx) n))
+    where
+      upto : (t : ℕ) → t ≤ k → sum t (airAt air) ≡ airAbove (airRow k air) t
+      upto t q = sum-ext t (airAt air) (at (airRow k air)) (λ u r. sym (at-tab k (airAt air) u (omega arith)))
+
+  pub pairs-all : {count : ℕ} → j ≡ k → count ≡ pairsTo k air e j + howMany i (sharesAt air e j) → count ≤ i + j → IsPairs k air e count
+  unfolding columnCount
+  pairs-all done is small =
+      record {
+        is =
+            λ table are.
+            is ∙ omega (arith, none-above j (omega (arith, p .is, ap (at e) done, last-is spans, sum-fewer (airAt air) i k (omega (arith, p .layer))))) ∙
+            ap (pairsTo k air e) done ∙
+            sum-ext k _ _ (λ x hx. how-many-ext k _ _ (λ t ht. share-is table are x t hx ht));
+        most = omega (arith, p .layer);
+      }
