@@ -3,19 +3,21 @@
 use Prim.Native.Nat.{ℕ, _+_, _≤_, _<_}
 use mathlib.Core.List.{List, [], _∷_, _++_}
 use mathlib.Core.Bool.{Bool, true}
-use mathlib.Core.Path.{_≡_, refl, _∙_}
-use lib.IntN.{pos, negℤ}
+use mathlib.Core.Path.{_≡_, refl, sym, _∙_}
+use lib.IntN.{ℤ, pos, negℤ}
 use lib.ListN.{take, replicate}
 use Rattle.model.specs.Basic.{tab}
-use Rattle.model.specs.World.{World, gasTotal, airTotal}
-use Rattle.model.specs.Step.{Call, load, emission, withdrawal, zonal, meridional, remap, total, reading, firstOf, lentFits, ownPlaces, refusal, step}
+use Rattle.model.specs.World.{World, layerStart, rowStart, gasTotal, airTotal}
+use Rattle.model.specs.Sweep.{ring, layer}
+use Rattle.model.specs.Step.{Call, load, emission, withdrawal, zonal, meridional, remap, total, reading, firstOf, lentFits, ownPlaces, refusal, accepted, step}
 use Rattle.model.specs.Lists.{Loaded, callAt, after, point, emitted, withdrawn, HasRatio, CallInRange, Alike, namesNoOther, SameReply}
-use Rattle.model.specs.Laws.Step.{Fits, own-refusal, fits-loaded, loaded-fits}
+use Rattle.model.specs.Laws.Step.{Fits, own-refusal, fits-loaded, loaded-fits, step-accepted, answer-is}
 use Rattle.model.specs.Laws.Keeps.{StepKeeps, step-keeps, names-grid}
 use Rattle.model.specs.Laws.Lists.{EachKeeps, points-kept, points-alike, points-ratio}
 use Rattle.model.specs.Laws.Amounts.{load-keeps, emission-keeps, withdrawal-keeps, total-keeps, reading-keeps}
-use Rattle.model.specs.Laws.Zonal.{zonal-range, zonal-keeps}
-use Rattle.model.specs.Laws.Meridional.{meridional-range, meridional-keeps}
+use Rattle.model.specs.Laws.Sweep.{ChainOf, swept-chain}
+use Rattle.model.specs.Laws.Zonal.{zonal-sweeps, zonal-range, zonal-keeps}
+use Rattle.model.specs.Laws.Meridional.{meridional-sweeps, meridional-range, meridional-keeps}
 use Rattle.model.specs.Laws.Remap.{remap-keeps}
 use Rattle.model.specs.Cases.{computes}
 use Rattle.model.specs.Cases.Marked.{four, stair}
@@ -65,6 +67,21 @@ demand-3 w calls start i =
           let here = each i (point w calls i) (kept .fits) .independent own (point v calls i) (points-kept i v calls fv each .fits) now in
           (now, λ named. here .1 (names-grid own (point w calls i) w (kept .sameGrid) (callAt calls i) ∙ named));
     }
+
+-- The chain that the range of an accepted sweep speaks of starts with the amounts before it and ends with those that `step` leaves
+pub zonal-chain : (w : World) → Loaded w → (k r : ℕ) (fluxes : List ℤ) → step w (zonal k r fluxes) .answer ≡ 0 → (t : ℕ) → t < w .grid .N → ChainOf w (step w (zonal k r fluxes) .next) (ring (w .grid .W)) (rowStart (w .grid) k r) fluxes (step w (zonal k r fluxes) .count) t
+unfolding accepted
+zonal-chain w start k r fluxes e t h =
+    let go = sym (answer-is w (zonal k r fluxes)) ∙ e in
+    rw (step-accepted w (zonal k r fluxes) go)
+    (swept-chain w (loaded-fits w start) _ _ fluxes _ (zonal-sweeps k r fluxes w go .inside) t h)
+
+pub meridional-chain : (w : World) → Loaded w → (k : ℕ) (fluxes : List ℤ) → step w (meridional k fluxes) .answer ≡ 0 → (t : ℕ) → t < w .grid .N → ChainOf w (step w (meridional k fluxes) .next) (layer (w .grid .W) (w .grid .R)) (layerStart (w .grid) k) fluxes 1 t
+unfolding accepted
+meridional-chain w start k fluxes e t h =
+    let go = sym (answer-is w (meridional k fluxes)) ∙ e in
+    rw (step-accepted w (meridional k fluxes) go)
+    (swept-chain w (loaded-fits w start) _ _ fluxes 1 (meridional-sweeps k fluxes w go .inside) t h)
 
 -- A world reached from an accepted load never meets the refusals 1 to 4 again, but 2 for the list that a call itself lends: the refusal is that of the call's own places alone
 pub reached : (w : World) (calls : List Call) → Loaded w → (i : ℕ) → Loaded (point w calls i) × ((call : Call) → lentFits (w .grid) call ≡ true → refusal (point w calls i) call ≡ firstOf (ownPlaces call) (point w calls i))

@@ -265,3 +265,20 @@ module _ (meshOf : Grid → Mesh) (startOf : Grid → ℕ) (countOf : Grid → L
     where
       inside-v : startOf (v .grid) + meshOf (v .grid) .cells ≤ worldCells (v .grid)
       inside-v = rw (← (s .sameGrid)) inside
+
+-- ---- the chain of a sweep over the cells from a on: it starts with the amounts before it and ends with those in the world after it
+pub record ChainOf (w next : World) (mesh : Mesh) (a : ℕ) (fluxes : List ℤ) (n t : ℕ) : Type 0 where
+  pub airStart : airAfter mesh fluxes n (part (w .air) a (mesh .cells)) 0 ≡ part (w .air) a (mesh .cells)
+  pub airEnd : part (next .air) a (mesh .cells) ≡ airAfter mesh fluxes n (part (w .air) a (mesh .cells)) n
+  pub gasStart : gasAfter mesh fluxes n (part (w .air) a (mesh .cells)) (part (gas w t) a (mesh .cells)) 0 ≡ part (gas w t) a (mesh .cells)
+  pub gasEnd : part (gas next t) a (mesh .cells) ≡ gasAfter mesh fluxes n (part (w .air) a (mesh .cells)) (part (gas w t) a (mesh .cells)) n
+
+pub swept-chain : (w : World) → Fits w → (mesh : Mesh) (a : ℕ) (fluxes : List ℤ) (n : ℕ) → a + mesh .cells ≤ worldCells (w .grid) → (t : ℕ) → t < w .grid .N → ChainOf w (swept w mesh a fluxes n) mesh a fluxes n t
+unfolding airAfter gasAfter
+swept-chain w fits mesh a fluxes n inside t h =
+    record {
+      airStart = refl;
+      airEnd = rw (swept-air w fits mesh a inside fluxes n) (air-within mesh a fluxes n (worldCells (w .grid)) inside (w .air) (fits .airLength));
+      gasStart = refl;
+      gasEnd = rw (swept-gas w fits mesh a inside fluxes n t h) (gas-within mesh a fluxes n (worldCells (w .grid)) inside (w .air) (gas w t) (length-gas w t (fits .tracersLength) h));
+    }
