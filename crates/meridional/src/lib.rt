@@ -72,8 +72,6 @@ fn sweep_tracers(g: Grid, tracers: &mut [u32], air: &[u32], f: LayerFlow, first:
     requires { ⌜ TracersNeed g (now tracers) (now air) (flowOf f) first ⌝ }
     ensures { λ x. ⌜ now (tracers .exit) ≡ sweptTracers g (now (tracers .entry)) (now (air .entry)) (flowOf f) first ⌝ }
 {
-    let w = g.w as usize;
-    let rows = g.r as usize;
     let n = g.n as usize;
     let wide = layer_cells(g) as usize;
     let cells = world_cells(g) as usize;
@@ -81,7 +79,7 @@ fn sweep_tracers(g: Grid, tracers: &mut [u32], air: &[u32], f: LayerFlow, first:
     while t < n {
         let a = t * cells + first;
         let e = a + wide;
-        step_layer_gas(&mut tracers[a..e], air, f, w, rows);
+        step_layer_gas(&mut tracers[a..e], air, f, g.w as usize, g.r as usize);
         t += 1;
     }
 }

@@ -1,116 +1,160 @@
+-- `meridional::layer_place` meets its contract: each answer from the tests that led there.
+-- Assumes nothing.
+use Prim.Native.Nat.{_+_, _≤_}
+use mathlib.Core.Path.{_≡_, refl, sym, _∙_}
+use native.Mathlib.Omega.{arith}
+use borrow.Author.Tests.{eqb-true}
+use lib.ListN.{length}
+use Rattle.units.specs.Grid.{worldOf, in-range}
+use Rattle.units.specs.declared.Refusal.the-variants.{Index, Fluxes, Meridional}
+use Rattle.meridional.specs.Calls.{place-common, place-refused, place-found, no-layer, flux-too-large, substep-refused, sweep-accepted, faces-few, part-over, layer-lent, tested-serves}
 use borrow.Author.Needs.{needs}
 use Rattle.meridional.proofs.layer_place.Statement.{statement}
 use Rattle.meridional.proofs.layer_place.Tie as tie
-use Rattle.meridional.proofs.layer_place.Reads as reads
-use Rattle.meridional.proofs.layer_place.Lts as lts
-use Rattle.layer.proofs.flow_of.Reads as flow-of-reads
-use Rattle.layer.proofs.layer_allowed.Reads as layer-allowed-reads
-use Rattle.meridional.proofs.no_layer.Reads as no-layer-reads
-use Rattle.places.proofs.common_places.Reads as common-places-reads
-use Rattle.places.proofs.fluxes_fit.Reads as fluxes-fit-reads
-use Rattle.units.proofs.layer_cells.Reads as layer-cells-reads
-use Rattle.units.proofs.layer_start.Reads as layer-start-reads
-use Rattle.units.proofs.number.Reads as number-reads
 
--- src/lib.rt:47:9
 common-places-requires : tie.Need-common-places-requires
 common-places-requires c κs = search needs
 
--- src/lib.rt:49:8
 number-requires : tie.Need-number-requires
 number-requires c κs = search needs
 
--- src/lib.rt:50:9
 no-layer-requires : tie.Need-no-layer-requires
 no-layer-requires c κs = search needs
 
--- src/lib.rt:50:9
 returns : tie.Need-returns
-returns c = ?
+returns c = place-common _ _ _ _ _ _ _ (c .before .before .before .common-places .ensures) (λ z. omega (arith, c .before .before .number .ensures)) (c .no-layer .ensures)
 
--- src/lib.rt:53:9
 no-layer-requires-2 : tie.Need-no-layer-requires-2
 no-layer-requires-2 c κs = search needs
 
--- src/lib.rt:53:9
 returns-2 : tie.Need-returns-2
-returns-2 c = ?
+returns-2 c =
+    let args = c .before .before .before .before .before .before .before .before .args in
+    let w = worldOf (args .g) (args .air .now) (args .tracers .now) in
+    let passed = c .before .before .before .before .before .common-places .ensures .passed (sym (c .before .before .before .before .number .ensures) ∙ c .before .before .before .if1 .taken) in
+    let range = in-range (args .g) (passed .fits .grid) in
+    place-refused w (args .layer) (args .fluxes .now) _ _ Index (λ z. omega arith) (c .no-layer2 .ensures)
+    (no-layer w (passed .fits) (args .layer) (args .fluxes .now) (passed .lentFit) (search needs))
 
--- src/lib.rt:55:8
 fluxes-fit-requires : tie.Need-fluxes-fit-requires
 fluxes-fit-requires c κs = search needs
 
--- src/lib.rt:56:9
 no-layer-requires-3 : tie.Need-no-layer-requires-3
 no-layer-requires-3 c κs = search needs
 
--- src/lib.rt:56:9
 returns-3 : tie.Need-returns-3
-returns-3 c = ?
+returns-3 c =
+    let args = c .before .before .before .before .before .before .before .before .before .before .args in
+    let w = worldOf (args .g) (args .air .now) (args .tracers .now) in
+    let passed = c .before .before .before .before .before .before .before .common-places .ensures .passed (sym (c .before .before .before .before .before .before .number .ensures) ∙ c .before .before .before .before .before .if1 .taken) in
+    let range = in-range (args .g) (passed .fits .grid) in
+    place-refused w (args .layer) (args .fluxes .now) _ _ Fluxes (λ z. omega arith) (c .no-layer3 .ensures)
+    (flux-too-large w (passed .fits) (args .layer) (args .fluxes .now) (passed .lentFit) (search needs) (sym (c .before .before .fluxes-fit .ensures) ∙ c .before .if3 .left))
 
--- src/lib.rt:58:17
 layer-start-requires : tie.Need-layer-start-requires
-layer-start-requires c κs = ?
+layer-start-requires c κs =
+    let args = c .before .before .before .before .before .before .before .before .before .args in
+    let w = worldOf (args .g) (args .air .now) (args .tracers .now) in
+    let passed = c .before .before .before .before .before .before .common-places .ensures .passed (sym (c .before .before .before .before .before .number .ensures) ∙ c .before .before .before .before .if1 .taken) in
+    let range = in-range (args .g) (passed .fits .grid) in
+    record { range = range; layer = search needs }
 
--- src/lib.rt:58:17
 cast-first : tie.Need-cast-first
 cast-first c = search needs
 
--- src/lib.rt:59:24
 layer-cells-requires : tie.Need-layer-cells-requires
-layer-cells-requires c κs = ?
+layer-cells-requires c κs =
+    let args = c .before .before .before .before .before .before .before .before .before .before .args in
+    let w = worldOf (args .g) (args .air .now) (args .tracers .now) in
+    let passed = c .before .before .before .before .before .before .before .common-places .ensures .passed (sym (c .before .before .before .before .before .before .number .ensures) ∙ c .before .before .before .before .before .if1 .taken) in
+    let range = in-range (args .g) (passed .fits .grid) in
+    range
 
--- src/lib.rt:59:24
 cast-end : tie.Need-cast-end
 cast-end c = search needs
 
--- src/lib.rt:59:15
 add-end : tie.Need-add-end
 add-end c = search needs
 
--- src/lib.rt:60:9
 flow-of-requires : tie.Need-flow-of-requires
-flow-of-requires c κs = ?
+flow-of-requires c κs =
+    let args = c .before .before .before .before .before .before .before .before .before .before .before .args in
+    let w = worldOf (args .g) (args .air .now) (args .tracers .now) in
+    let passed = c .before .before .before .before .before .before .before .before .common-places .ensures .passed (sym (c .before .before .before .before .before .before .before .number .ensures) ∙ c .before .before .before .before .before .before .if1 .taken) in
+    let range = in-range (args .g) (passed .fits .grid) in
+    faces-few (args .g) range _ (eqb-true (length (args .fluxes .now)) _ (passed .lentFit))
 
--- src/lib.rt:61:22
 mul-layer-allowed : tie.Need-mul-layer-allowed
 mul-layer-allowed c = search needs
 
--- src/lib.rt:61:22
 sub-layer-allowed : tie.Need-sub-layer-allowed
 sub-layer-allowed c = search needs
 
--- src/lib.rt:61:22
 part-layer-allowed-start : tie.Need-part-layer-allowed-start
 part-layer-allowed-start c = search needs
 
--- src/lib.rt:61:22
 part-layer-allowed-end : tie.Need-part-layer-allowed-end
-part-layer-allowed-end c = ?
+part-layer-allowed-end c =
+    let args = c .before .before .before .before .before .before .before .before .before .before .before .before .args in
+    let w = worldOf (args .g) (args .air .now) (args .tracers .now) in
+    let passed = c .before .before .before .before .before .before .before .before .before .common-places .ensures .passed (sym (c .before .before .before .before .before .before .before .before .number .ensures) ∙ c .before .before .before .before .before .before .before .if1 .taken) in
+    let range = in-range (args .g) (passed .fits .grid) in
+    let start = c .before .before .layer-start .ensures in
+    let wide = c .before .layer-cells .ensures .0 in
+    let inside : c .before .before .layer-start .result + c .before .layer-cells .result ≤ length (args .air .now) = omega (arith, start .1, wide, passed .fits .airLength) in
+    inside
 
--- src/lib.rt:61:43
 cast-layer-allowed : tie.Need-cast-layer-allowed
 cast-layer-allowed c = search needs
 
--- src/lib.rt:61:57
 cast-layer-allowed-2 : tie.Need-cast-layer-allowed-2
 cast-layer-allowed-2 c = search needs
 
--- src/lib.rt:61:8
 layer-allowed-requires : tie.Need-layer-allowed-requires
-layer-allowed-requires c κs = ?
+layer-allowed-requires c κs =
+    let args = c .before .before .before .before .before .before .before .before .before .before .before .before .before .before .before .args in
+    let w = worldOf (args .g) (args .air .now) (args .tracers .now) in
+    let passed = c .before .before .before .before .before .before .before .before .before .before .before .before .common-places .ensures .passed (sym (c .before .before .before .before .before .before .before .before .before .before .before .number .ensures) ∙ c .before .before .before .before .before .before .before .before .before .before .if1 .taken) in
+    let range = in-range (args .g) (passed .fits .grid) in
+    let start = c .before .before .before .before .before .layer-start .ensures in
+    let wide = c .before .before .before .before .layer-cells .ensures .0 in
+    let inside : c .before .before .before .before .before .layer-start .result + c .before .before .before .before .layer-cells .result ≤ length (args .air .now) = omega (arith, start .1, wide, passed .fits .airLength) in
+    part-over (args .g) range (args .air .now) _ _ wide inside
 
--- src/lib.rt:62:9
 no-layer-requires-4 : tie.Need-no-layer-requires-4
 no-layer-requires-4 c κs = search needs
 
--- src/lib.rt:62:9
 returns-4 : tie.Need-returns-4
-returns-4 c = ?
+returns-4 c =
+    let args = c .before .before .before .before .before .before .before .before .before .before .before .before .before .before .before .before .before .before .args in
+    let w = worldOf (args .g) (args .air .now) (args .tracers .now) in
+    let passed = c .before .before .before .before .before .before .before .before .before .before .before .before .before .before .before .common-places .ensures .passed (sym (c .before .before .before .before .before .before .before .before .before .before .before .before .before .before .number .ensures) ∙ c .before .before .before .before .before .before .before .before .before .before .before .before .before .if1 .taken) in
+    let range = in-range (args .g) (passed .fits .grid) in
+    let start = c .before .before .before .before .before .before .before .before .layer-start .ensures in
+    let wide = c .before .before .before .before .before .before .before .layer-cells .ensures .0 in
+    let inside : c .before .before .before .before .before .before .before .before .layer-start .result + c .before .before .before .before .before .before .before .layer-cells .result ≤ length (args .air .now) = omega (arith, start .1, wide, passed .fits .airLength) in
+    let tested = tested-serves w (args .layer) (args .fluxes .now) _ _ _ (layer-lent w (args .layer) _ _ (start .0) wide) (c .before .before .before .before .before .before .flow-of .ensures) (c .before .before .layer-allowed .ensures) in
+    place-refused w (args .layer) (args .fluxes .now) _ _ Meridional (λ z. omega arith) (c .no-layer4 .ensures)
+    (substep-refused w (passed .fits) (args .layer) (args .fluxes .now) (passed .lentFit) (search needs) (sym (c .before .before .before .before .before .before .before .before .before .before .fluxes-fit .ensures) ∙ c .before .before .before .before .before .before .before .before .before .if3 .taken) (tested ∙ c .before .if4 .left))
 
--- src/lib.rt:38:1
 returns-5 : tie.Need-returns-5
-returns-5 c = ?
+returns-5 c =
+    let args = c .before .before .before .before .before .before .before .before .before .before .before .before .before .before .before .before .before .args in
+    let w = worldOf (args .g) (args .air .now) (args .tracers .now) in
+    let passed = c .before .before .before .before .before .before .before .before .before .before .before .before .before .before .common-places .ensures .passed (sym (c .before .before .before .before .before .before .before .before .before .before .before .before .before .number .ensures) ∙ c .before .before .before .before .before .before .before .before .before .before .before .before .if1 .taken) in
+    let range = in-range (args .g) (passed .fits .grid) in
+    let start = c .before .before .before .before .before .before .before .layer-start .ensures in
+    let wide = c .before .before .before .before .before .before .layer-cells .ensures .0 in
+    let inside : c .before .before .before .before .before .before .before .layer-start .result + c .before .before .before .before .before .before .layer-cells .result ≤ length (args .air .now) = omega (arith, start .1, wide, passed .fits .airLength) in
+    let tested = tested-serves w (args .layer) (args .fluxes .now) _ _ _ (layer-lent w (args .layer) _ _ (start .0) wide) (c .before .before .before .before .before .flow-of .ensures) (c .before .layer-allowed .ensures) in
+    place-found w (args .layer) (args .fluxes .now) _ _ refl
+    record {
+      fits = passed .fits;
+      long = eqb-true (length (args .fluxes .now)) _ (passed .lentFit);
+      start = start .0;
+      accepting =
+          sweep-accepted w (passed .fits) (args .layer) (args .fluxes .now) (passed .lentFit) (search needs) (sym (c .before .before .before .before .before .before .before .before .before .fluxes-fit .ensures) ∙ c .before .before .before .before .before .before .before .before .if3 .taken) (tested ∙ c .if4 .taken);
+    }
 
 pub layer-place-spec : {M : Type 1} → statement M
 layer-place-spec =

@@ -7,84 +7,84 @@ use Rattle.units.proofs.layer_cells.Reads as layer-cells-reads
 use Rattle.units.proofs.world_cells.Reads as world-cells-reads
 
 abbrev Inv-loop : tie.InvT-loop
-Inv-loop tracers₀ air f first w rows n wide cells t₀ tracers t = ?
+Inv-loop g tracers₀ air f first n wide cells t₀ tracers t = ?
 
 abbrev μ-loop : tie.MeasureT-loop
-μ-loop tracers₀ air f first w rows n wide cells t₀ tracers t = ?
+μ-loop g tracers₀ air f first n wide cells t₀ tracers t = ?
 
 -- src/lib.rt:75:13
-cast-w : tie.Need-cast-w Inv-loop μ-loop
-cast-w c = ?
-
--- src/lib.rt:76:16
-cast-rows : tie.Need-cast-rows Inv-loop μ-loop
-cast-rows c = ?
-
--- src/lib.rt:77:13
 cast-n : tie.Need-cast-n Inv-loop μ-loop
 cast-n c = ?
 
--- src/lib.rt:78:16
+-- src/lib.rt:76:16
 layer-cells-requires : tie.Need-layer-cells-requires Inv-loop μ-loop
 layer-cells-requires c κs = ?
 
--- src/lib.rt:78:16
+-- src/lib.rt:76:16
 cast-wide : tie.Need-cast-wide Inv-loop μ-loop
 cast-wide c = ?
 
--- src/lib.rt:79:17
+-- src/lib.rt:77:17
 world-cells-requires : tie.Need-world-cells-requires Inv-loop μ-loop
 world-cells-requires c κs = ?
 
--- src/lib.rt:79:17
+-- src/lib.rt:77:17
 cast-cells : tie.Need-cast-cells Inv-loop μ-loop
 cast-cells c = ?
 
--- src/lib.rt:81:5
+-- src/lib.rt:79:5
 loop-holds : tie.Need-loop-holds Inv-loop μ-loop
 loop-holds c = ?
 
--- src/lib.rt:82:17
+-- src/lib.rt:80:17
 mul-a : tie.Need-mul-a Inv-loop μ-loop
 mul-a c = ?
 
--- src/lib.rt:82:17
+-- src/lib.rt:80:17
 add-a : tie.Need-add-a Inv-loop μ-loop
 add-a c = ?
 
--- src/lib.rt:83:17
+-- src/lib.rt:81:17
 add-e : tie.Need-add-e Inv-loop μ-loop
 add-e c = ?
 
--- src/lib.rt:84:24
+-- src/lib.rt:82:24
 mul-step-layer-gas : tie.Need-mul-step-layer-gas Inv-loop μ-loop
 mul-step-layer-gas c = ?
 
--- src/lib.rt:84:24
+-- src/lib.rt:82:24
 sub-step-layer-gas : tie.Need-sub-step-layer-gas Inv-loop μ-loop
 sub-step-layer-gas c = ?
 
--- src/lib.rt:84:24
+-- src/lib.rt:82:24
 part-step-layer-gas-start : tie.Need-part-step-layer-gas-start Inv-loop μ-loop
 part-step-layer-gas-start c = ?
 
--- src/lib.rt:84:24
+-- src/lib.rt:82:24
 part-step-layer-gas-end : tie.Need-part-step-layer-gas-end Inv-loop μ-loop
 part-step-layer-gas-end c = ?
 
--- src/lib.rt:84:9
+-- src/lib.rt:82:52
+cast-step-layer-gas : tie.Need-cast-step-layer-gas Inv-loop μ-loop
+cast-step-layer-gas c = ?
+
+-- src/lib.rt:82:66
+cast-step-layer-gas-2 : tie.Need-cast-step-layer-gas-2 Inv-loop μ-loop
+cast-step-layer-gas-2 c = ?
+
+-- src/lib.rt:82:9
 step-layer-gas-requires : tie.Need-step-layer-gas-requires Inv-loop μ-loop
 step-layer-gas-requires c κs = ?
 
--- src/lib.rt:85:9
+-- src/lib.rt:83:9
 add-t : tie.Need-add-t Inv-loop μ-loop
 add-t c = ?
 
--- src/lib.rt:81:5
+-- src/lib.rt:79:5
 loop-less : tie.Need-loop-less Inv-loop μ-loop
 loop-less c = ?
 
--- src/lib.rt:81:5
+-- src/lib.rt:79:5
 loop-again : tie.Need-loop-again Inv-loop μ-loop
 loop-again c = ?
 
@@ -102,8 +102,6 @@ sweep-tracers-spec =
     (tie.spec
     Inv-loop
     μ-loop
-    cast-w
-    cast-rows
     cast-n
     layer-cells-requires
     cast-wide
@@ -117,6 +115,8 @@ sweep-tracers-spec =
     sub-step-layer-gas
     part-step-layer-gas-start
     part-step-layer-gas-end
+    cast-step-layer-gas
+    cast-step-layer-gas-2
     step-layer-gas-requires
     add-t
     loop-less
