@@ -63,13 +63,16 @@ module _ (g : declared.Grid) (tracers air : List ℕ) (flow : Flow) (first : ℕ
   width = layerCells (gridOf g)
 
   -- where tracer t's layer lies
-  pub layer-room : (t : ℕ) → t < g .n → (t * all + first + width ≤ length tracers) × (t * all + first + width ≤ 811520)
+  layer-room : (t : ℕ) → t < g .n → (t * all + first + width ≤ length tracers) × (t * all + first + width ≤ 811520)
   layer-room t h =
       let below : suc t * all ≤ g .n * all = mul-le-mul-right all h in
       let most : g .n * all ≤ 8 * 101440 = mul-le-mul (need .range .highN) (world-cells-few g (need .range)) in
       let long = need .tracersLong in
       let inside = need .inside in
       (omega arith, omega arith)
+
+  pub layer-near : (t : ℕ) → t < g .n → (cells wide : ℕ) → cells ≡ all → wide ≡ width → t * cells + first + wide ≤ 811520
+  layer-near t h cells wide same alike = rw (same, alike) (layer-room t h .1)
 
   abbrev gas-of : ℕ → List ℕ
   gas-of t = part tracers (t * all) all

@@ -35,13 +35,7 @@ fn no_layer(answer: Answer) -> LayerPlace
     LayerPlace { answer, first: 0 }
 }
 
-fn layer_place(
-    g: Grid,
-    air: &[u32],
-    tracers: &[u32],
-    layer: u32,
-    fluxes: &[i32],
-) -> LayerPlace
+fn layer_place(g: Grid, air: &[u32], tracers: &[u32], layer: u32, fluxes: &[i32]) -> LayerPlace
     ensures { λ p. ⌜ IsLayerPlace (worldOf g (now (air .entry)) (now (tracers .entry))) layer (now (fluxes .entry)) (p .answer) (p .first) ⌝ }
 {
     let tested = common_places(g, air, tracers, Lent::LayerFluxes(fluxes.len()));

@@ -1,100 +1,119 @@
+-- `meridional::sweep_tracers` meets its contract. The loop's invariant: the layers of the tracers passed are swept, the others are as lent.
+-- Assumes nothing.
+use Prim.Native.Nat.{_≤_, _-_}
+use mathlib.Core.Path.{_≡_, ap, _∙_}
+use lib.ListN.{length}
+use native.Mathlib.Omega.{arith}
+use borrow.Author.Needs.{needs}
+use Rattle.layer.specs.Air.{flowOf}
+use Rattle.meridional.specs.Tracers.{sweptUpTo, layer-near, swept-none, swept-more, swept-all, length-up-to, lent-inside, lent-need}
 use Rattle.meridional.proofs.sweep_tracers.Statement.{statement}
 use Rattle.meridional.proofs.sweep_tracers.Tie as tie
-use Rattle.meridional.proofs.sweep_tracers.Reads as reads
-use Rattle.meridional.proofs.sweep_tracers.Lts as lts
-use Rattle.layergas.proofs.step_layer_gas.Reads as step-layer-gas-reads
-use Rattle.units.proofs.layer_cells.Reads as layer-cells-reads
-use Rattle.units.proofs.world_cells.Reads as world-cells-reads
 
 abbrev Inv-loop : tie.InvT-loop
-Inv-loop g tracers₀ air f first n wide cells t₀ tracers t = ?
+Inv-loop g tracers₀ air f first n wide cells t₀ tracers t =
+    (t ≤ n) × (tracers ≡ sweptUpTo g tracers₀ air (flowOf f) first t)
 
 abbrev μ-loop : tie.MeasureT-loop
-μ-loop g tracers₀ air f first n wide cells t₀ tracers t = ?
+μ-loop g tracers₀ air f first n wide cells t₀ tracers t = n - t
 
--- src/lib.rt:75:13
 cast-n : tie.Need-cast-n Inv-loop μ-loop
-cast-n c = ?
+cast-n c = search needs
 
--- src/lib.rt:76:16
 layer-cells-requires : tie.Need-layer-cells-requires Inv-loop μ-loop
-layer-cells-requires c κs = ?
+layer-cells-requires c κs = c .before .before .before .pre .range
 
--- src/lib.rt:76:16
 cast-wide : tie.Need-cast-wide Inv-loop μ-loop
-cast-wide c = ?
+cast-wide c = search needs
 
--- src/lib.rt:77:17
 world-cells-requires : tie.Need-world-cells-requires Inv-loop μ-loop
-world-cells-requires c κs = ?
+world-cells-requires c κs = c .before .before .before .before .pre .range
 
--- src/lib.rt:77:17
 cast-cells : tie.Need-cast-cells Inv-loop μ-loop
-cast-cells c = ?
+cast-cells c = search needs
 
--- src/lib.rt:79:5
 loop-holds : tie.Need-loop-holds Inv-loop μ-loop
-loop-holds c = ?
+loop-holds c =
+    let args = c .before .before .before .before .before .args in
+    let need = c .before .before .before .before .before .pre in
+    (search needs, swept-none (args .g) (args .tracers .now) (args .air .now) (flowOf (args .f)) (args .first) need)
 
--- src/lib.rt:80:17
 mul-a : tie.Need-mul-a Inv-loop μ-loop
-mul-a c = ?
+mul-a c =
+    let args = c .before .before .before .before .before .before .before .args in
+    let need = c .before .before .before .before .before .before .before .pre in
+    let near = layer-near (args .g) (args .tracers .now) (args .air .now) (flowOf (args .f)) (args .first) need (c .before .loop .t) (search needs) _ _ (c .before .before .world-cells .ensures .0) (c .before .before .before .layer-cells .ensures .0) in
+    omega arith
 
--- src/lib.rt:80:17
 add-a : tie.Need-add-a Inv-loop μ-loop
-add-a c = ?
+add-a c =
+    let args = c .before .before .before .before .before .before .before .args in
+    let need = c .before .before .before .before .before .before .before .pre in
+    let near = layer-near (args .g) (args .tracers .now) (args .air .now) (flowOf (args .f)) (args .first) need (c .before .loop .t) (search needs) _ _ (c .before .before .world-cells .ensures .0) (c .before .before .before .layer-cells .ensures .0) in
+    omega arith
 
--- src/lib.rt:81:17
 add-e : tie.Need-add-e Inv-loop μ-loop
-add-e c = ?
+add-e c =
+    let args = c .before .before .before .before .before .before .before .args in
+    let need = c .before .before .before .before .before .before .before .pre in
+    let near = layer-near (args .g) (args .tracers .now) (args .air .now) (flowOf (args .f)) (args .first) need (c .before .loop .t) (search needs) _ _ (c .before .before .world-cells .ensures .0) (c .before .before .before .layer-cells .ensures .0) in
+    omega arith
 
--- src/lib.rt:82:24
 mul-step-layer-gas : tie.Need-mul-step-layer-gas Inv-loop μ-loop
-mul-step-layer-gas c = ?
+mul-step-layer-gas c =
+    let args = c .before .before .before .before .before .before .before .args in
+    let need = c .before .before .before .before .before .before .before .pre in
+    let near = layer-near (args .g) (args .tracers .now) (args .air .now) (flowOf (args .f)) (args .first) need (c .before .loop .t) (search needs) _ _ (c .before .before .world-cells .ensures .0) (c .before .before .before .layer-cells .ensures .0) in
+    omega arith
 
--- src/lib.rt:82:24
 sub-step-layer-gas : tie.Need-sub-step-layer-gas Inv-loop μ-loop
-sub-step-layer-gas c = ?
+sub-step-layer-gas c = search needs
 
--- src/lib.rt:82:24
 part-step-layer-gas-start : tie.Need-part-step-layer-gas-start Inv-loop μ-loop
-part-step-layer-gas-start c = ?
+part-step-layer-gas-start c = search needs
 
--- src/lib.rt:82:24
 part-step-layer-gas-end : tie.Need-part-step-layer-gas-end Inv-loop μ-loop
-part-step-layer-gas-end c = ?
+part-step-layer-gas-end c =
+    let args = c .before .before .before .before .before .before .before .args in
+    let need = c .before .before .before .before .before .before .before .pre in
+    lent-inside (args .g) (args .tracers .now) (args .air .now) (flowOf (args .f)) (args .first) need (c .before .loop .t) (search needs) _ (c .before .loop .inv .1) _ _ (c .before .before .world-cells .ensures .0) (c .before .before .before .layer-cells .ensures .0)
 
--- src/lib.rt:82:52
 cast-step-layer-gas : tie.Need-cast-step-layer-gas Inv-loop μ-loop
-cast-step-layer-gas c = ?
+cast-step-layer-gas c = search needs
 
--- src/lib.rt:82:66
 cast-step-layer-gas-2 : tie.Need-cast-step-layer-gas-2 Inv-loop μ-loop
-cast-step-layer-gas-2 c = ?
+cast-step-layer-gas-2 c = search needs
 
--- src/lib.rt:82:9
 step-layer-gas-requires : tie.Need-step-layer-gas-requires Inv-loop μ-loop
-step-layer-gas-requires c κs = ?
+step-layer-gas-requires c κs =
+    let args = c .before .before .before .before .before .before .before .before .before .before .args in
+    let need = c .before .before .before .before .before .before .before .before .before .before .pre in
+    lent-need (args .g) (args .tracers .now) (args .air .now) (flowOf (args .f)) (args .first) need (c .before .before .before .before .loop .t) (search needs) _ (c .before .before .before .before .loop .inv .1) _ _ (c .before .before .before .before .before .world-cells .ensures .0) (c .before .before .before .before .before .before .layer-cells .ensures .0)
 
--- src/lib.rt:83:9
 add-t : tie.Need-add-t Inv-loop μ-loop
-add-t c = ?
+add-t c = search needs
 
--- src/lib.rt:79:5
 loop-less : tie.Need-loop-less Inv-loop μ-loop
-loop-less c = ?
+loop-less c = search needs
 
--- src/lib.rt:79:5
 loop-again : tie.Need-loop-again Inv-loop μ-loop
-loop-again c = ?
+loop-again c =
+    let args = c .before .before .before .before .before .before .before .before .before .before .before .before .before .args in
+    let need = c .before .before .before .before .before .before .before .before .before .before .before .before .before .pre in
+    (search needs, swept-more (args .g) (args .tracers .now) (args .air .now) (flowOf (args .f)) (args .first) need (c .before .before .before .before .before .before .before .loop .t) (search needs) _ (c .before .before .before .before .before .before .before .loop .inv .1) _ _ (c .before .before .before .before .before .before .before .before .world-cells .ensures .0) (c .before .before .before .before .before .before .before .before .before .layer-cells .ensures .0) _ (c .before .before .step-layer-gas .ensures))
 
--- src/lib.rt:71:1
 same-length : tie.Need-same-length Inv-loop μ-loop
-same-length c = ?
+same-length c =
+    let args = c .before .before .before .before .before .before .before .args in
+    let need = c .before .before .before .before .before .before .before .pre in
+    ap length (c .before .loop .inv .1) ∙ length-up-to (args .g) (args .tracers .now) (args .air .now) (flowOf (args .f)) (args .first) need (c .before .loop .t) (search needs)
 
--- src/lib.rt:71:1
 returns : tie.Need-returns Inv-loop μ-loop
-returns c = ?
+returns c =
+    let args = c .before .before .before .before .before .before .before .args in
+    let need = c .before .before .before .before .before .before .before .pre in
+    let done : c .before .loop .t ≡ args .g .n = omega arith in
+    swept-all (args .g) (args .tracers .now) (args .air .now) (flowOf (args .f)) (args .first) need _ (rw done at (c .before .loop .inv .1))
 
 pub sweep-tracers-spec : {M : Type 1} → statement M
 sweep-tracers-spec =
