@@ -21,7 +21,7 @@ use Rattle.units.specs.declared.Grid as declared
 use Rattle.units.specs.declared.Answer.{Answer}
 use Rattle.units.specs.declared.Answer.the-variants.{Accepted, Refused}
 use Rattle.units.specs.declared.Refusal.{Refusal}
-use Rattle.units.specs.Answer.{refusalNumber, numberOf, countOf, Agrees}
+use Rattle.units.specs.Answer.{refusalNumber, numberOf, Agrees}
 use Rattle.units.specs.Agrees.{refused-agrees, place-agrees}
 use Rattle.units.specs.Grid.{gridOf, InRange}
 use Rattle.places.specs.declared.Lent.the-variants.{LayerFluxes}
@@ -117,7 +117,6 @@ pub record LayerFound (w : World) (k : ℕ) (fluxes : List ℤ) (first : ℕ) : 
 pub record IsLayerPlace (w : World) (k : ℕ) (fluxes : List ℤ) (answer : Answer) (first : ℕ) : Type 0 where
   pub refused : (numberOf answer ≡ 0 → ⊥) → Agrees (step w (meridional k fluxes)) answer (w .air) (w .tracers)
   pub found : numberOf answer ≡ 0 → LayerFound w k fluxes first
-  pub counted : numberOf answer ≡ 0 → countOf answer ≡ 1
 
 module _ (w : World) (k : ℕ) (fluxes : List ℤ) (answer : Answer) (first : ℕ) where
   pub place-common : (tested : Answer) (sums : List ℕ) → IsTested w (LayerFluxes (length fluxes)) tested sums → (numberOf tested ≡ 0 → ⊥) → answer ≡ tested → IsLayerPlace w k fluxes answer first
@@ -125,7 +124,6 @@ module _ (w : World) (k : ℕ) (fluxes : List ℤ) (answer : Answer) (first : �
       record {
         refused = λ _. rw e (refused-agrees w (meridional k fluxes) tested (is .refused nonzero (meridional k fluxes) refl) nonzero (is .count));
         found = λ z. absurd (nonzero (rw e at z));
-        counted = λ z. absurd (nonzero (rw e at z));
       }
 
   pub place-refused : (p : Refusal) → (refusalNumber p ≡ 0 → ⊥) → answer ≡ Refused p → refusal w (meridional k fluxes) ≡ refusalNumber p → IsLayerPlace w k fluxes answer first
@@ -133,7 +131,6 @@ module _ (w : World) (k : ℕ) (fluxes : List ℤ) (answer : Answer) (first : �
       record {
         refused = λ _. rw e (place-agrees w (meridional k fluxes) p by nonzero);
         found = λ z. absurd (nonzero (rw e at z));
-        counted = λ z. absurd (nonzero (rw e at z));
       }
 
   pub place-found : answer ≡ Accepted 1 → LayerFound w k fluxes first → IsLayerPlace w k fluxes answer first
@@ -141,5 +138,4 @@ module _ (w : World) (k : ℕ) (fluxes : List ℤ) (answer : Answer) (first : �
       record {
         refused = λ nonzero. absurd (nonzero (ap numberOf e));
         found = λ z. found;
-        counted = λ z. ap countOf e;
       }

@@ -98,5 +98,5 @@ pub fn meridional(
     let f = flow_of(fluxes);
     sweep_tracers(g, tracers, &air[first..end], f, first);
     step_layer_air(&mut air[first..end], f, g.w as usize, g.r as usize);
-    answer
+    Answer::Accepted(1)
 }

@@ -1,6 +1,6 @@
 -- `meridional::meridional` meets its contract: the layer found by `layer_place`, swept in all tracers and in the air.
 -- Assumes nothing.
-use mathlib.Core.Path.{sym, _∙_}
+use mathlib.Core.Path.{refl, sym, _∙_}
 use native.Mathlib.Omega.{arith}
 use Rattle.units.specs.Grid.{in-range}
 use Rattle.meridional.specs.Calls.{faces-few}
@@ -128,7 +128,7 @@ returns-2 c =
     let found = c .before .before .before .before .before .before .before .before .before .before .before .before .before .before .before .before .layer-place .ensures .found zero in
     let wide = c .before .before .before .before .before .before .before .before .before .before .before .before .before .layer-cells .ensures .0 in
     rw (c .before .before .before .before .before .before .before .before .sweep-tracers .ensures)
-    (meridional-agrees (args .g) (args .air .now) (args .tracers .now) (args .layer) (args .fluxes .now) _ found _ wide _ (c .before .before .before .before .before .before .before .before .before .before .before .before .flow-of .ensures) _ _ zero (c .before .before .before .before .before .before .before .before .before .before .before .before .before .before .before .before .layer-place .ensures .counted zero) (c .before .before .step-layer-air .ensures))
+    (meridional-agrees (args .g) (args .air .now) (args .tracers .now) (args .layer) (args .fluxes .now) _ found _ wide _ (c .before .before .before .before .before .before .before .before .before .before .before .before .flow-of .ensures) _ _ refl refl (c .before .before .step-layer-air .ensures))
 
 pub meridional-spec : {M : Type 1} → statement M
 meridional-spec =
