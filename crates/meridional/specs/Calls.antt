@@ -1,0 +1,141 @@
+-- A meridional sweep's places in order, and what it finds.
+-- Assumes nothing.
+use Prim.Native.Nat.{ℕ, _+_, _*_, _-_, _≤_, _<_}
+use mathlib.Core.List.{List, [], _∷_}
+use mathlib.Core.Bool.{Bool, true, false, not}
+use mathlib.Core.Path.{_≡_, refl, sym, ap, ap₂, _∙_}
+use native.Mathlib.Nat.{mul-le-mul}
+use native.Mathlib.Omega.{arith}
+use borrow.Author.Tests.{lt-ltb, le-ltb}
+use lib.Dec.{leb, eqb}
+use lib.IntN.{ℤ, natAbs}
+use lib.ListN.{length}
+use Rattle.model.specs.Limits.{meridionalLimit}
+use Rattle.model.specs.Basic.{part, every}
+use Rattle.model.specs.World.{World, layerCells, layerStart}
+use Rattle.model.specs.Sweep.{Mesh, Flow, layer, flux, parts, allowed, airAfter, serves}
+use Rattle.model.specs.Step.{Call, Place, place, firstOf, step, ownPlaces, refusal, layerAbsent, fluxTooLarge, layerAir, meridional}
+use Rattle.model.specs.Laws.Basic.{length-part}
+use Rattle.model.specs.Laws.Step.{Fits, passes, stops, own-refusal}
+use Rattle.units.specs.declared.Grid as declared
+use Rattle.units.specs.declared.Answer.{Answer}
+use Rattle.units.specs.declared.Answer.the-variants.{Accepted, Refused}
+use Rattle.units.specs.declared.Refusal.{Refusal}
+use Rattle.units.specs.Answer.{refusalNumber, numberOf, Agrees}
+use Rattle.units.specs.Agrees.{refused-agrees, place-agrees}
+use Rattle.units.specs.Grid.{gridOf, InRange}
+use Rattle.places.specs.declared.Lent.the-variants.{LayerFluxes}
+use Rattle.places.specs.Tested.{IsTested}
+use Rattle.layer.specs.Cells.{Size, Over}
+use Rattle.rows.specs.Rows.{part-lent}
+
+-- ---- sizes
+-- a layer in range
+pub layer-size : (g : declared.Grid) → InRange g → Size (g .w) (g .r)
+layer-size g range =
+    record { columns = range .highW; cells = mul-le-mul {n₂ = 44} {m₂ = 72} (range .highR) (range .highW) }
+
+-- its fluxes
+pub faces-few : (g : declared.Grid) → InRange g → (n : ℕ) → n ≡ g .w * (g .r + 1) → n ≤ 3240
+faces-few g range n e =
+    let rows : g .r + 1 ≤ 45 = omega (arith, range .highR) in
+    rw e (mul-le-mul {n₂ = 72} {m₂ = 45} (range .highW) rows)
+
+-- a layer whose part of a list was lent as `&l[a..e]` with e = a + C
+pub part-over : (g : declared.Grid) → InRange g → (l : List ℕ) (first wide : ℕ) → wide ≡ layerCells (gridOf g) → first + wide ≤ length l → Over (g .w) (g .r) (part l first (first + wide - first))
+part-over g range l first wide e inside =
+    record {
+      size = layer-size g range;
+      long = ap length (part-lent l first wide) ∙ length-part l first wide inside ∙ e;
+    }
+
+-- the layer's air so lent
+pub layer-lent : (w : World) (k first wide : ℕ) → first ≡ layerStart (w .grid) k → wide ≡ layerCells (w .grid) → part (w .air) first (first + wide - first) ≡ layerAir w k
+layer-lent w k first wide start e =
+    part-lent (w .air) first wide ∙ ap₂ (λ (i n : ℕ). part (w .air) i n) start e
+
+-- ---- one substep serves if it is allowed
+pub serves-one : (mesh : Mesh) (fluxes : List ℤ) (air : List ℕ) → serves mesh fluxes air 1 ≡ allowed mesh (parts fluxes 1 1) air
+unfolding serves every airAfter
+serves-one mesh fluxes air = refl
+
+-- so tested, over the lent air
+pub tested-serves : (w : World) (k : ℕ) (fluxes : List ℤ) (lent : List ℕ) (flow : Flow) (b : Bool) → lent ≡ layerAir w k → flow ≡ parts fluxes 1 1 → b ≡ allowed (layer (w .grid .W) (w .grid .R)) flow lent → serves (layer (w .grid .W) (w .grid .R)) fluxes (layerAir w k) 1 ≡ b
+tested-serves w k fluxes lent flow b same is e =
+    serves-one (layer (w .grid .W) (w .grid .R)) fluxes (layerAir w k) ∙
+    sym (e ∙ ap₂ (λ (f : Flow) (l : List ℕ). allowed (layer (w .grid .W) (w .grid .R)) f l) is same)
+
+-- ---- the places, from 5 on
+-- the substep is not allowed
+abbrev not-allowed : ℕ → List ℤ → Place
+not-allowed k fluxes =
+    place 10 (λ w. not (serves (layer (w .grid .W) (w .grid .R)) fluxes (layerAir w k) 1))
+
+meridional-places : (k : ℕ) (fluxes : List ℤ) → ownPlaces (meridional k fluxes) ≡ layerAbsent k ∷ fluxTooLarge fluxes meridionalLimit ∷ not-allowed k fluxes ∷ []
+unfolding ownPlaces
+meridional-places k fluxes = refl
+
+none-left : (w : World) → firstOf [] w ≡ 0
+unfolding firstOf
+none-left w = refl
+
+-- the test of place 8
+abbrev pub fluxesFit : List ℤ → Bool
+fluxesFit fluxes = every (length fluxes) (λ i. leb (natAbs (flux fluxes i)) meridionalLimit)
+
+module _ (w : World) (fits : Fits w) (k : ℕ) (fluxes : List ℤ) (lent : eqb (length fluxes) (w .grid .W * (w .grid .R + 1)) ≡ true) where
+  own : refusal w (meridional k fluxes) ≡ firstOf (layerAbsent k ∷ fluxTooLarge fluxes meridionalLimit ∷ not-allowed k fluxes ∷ []) w
+  own = own-refusal w (meridional k fluxes) fits lent ∙ ap (λ (ps : List Place). firstOf ps w) (meridional-places k fluxes)
+
+  pub no-layer : w .grid .K ≤ k → refusal w (meridional k fluxes) ≡ 5
+  no-layer h = own ∙ stops (layerAbsent k) _ w (ap not (le-ltb k (w .grid .K) h))
+
+  module _ (h : k < w .grid .K) where
+    past-layer : refusal w (meridional k fluxes) ≡ firstOf (fluxTooLarge fluxes meridionalLimit ∷ not-allowed k fluxes ∷ []) w
+    past-layer = own ∙ passes (layerAbsent k) _ w (ap not (lt-ltb k (w .grid .K) h))
+
+    pub flux-too-large : fluxesFit fluxes ≡ false → refusal w (meridional k fluxes) ≡ 8
+    flux-too-large f = past-layer ∙ stops (fluxTooLarge fluxes meridionalLimit) _ w (ap not f)
+
+    module _ (f : fluxesFit fluxes ≡ true) where
+      past-fluxes : refusal w (meridional k fluxes) ≡ firstOf (not-allowed k fluxes ∷ []) w
+      past-fluxes = past-layer ∙ passes (fluxTooLarge fluxes meridionalLimit) _ w (ap not f)
+
+      pub substep-refused : serves (layer (w .grid .W) (w .grid .R)) fluxes (layerAir w k) 1 ≡ false → refusal w (meridional k fluxes) ≡ 10
+      substep-refused z = past-fluxes ∙ stops (not-allowed k fluxes) _ w (ap not z)
+
+      pub sweep-accepted : serves (layer (w .grid .W) (w .grid .R)) fluxes (layerAir w k) 1 ≡ true → refusal w (meridional k fluxes) ≡ 0
+      sweep-accepted z = past-fluxes ∙ passes (not-allowed k fluxes) _ w (ap not z) ∙ none-left w
+
+-- ---- what `layer_place` finds
+pub record LayerFound (w : World) (k : ℕ) (fluxes : List ℤ) (first : ℕ) : Type 0 where
+  pub fits : Fits w
+  pub long : length fluxes ≡ w .grid .W * (w .grid .R + 1)
+  pub start : first ≡ layerStart (w .grid) k
+  pub accepting : refusal w (meridional k fluxes) ≡ 0
+
+pub record IsLayerPlace (w : World) (k : ℕ) (fluxes : List ℤ) (answer : Answer) (first : ℕ) : Type 0 where
+  pub refused : (numberOf answer ≡ 0 → ⊥) → Agrees (step w (meridional k fluxes)) answer (w .air) (w .tracers)
+  pub found : numberOf answer ≡ 0 → LayerFound w k fluxes first
+
+module _ (w : World) (k : ℕ) (fluxes : List ℤ) (answer : Answer) (first : ℕ) where
+  pub place-common : (tested : Answer) (sums : List ℕ) → IsTested w (LayerFluxes (length fluxes)) tested sums → (numberOf tested ≡ 0 → ⊥) → answer ≡ tested → IsLayerPlace w k fluxes answer first
+  place-common tested sums is nonzero e =
+      record {
+        refused = λ _. rw e (refused-agrees w (meridional k fluxes) tested (is .refused nonzero (meridional k fluxes) refl) nonzero (is .count));
+        found = λ z. absurd (nonzero (rw e at z));
+      }
+
+  pub place-refused : (p : Refusal) → (refusalNumber p ≡ 0 → ⊥) → answer ≡ Refused p → refusal w (meridional k fluxes) ≡ refusalNumber p → IsLayerPlace w k fluxes answer first
+  place-refused p nonzero e by =
+      record {
+        refused = λ _. rw e (place-agrees w (meridional k fluxes) p by nonzero);
+        found = λ z. absurd (nonzero (rw e at z));
+      }
+
+  pub place-found : answer ≡ Accepted 1 → LayerFound w k fluxes first → IsLayerPlace w k fluxes answer first
+  place-found e found =
+      record {
+        refused = λ nonzero. absurd (nonzero (ap numberOf e));
+        found = λ z. found;
+      }

@@ -1,0 +1,3 @@
+pub mod Calls
+pub mod Tracers
+pub mod World

@@ -1,0 +1,102 @@
+-- What a meridional sweep leaves in the world: the model's `swept`.
+-- Assumes nothing.
+use Prim.Native.Nat.{ℕ, _+_, _*_, _-_, _≤_, _<_}
+use mathlib.Core.List.{List}
+use mathlib.Core.Bool.{true}
+use mathlib.Core.Path.{_≡_, refl, sym, ap, ap₂, _∙_}
+use native.Mathlib.Nat.{le-trans}
+use native.Mathlib.Omega.{arith}
+use borrow.Rule.Slice.PartMut.{putMid}
+use lib.IntN.{ℤ}
+use lib.ListN.{length}
+use Rattle.model.specs.Basic.{part, written}
+use Rattle.model.specs.World.{World, layerCells, worldCells, layerStart}
+use Rattle.model.specs.Sweep.{Flow, layer, parts, allowed, afterFlow, airAfter, gasAfter, swept}
+use Rattle.model.specs.Step.{step, accepted, layerAir, meridional}
+use Rattle.model.specs.Laws.Sweep.{Sweeps, cells-in}
+use Rattle.model.specs.Laws.Meridional.{meridional-sweeps}
+use Rattle.model.specs.Laws.Substep.{AirIn, length-after-flow}
+use Rattle.units.specs.declared.Grid as declared
+use Rattle.units.specs.declared.Answer.{Answer}
+use Rattle.units.specs.Answer.{numberOf, countOf, Agrees}
+use Rattle.units.specs.Agrees.{accepted-agrees}
+use Rattle.units.specs.Grid.{gridOf, worldOf, InRange, in-range, world-cells-few}
+use Rattle.layer.specs.Cells.{Over}
+use Rattle.layer.specs.Air.{AirNeed}
+use Rattle.rows.specs.Rows.{put-back}
+use Rattle.meridional.specs.Calls.{LayerFound, part-over, layer-lent, serves-one}
+use Rattle.meridional.specs.Tracers.{TracersNeed, sweptTracers}
+
+-- ---- the call, once its layer is found
+module _ (g : declared.Grid) (air tracers : List ℕ) (k : ℕ) (fluxes : List ℤ) (first : ℕ) (found : LayerFound (worldOf g air tracers) k fluxes first) (wide : ℕ) (alike : wide ≡ layerCells (gridOf g)) where
+  abbrev w : World
+  w = worldOf g air tracers
+
+  sweeps : Sweeps w (layer (g .w) (g .r)) (layerStart (gridOf g) k) fluxes 1
+  sweeps = meridional-sweeps k fluxes w (found .accepting)
+
+  pub range : InRange g
+  range = in-range g (found .fits .grid)
+
+  layer-in-world : first + layerCells (gridOf g) ≤ worldCells (gridOf g)
+  unfolding layer
+  layer-in-world = rw (found .start) (sweeps .inside)
+
+  pub layer-in-air : first + wide ≤ length air
+  layer-in-air = rw (alike, found .fits .airLength) layer-in-world
+
+  pub layer-near : first + wide ≤ 101440
+  layer-near = rw alike (le-trans layer-in-world (world-cells-few g range))
+
+  -- the layer's air as it is lent
+  abbrev lent : List ℕ
+  lent = part air first (first + wide - first)
+
+  lent-is : lent ≡ layerAir w k
+  lent-is = layer-lent w k first wide (found .start) alike
+
+  lent-over : Over (g .w) (g .r) lent
+  lent-over = part-over g range air first wide alike layer-in-air
+
+  module _ (flow : Flow) (is : flow ≡ parts fluxes 1 1) where
+    lent-permits : allowed (layer (g .w) (g .r)) flow lent ≡ true
+    unfolding layer
+    lent-permits =
+        ap₂ (λ (f : Flow) (l : List ℕ). allowed (layer (g .w) (g .r)) f l) is lent-is ∙
+        sym (serves-one (layer (g .w) (g .r)) fluxes (layerAir w k)) ∙
+        sweeps .serving
+
+    pub air-need : AirNeed (g .w) (g .r) flow lent
+    air-need = record { over = lent-over; permits = lent-permits }
+
+    lent-in : AirIn (layerCells (gridOf g)) lent
+    unfolding layer
+    lent-in =
+        rw lent-is
+        (cells-in (layerStart (gridOf g) k) (layerCells (gridOf g)) (worldCells (gridOf g)) (sweeps .inside) air (found .fits .air))
+
+    pub tracers-need : TracersNeed g tracers lent flow first
+    tracers-need =
+        record {
+          range = range;
+          tracersLong = found .fits .tracersLength;
+          inside = layer-in-world;
+          airLong = lent-over .long;
+          airIn = lent-in;
+          permits = lent-permits;
+          total = found .fits .totals;
+        }
+
+    after-length : (new : List ℕ) → new ≡ afterFlow (layer (g .w) (g .r)) flow lent → length new ≡ wide
+    unfolding layer
+    after-length new stored = ap length stored ∙ length-after-flow (layer (g .w) (g .r)) flow lent ∙ sym alike
+
+    pub meridional-agrees : (answer : Answer) (new : List ℕ) → numberOf answer ≡ 0 → countOf answer ≡ 1 → new ≡ afterFlow (layer (g .w) (g .r)) flow lent → Agrees (step w (meridional k fluxes)) answer (putMid first (first + wide - first) air new) (sweptTracers g tracers lent flow first)
+    unfolding accepted swept layer airAfter gasAfter
+    meridional-agrees answer new zero counted stored =
+        accepted-agrees w (meridional k fluxes) answer _ _ (found .accepting) zero counted
+        (put-back air new first wide (after-length new stored) ∙
+        ap₂ (λ (i : ℕ) (l : List ℕ). written air i l) (found .start)
+        (stored ∙ ap₂ (λ (f : Flow) (l : List ℕ). afterFlow (layer (g .w) (g .r)) f l) is lent-is))
+        (ap₂ (λ (f : Flow) (l : List ℕ). sweptTracers g tracers l f first) is lent-is ∙
+        ap (sweptTracers g tracers (layerAir w k) (parts fluxes 1 1)) (found .start))

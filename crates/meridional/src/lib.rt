@@ -1,0 +1,102 @@
+// The meridional sweep of one layer.
+ghost use mathlib.Core.Path.{_≡_};
+ghost use Rattle.model.specs.Step.{step, meridional as meridional-call};
+ghost use Rattle.units.specs.Answer.{Agrees};
+ghost use Rattle.units.specs.Grid.{worldOf};
+ghost use Rattle.layer.specs.Air.{flowOf};
+ghost use Rattle.meridional.specs.Calls.{IsLayerPlace};
+ghost use Rattle.meridional.specs.Tracers.{TracersNeed, sweptTracers};
+use layer::LayerFlow;
+use layer::flow_of;
+use layer::layer_allowed;
+use layer::step_layer_air;
+use layergas::step_layer_gas;
+use places::Lent;
+use places::common_places;
+use places::fluxes_fit;
+use units::Air;
+use units::Answer;
+use units::Grid;
+use units::Refusal;
+use units::layer_cells;
+use units::layer_start;
+use units::number;
+use units::world_cells;
+
+// The answer of places 1 to 10, and where the layer starts.
+pub struct LayerPlace {
+    pub answer: Answer,
+    pub first: usize,
+}
+
+fn no_layer(answer: Answer) -> LayerPlace
+    ensures { λ p. ⌜ p .answer ≡ answer ⌝ }
+{
+    LayerPlace { answer, first: 0 }
+}
+
+fn layer_place(g: Grid, air: &[u32], tracers: &[u32], layer: u32, fluxes: &[i32]) -> LayerPlace
+    ensures { λ p. ⌜ IsLayerPlace (worldOf g (now (air .entry)) (now (tracers .entry))) layer (now (fluxes .entry)) (p .answer) (p .first) ⌝ }
+{
+    let tested = common_places(g, air, tracers, Lent::LayerFluxes(fluxes.len()));
+    let answer = tested.answer;
+    if number(answer) == 0 {} else {
+        return no_layer(answer);
+    }
+    if layer < g.k {} else {
+        return no_layer(Answer::Refused(Refusal::Index));
+    }
+    if fluxes_fit(fluxes, Air(65535)) {} else {
+        return no_layer(Answer::Refused(Refusal::Fluxes));
+    }
+    let first = layer_start(g, layer) as usize;
+    let end = first + (layer_cells(g) as usize);
+    let f = flow_of(fluxes);
+    if layer_allowed(&air[first..end], f, g.w as usize, g.r as usize) {} else {
+        return no_layer(Answer::Refused(Refusal::Meridional));
+    }
+    LayerPlace {
+        answer: Answer::Accepted(1),
+        first,
+    }
+}
+
+// The layer of every tracer, swept where it is lent; `air` is the layer's.
+fn sweep_tracers(g: Grid, tracers: &mut [u32], air: &[u32], f: LayerFlow, first: usize)
+    requires { ⌜ TracersNeed g (now tracers) (now air) (flowOf f) first ⌝ }
+    ensures { λ x. ⌜ now (tracers .exit) ≡ sweptTracers g (now (tracers .entry)) (now (air .entry)) (flowOf f) first ⌝ }
+{
+    let n = g.n as usize;
+    let wide = layer_cells(g) as usize;
+    let cells = world_cells(g) as usize;
+    let mut t = 0;
+    while t < n {
+        let a = t * cells + first;
+        let e = a + wide;
+        step_layer_gas(&mut tracers[a..e], air, f, g.w as usize, g.r as usize);
+        t += 1;
+    }
+}
+
+// Sweeps one layer with its caps, in the air and in all tracers.
+pub fn meridional(
+    g: Grid,
+    air: &mut [u32],
+    tracers: &mut [u32],
+    layer: u32,
+    fluxes: &[i32],
+) -> Answer
+    ensures { λ x. ⌜ Agrees (step (worldOf g (now (air .entry)) (now (tracers .entry))) (meridional-call layer (now (fluxes .entry)))) x (now (air .exit)) (now (tracers .exit)) ⌝ }
+{
+    let place = layer_place(g, air, tracers, layer, fluxes);
+    let answer = place.answer;
+    if number(answer) == 0 {} else {
+        return answer;
+    }
+    let first = place.first;
+    let end = first + (layer_cells(g) as usize);
+    let f = flow_of(fluxes);
+    sweep_tracers(g, tracers, &air[first..end], f, first);
+    step_layer_air(&mut air[first..end], f, g.w as usize, g.r as usize);
+    Answer::Accepted(1)
+}
