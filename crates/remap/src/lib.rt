@@ -1,7 +1,18 @@
 // The remap of all columns.
 ghost use mathlib.Core.Path.{_≡_};
+ghost use mathlib.Core.Bool.{_||_};
+ghost use Prim.Native.Nat.{_+_, _<_};
+ghost use lib.Dec.{eqb};
 ghost use Rattle.row.specs.Row.{airAt, gasAt, airRow, gasRow};
 ghost use Rattle.remap.specs.Columns.{ColumnNeed, columnOf, columnSet};
+ghost use Rattle.remap.specs.Served.{LoadNeed, IsColumn, ColumnsNeed, AreServed};
+ghost use Rattle.remap.specs.Moved.{AirNeed, TracerNeed, airMoved, gasMoved};
+use column::air_sum;
+use column::edges;
+use column::edges_serve;
+use column::new_air;
+use column::pairs;
+use column::remap_gas;
 use units::Air;
 use units::Tracer;
 
@@ -55,5 +66,89 @@ fn store_gas(column: [Tracer; 32], gas: &mut [u32], c: usize, cells: usize, k: u
         let m = column[i];
         gas[i * cells + c] = m.0;
         i += 1;
+    }
+}
+
+// A column's air, and the table's edges in it.
+struct Column {
+    air: [Air; 32],
+    edges: [u64; 33],
+}
+
+fn load_column(air: &[u32], table: &[u32], c: usize, cells: usize, k: usize) -> Column
+    requires { ⌜ LoadNeed (now air) (now table) c cells k ⌝ }
+    ensures { λ r. ⌜ IsColumn (now (air .entry)) (now (table .entry)) c cells k (r .air) (r .edges) ⌝ }
+{
+    let a = load_air(air, c, cells, k);
+    let p = air_sum(a, k);
+    let e = edges(table, p, k);
+    Column { air: a, edges: e }
+}
+
+// Whether every column's edges serve; then the count of pairs in all columns.
+struct Serving {
+    ok: bool,
+    count: u32,
+}
+
+// Place 12, before anything is written.
+fn columns_serve(air: &[u32], table: &[u32], cells: usize, k: usize) -> Serving
+    requires { ⌜ ColumnsNeed (now air) (now table) cells k ⌝ }
+    ensures { λ r. ⌜ AreServed (now (air .entry)) (now (table .entry)) cells k (r .ok) (r .count) ⌝ }
+{
+    let mut count: u32 = 0;
+    let mut c = 0;
+    while c < cells {
+        let column = load_column(air, table, c, cells, k);
+        let a = column.air;
+        let e = column.edges;
+        if edges_serve(e, k) {} else {
+            return Serving {
+                ok: false,
+                count: 0,
+            };
+        }
+        count += pairs(a, e, k);
+        c += 1;
+    }
+    Serving { ok: true, count }
+}
+
+// Whether place c is a cap's.
+fn is_cap(c: usize, cells: usize) -> bool
+    requires { ⌜ c < cells ⌝ }
+    ensures { λ r. ⌜ r ≡ eqb c 0 || eqb (c + 1) cells ⌝ }
+{
+    (c == 0) | (c + 1 == cells)
+}
+
+// Remaps one tracer in all columns.
+fn move_tracer(gas: &mut [u32], air: &[u32], table: &[u32], cells: usize, k: usize)
+    requires { ⌜ TracerNeed (now gas) (now air) (now table) cells k ⌝ }
+    ensures { λ r. ⌜ now (gas .exit) ≡ gasMoved k cells (now (table .entry)) (now (air .entry)) (now (gas .entry)) ⌝ }
+{
+    let mut c = 0;
+    while c < cells {
+        let column = load_column(air, table, c, cells, k);
+        let a = column.air;
+        let e = column.edges;
+        let old = load_gas(gas, c, cells, k);
+        let new = remap_gas(a, old, is_cap(c, cells), e, k);
+        store_gas(new, gas, c, cells, k);
+        c += 1;
+    }
+}
+
+// Remaps the air in all columns.
+fn move_air(air: &mut [u32], table: &[u32], cells: usize, k: usize)
+    requires { ⌜ AirNeed (now air) (now table) cells k ⌝ }
+    ensures { λ r. ⌜ now (air .exit) ≡ airMoved k cells (now (table .entry)) (now (air .entry)) ⌝ }
+{
+    let mut c = 0;
+    while c < cells {
+        let column = load_column(air, table, c, cells, k);
+        let e = column.edges;
+        store_air(new_air(e, k), air, c, cells, k);
+        c += 1;
     }
 }
