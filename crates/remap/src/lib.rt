@@ -7,6 +7,7 @@ ghost use Rattle.row.specs.Row.{airAt, gasAt, airRow, gasRow};
 ghost use Rattle.remap.specs.Columns.{ColumnNeed, columnOf, columnSet};
 ghost use Rattle.remap.specs.Served.{LoadNeed, IsColumn, ColumnsNeed, AreServed};
 ghost use Rattle.remap.specs.Moved.{AirNeed, TracerNeed, airMoved, gasMoved};
+ghost use Rattle.remap.specs.Tracers.{TracersNeed, allMoved};
 use column::air_sum;
 use column::edges;
 use column::edges_serve;
@@ -150,5 +151,19 @@ fn move_air(air: &mut [u32], table: &[u32], cells: usize, k: usize)
         let e = column.edges;
         store_air(new_air(e, k), air, c, cells, k);
         c += 1;
+    }
+}
+
+// Remaps the n tracers, one after the other.
+fn move_tracers(tracers: &mut [u32], air: &[u32], table: &[u32], cells: usize, k: usize, n: usize)
+    requires { ⌜ TracersNeed (now tracers) (now air) (now table) cells k n ⌝ }
+    ensures { λ r. ⌜ now (tracers .exit) ≡ allMoved n k cells (now (table .entry)) (now (air .entry)) (now (tracers .entry)) ⌝ }
+{
+    let mut t = 0;
+    while t < n {
+        let a = t * (k * cells);
+        let e = a + k * cells;
+        move_tracer(&mut tracers[a..e], air, table, cells, k);
+        t += 1;
     }
 }
