@@ -8,14 +8,26 @@ ghost use Rattle.remap.specs.Columns.{ColumnNeed, columnOf, columnSet};
 ghost use Rattle.remap.specs.Served.{LoadNeed, IsColumn, ColumnsNeed, AreServed};
 ghost use Rattle.remap.specs.Moved.{AirNeed, TracerNeed, airMoved, gasMoved};
 ghost use Rattle.remap.specs.Tracers.{TracersNeed, allMoved};
+ghost use Rattle.remap.specs.Calls.{IsPlace};
+ghost use Rattle.model.specs.Step.{step, remap as remap-call};
+ghost use Rattle.units.specs.Answer.{Agrees};
+ghost use Rattle.units.specs.Grid.{worldOf};
 use column::air_sum;
 use column::edges;
 use column::edges_serve;
 use column::new_air;
 use column::pairs;
 use column::remap_gas;
+use column::table_fits;
+use places::Lent;
+use places::common_places;
 use units::Air;
+use units::Answer;
+use units::Grid;
+use units::Refusal;
 use units::Tracer;
+use units::layer_cells;
+use units::number;
 
 // The column at place c of the lent air, k layers of `cells` places each, as an array.
 fn load_air(air: &[u32], c: usize, cells: usize, k: usize) -> [Air; 32]
@@ -166,4 +178,41 @@ fn move_tracers(tracers: &mut [u32], air: &[u32], table: &[u32], cells: usize, k
         move_tracer(&mut tracers[a..e], air, table, cells, k);
         t += 1;
     }
+}
+
+// The answer of places 1 to 4, 11 and 12.
+fn remap_place(g: Grid, air: &[u32], tracers: &[u32], table: &[u32]) -> Answer
+    ensures { λ p. ⌜ IsPlace (worldOf g (now (air .entry)) (now (tracers .entry))) (now (table .entry)) p ⌝ }
+{
+    let tested = common_places(g, air, tracers, Lent::Table(table.len()));
+    let answer = tested.answer;
+    if number(answer) == 0 {} else {
+        return answer;
+    }
+    let k = g.k as usize;
+    if table_fits(table, k) {} else {
+        return Answer::Refused(Refusal::Table);
+    }
+    let cells = layer_cells(g) as usize;
+    let serving = columns_serve(air, table, cells, k);
+    if serving.ok {} else {
+        return Answer::Refused(Refusal::Remap);
+    }
+    Answer::Accepted(serving.count)
+}
+
+// Remaps all columns, in the air and in all tracers.
+pub fn remap(g: Grid, air: &mut [u32], tracers: &mut [u32], table: &[u32]) -> Answer
+    ensures { λ x. ⌜ Agrees (step (worldOf g (now (air .entry)) (now (tracers .entry))) (remap-call (now (table .entry)))) x (now (air .exit)) (now (tracers .exit)) ⌝ }
+{
+    let answer = remap_place(g, air, tracers, table);
+    if number(answer) == 0 {} else {
+        return answer;
+    }
+    let cells = layer_cells(g) as usize;
+    let k = g.k as usize;
+    let n = g.n as usize;
+    move_tracers(tracers, air, table, cells, k, n);
+    move_air(air, table, cells, k);
+    answer
 }
