@@ -1,0 +1,76 @@
+-- `remap::remap` meets its contract: its places, then all tracers and the air.
+-- Assumes nothing.
+use mathlib.Core.Path.{sym, _∙_}
+use native.Mathlib.Omega.{arith}
+use Rattle.units.specs.Grid.{in-range}
+use Rattle.remap.specs.Calls.{air-need, tracers-need, remap-agrees}
+use borrow.Author.Needs.{needs}
+use borrow.Author.Needs.{needs}
+use Rattle.remap.proofs.remap.Statement.{statement}
+use Rattle.remap.proofs.remap.Tie as tie
+use Rattle.remap.proofs.move_air.Reads as move-air-reads
+use Rattle.remap.proofs.move_tracers.Reads as move-tracers-reads
+use Rattle.remap.proofs.remap_place.Reads as remap-place-reads
+use Rattle.units.proofs.layer_cells.Reads as layer-cells-reads
+use Rattle.units.proofs.number.Reads as number-reads
+
+remap-place-requires : tie.Need-remap-place-requires
+remap-place-requires c κs = search needs
+
+number-requires : tie.Need-number-requires
+number-requires c κs = search needs
+
+same-length : tie.Need-same-length
+same-length c = search needs
+
+same-length-2 : tie.Need-same-length-2
+same-length-2 c = search needs
+
+returns : tie.Need-returns
+returns c = c .before .before .remap-place .ensures .refused (λ z. omega (arith, c .before .number .ensures))
+
+layer-cells-requires : tie.Need-layer-cells-requires
+layer-cells-requires c κs = in-range (c .before .before .before .before .before .before .before .before .args .g) ((c .before .before .remap-place .ensures .found (sym (c .before .number .ensures) ∙ c .if1 .taken)) .fits .grid)
+
+cast-cells : tie.Need-cast-cells
+cast-cells c = search needs
+
+cast-k : tie.Need-cast-k
+cast-k c = search needs
+
+cast-n : tie.Need-cast-n
+cast-n c = search needs
+
+move-tracers-requires : tie.Need-move-tracers-requires
+move-tracers-requires c κs = tracers-need (c .before .before .before .before .before .before .before .before .before .before .before .before .before .args .g) (c .before .before .before .before .before .before .before .before .before .before .before .before .before .args .air .now) (c .before .before .before .before .before .before .before .before .before .before .before .before .before .args .tracers .now) (c .before .before .before .before .before .before .before .before .before .before .before .before .before .args .table .now) _ (c .before .before .before .before .before .before .before .remap-place .ensures .found (sym (c .before .before .before .before .before .before .number .ensures) ∙ c .before .before .before .before .before .if1 .taken)) _ (c .before .before .before .before .layer-cells .ensures .0) (c .before .before .before .before .layer-cells .ensures .1)
+
+move-air-requires : tie.Need-move-air-requires
+move-air-requires c κs = air-need (c .before .before .before .before .before .before .before .before .before .before .before .before .before .before .before .before .before .args .g) (c .before .before .before .before .before .before .before .before .before .before .before .before .before .before .before .before .before .args .air .now) (c .before .before .before .before .before .before .before .before .before .before .before .before .before .before .before .before .before .args .tracers .now) (c .before .before .before .before .before .before .before .before .before .before .before .before .before .before .before .before .before .args .table .now) _ (c .before .before .before .before .before .before .before .before .before .before .before .remap-place .ensures .found (sym (c .before .before .before .before .before .before .before .before .before .before .number .ensures) ∙ c .before .before .before .before .before .before .before .before .before .if1 .taken)) _ (c .before .before .before .before .before .before .before .before .layer-cells .ensures .0) (c .before .before .before .before .before .before .before .before .layer-cells .ensures .1)
+
+same-length-3 : tie.Need-same-length-3
+same-length-3 c = search needs
+
+same-length-4 : tie.Need-same-length-4
+same-length-4 c = search needs
+
+returns-2 : tie.Need-returns-2
+returns-2 c = remap-agrees (c .before .before .before .before .before .before .before .before .before .before .before .before .before .before .before .before .before .before .before .before .args .g) (c .before .before .before .before .before .before .before .before .before .before .before .before .before .before .before .before .before .before .before .before .args .air .now) (c .before .before .before .before .before .before .before .before .before .before .before .before .before .before .before .before .before .before .before .before .args .tracers .now) (c .before .before .before .before .before .before .before .before .before .before .before .before .before .before .before .before .before .before .before .before .args .table .now) _ (c .before .before .before .before .before .before .before .before .before .before .before .before .before .before .remap-place .ensures .found (sym (c .before .before .before .before .before .before .before .before .before .before .before .before .before .number .ensures) ∙ c .before .before .before .before .before .before .before .before .before .before .before .before .if1 .taken)) _ (c .before .before .before .before .before .before .before .before .before .before .before .layer-cells .ensures .0) (c .before .before .before .before .before .before .before .before .before .before .before .layer-cells .ensures .1) _ _ (sym (c .before .before .before .before .before .before .before .before .before .before .before .before .before .number .ensures) ∙ c .before .before .before .before .before .before .before .before .before .before .before .before .if1 .taken) (c .before .before .move-air .ensures) (c .before .before .before .before .before .before .move-tracers .ensures)
+
+pub remap-spec : {M : Type 1} → statement M
+remap-spec =
+    tie.close
+    (tie.spec
+    remap-place-requires
+    number-requires
+    same-length
+    same-length-2
+    returns
+    layer-cells-requires
+    cast-cells
+    cast-k
+    cast-n
+    move-tracers-requires
+    move-air-requires
+    same-length-3
+    same-length-4
+    returns-2)

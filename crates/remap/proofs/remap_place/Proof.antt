@@ -1,0 +1,73 @@
+-- `remap::remap_place` meets its contract: each answer from the tests that led there.
+-- Assumes nothing.
+use mathlib.Core.Path.{sym, _∙_}
+use native.Mathlib.Omega.{arith}
+use borrow.Author.Tests.{eqb-true}
+use Rattle.units.specs.Grid.{worldOf, in-range}
+use Rattle.units.specs.declared.Refusal.the-variants.{Table, Remap}
+use Rattle.remap.specs.Calls.{no-table, not-serving, remap-accepted, place-common, place-refused, place-found, columns-need, serves-is, count-is}
+use borrow.Author.Needs.{needs}
+use borrow.Author.Needs.{needs}
+use Rattle.remap.proofs.remap_place.Statement.{statement}
+use Rattle.remap.proofs.remap_place.Tie as tie
+use Rattle.column.proofs.table_fits.Reads as table-fits-reads
+use Rattle.places.proofs.common_places.Reads as common-places-reads
+use Rattle.remap.proofs.columns_serve.Reads as columns-serve-reads
+use Rattle.units.proofs.layer_cells.Reads as layer-cells-reads
+use Rattle.units.proofs.number.Reads as number-reads
+
+common-places-requires : tie.Need-common-places-requires
+common-places-requires c κs = search needs
+
+number-requires : tie.Need-number-requires
+number-requires c κs = search needs
+
+returns : tie.Need-returns
+returns c = place-common (worldOf (c .before .before .before .before .before .before .args .g) (c .before .before .before .before .before .before .args .air .now) (c .before .before .before .before .before .before .args .tracers .now)) (c .before .before .before .before .before .before .args .table .now) _ _ (c .before .before .common-places .ensures) (λ z. omega (arith, c .before .number .ensures))
+
+cast-k : tie.Need-cast-k
+cast-k c = search needs
+
+table-fits-requires : tie.Need-table-fits-requires
+table-fits-requires c κs = (in-range (c .before .before .before .before .before .before .before .args .g) ((c .before .before .before .common-places .ensures .passed (sym (c .before .before .number .ensures) ∙ c .before .if1 .taken)) .fits .grid) .highK, eqb-true _ _ ((c .before .before .before .common-places .ensures .passed (sym (c .before .before .number .ensures) ∙ c .before .if1 .taken)) .lentFit))
+
+returns-2 : tie.Need-returns-2
+returns-2 c = place-refused (worldOf (c .before .before .before .before .before .before .before .before .before .args .g) (c .before .before .before .before .before .before .before .before .before .args .air .now) (c .before .before .before .before .before .before .before .before .before .args .tracers .now)) (c .before .before .before .before .before .before .before .before .before .args .table .now) Table (λ z. omega arith) (no-table (worldOf (c .before .before .before .before .before .before .before .before .before .args .g) (c .before .before .before .before .before .before .before .before .before .args .air .now) (c .before .before .before .before .before .before .before .before .before .args .tracers .now)) ((c .before .before .before .before .before .common-places .ensures .passed (sym (c .before .before .before .before .number .ensures) ∙ c .before .before .before .if1 .taken)) .fits) (c .before .before .before .before .before .before .before .before .before .args .table .now) ((c .before .before .before .before .before .common-places .ensures .passed (sym (c .before .before .before .before .number .ensures) ∙ c .before .before .before .if1 .taken)) .lentFit) (sym (c .before .table-fits .ensures) ∙ c .if2 .left))
+
+layer-cells-requires : tie.Need-layer-cells-requires
+layer-cells-requires c κs = in-range (c .before .before .before .before .before .before .before .before .before .args .g) ((c .before .before .before .before .before .common-places .ensures .passed (sym (c .before .before .before .before .number .ensures) ∙ c .before .before .before .if1 .taken)) .fits .grid)
+
+cast-cells : tie.Need-cast-cells
+cast-cells c = search needs
+
+columns-serve-requires : tie.Need-columns-serve-requires
+columns-serve-requires c κs = columns-need (c .before .before .before .before .before .before .before .before .before .before .args .g) (c .before .before .before .before .before .before .before .before .before .before .args .air .now) (c .before .before .before .before .before .before .before .before .before .before .args .tracers .now) (c .before .before .before .before .before .before .before .before .before .before .args .table .now) _ (c .layer-cells .ensures .0) (c .layer-cells .ensures .1) ((c .before .before .before .before .before .before .common-places .ensures .passed (sym (c .before .before .before .before .before .number .ensures) ∙ c .before .before .before .before .if1 .taken)) .fits) ((c .before .before .before .before .before .before .common-places .ensures .passed (sym (c .before .before .before .before .before .number .ensures) ∙ c .before .before .before .before .if1 .taken)) .lentFit) (sym (c .before .before .table-fits .ensures) ∙ c .before .if2 .taken)
+
+returns-3 : tie.Need-returns-3
+returns-3 c = place-refused (worldOf (c .before .before .before .before .before .before .before .before .before .before .before .before .args .g) (c .before .before .before .before .before .before .before .before .before .before .before .before .args .air .now) (c .before .before .before .before .before .before .before .before .before .before .before .before .args .tracers .now)) (c .before .before .before .before .before .before .before .before .before .before .before .before .args .table .now) Remap (λ z. omega arith) (not-serving (worldOf (c .before .before .before .before .before .before .before .before .before .before .before .before .args .g) (c .before .before .before .before .before .before .before .before .before .before .before .before .args .air .now) (c .before .before .before .before .before .before .before .before .before .before .before .before .args .tracers .now)) ((c .before .before .before .before .before .before .before .before .common-places .ensures .passed (sym (c .before .before .before .before .before .before .before .number .ensures) ∙ c .before .before .before .before .before .before .if1 .taken)) .fits) (c .before .before .before .before .before .before .before .before .before .before .before .before .args .table .now) ((c .before .before .before .before .before .before .before .before .common-places .ensures .passed (sym (c .before .before .before .before .before .before .before .number .ensures) ∙ c .before .before .before .before .before .before .if1 .taken)) .lentFit) (sym (c .before .before .before .before .table-fits .ensures) ∙ c .before .before .before .if2 .taken) (sym (serves-is (c .before .before .before .before .before .before .before .before .before .before .before .before .args .g) (c .before .before .before .before .before .before .before .before .before .before .before .before .args .air .now) (c .before .before .before .before .before .before .before .before .before .before .before .before .args .tracers .now) (c .before .before .before .before .before .before .before .before .before .before .before .before .args .table .now) _ (c .before .before .layer-cells .ensures .0) (c .before .before .layer-cells .ensures .1) ((c .before .before .before .before .before .before .before .before .common-places .ensures .passed (sym (c .before .before .before .before .before .before .before .number .ensures) ∙ c .before .before .before .before .before .before .if1 .taken)) .fits) ((c .before .before .before .before .before .before .before .before .common-places .ensures .passed (sym (c .before .before .before .before .before .before .before .number .ensures) ∙ c .before .before .before .before .before .before .if1 .taken)) .lentFit) (sym (c .before .before .before .before .table-fits .ensures) ∙ c .before .before .before .if2 .taken) _ _ (c .before .columns-serve .ensures)) ∙ c .if3 .left))
+
+returns-4 : tie.Need-returns-4
+returns-4 c = place-found (worldOf (c .before .before .before .before .before .before .before .before .before .before .before .before .args .g) (c .before .before .before .before .before .before .before .before .before .before .before .before .args .air .now) (c .before .before .before .before .before .before .before .before .before .before .before .before .args .tracers .now)) (c .before .before .before .before .before .before .before .before .before .before .before .before .args .table .now) _
+    record {
+      fits = (c .before .before .before .before .before .before .before .before .common-places .ensures .passed (sym (c .before .before .before .before .before .before .before .number .ensures) ∙ c .before .before .before .before .before .before .if1 .taken)) .fits;
+      pairs = eqb-true _ _ ((c .before .before .before .before .before .before .before .before .common-places .ensures .passed (sym (c .before .before .before .before .before .before .before .number .ensures) ∙ c .before .before .before .before .before .before .if1 .taken)) .lentFit);
+      tableFit = (sym (c .before .before .before .before .table-fits .ensures) ∙ c .before .before .before .if2 .taken);
+      counted = count-is (c .before .before .before .before .before .before .before .before .before .before .before .before .args .g) (c .before .before .before .before .before .before .before .before .before .before .before .before .args .air .now) (c .before .before .before .before .before .before .before .before .before .before .before .before .args .tracers .now) (c .before .before .before .before .before .before .before .before .before .before .before .before .args .table .now) _ (c .before .before .layer-cells .ensures .0) (c .before .before .layer-cells .ensures .1) ((c .before .before .before .before .before .before .before .before .common-places .ensures .passed (sym (c .before .before .before .before .before .before .before .number .ensures) ∙ c .before .before .before .before .before .before .if1 .taken)) .fits) ((c .before .before .before .before .before .before .before .before .common-places .ensures .passed (sym (c .before .before .before .before .before .before .before .number .ensures) ∙ c .before .before .before .before .before .before .if1 .taken)) .lentFit) (sym (c .before .before .before .before .table-fits .ensures) ∙ c .before .before .before .if2 .taken) _ _ (c .before .columns-serve .ensures) (c .if3 .taken);
+      accepting = remap-accepted (worldOf (c .before .before .before .before .before .before .before .before .before .before .before .before .args .g) (c .before .before .before .before .before .before .before .before .before .before .before .before .args .air .now) (c .before .before .before .before .before .before .before .before .before .before .before .before .args .tracers .now)) ((c .before .before .before .before .before .before .before .before .common-places .ensures .passed (sym (c .before .before .before .before .before .before .before .number .ensures) ∙ c .before .before .before .before .before .before .if1 .taken)) .fits) (c .before .before .before .before .before .before .before .before .before .before .before .before .args .table .now) ((c .before .before .before .before .before .before .before .before .common-places .ensures .passed (sym (c .before .before .before .before .before .before .before .number .ensures) ∙ c .before .before .before .before .before .before .if1 .taken)) .lentFit) (sym (c .before .before .before .before .table-fits .ensures) ∙ c .before .before .before .if2 .taken) (sym (serves-is (c .before .before .before .before .before .before .before .before .before .before .before .before .args .g) (c .before .before .before .before .before .before .before .before .before .before .before .before .args .air .now) (c .before .before .before .before .before .before .before .before .before .before .before .before .args .tracers .now) (c .before .before .before .before .before .before .before .before .before .before .before .before .args .table .now) _ (c .before .before .layer-cells .ensures .0) (c .before .before .layer-cells .ensures .1) ((c .before .before .before .before .before .before .before .before .common-places .ensures .passed (sym (c .before .before .before .before .before .before .before .number .ensures) ∙ c .before .before .before .before .before .before .if1 .taken)) .fits) ((c .before .before .before .before .before .before .before .before .common-places .ensures .passed (sym (c .before .before .before .before .before .before .before .number .ensures) ∙ c .before .before .before .before .before .before .if1 .taken)) .lentFit) (sym (c .before .before .before .before .table-fits .ensures) ∙ c .before .before .before .if2 .taken) _ _ (c .before .columns-serve .ensures)) ∙ c .if3 .taken);
+    }
+
+pub remap-place-spec : {M : Type 1} → statement M
+remap-place-spec =
+    tie.close
+    (tie.spec
+    common-places-requires
+    number-requires
+    returns
+    cast-k
+    table-fits-requires
+    returns-2
+    layer-cells-requires
+    cast-cells
+    columns-serve-requires
+    returns-3
+    returns-4)

@@ -1,0 +1,118 @@
+-- All columns remapped, of the air and of one tracer.
+-- Assumes nothing.
+use Prim.Native.Nat.{ℕ, suc, _+_, _*_, _/_, _%_, _≤_, _<_}
+use mathlib.Core.List.{List}
+use mathlib.Core.Bool.{Bool, true, _||_}
+use mathlib.Core.Path.{_≡_, sym, ap, ap₂, _∙_}
+use native.Mathlib.Nat.{le-trans}
+use native.Mathlib.Numerals.{add-one}
+use native.Mathlib.Omega.{arith}
+use lib.Dec.{eqb}
+use lib.ListN.{length}
+use Rattle.units.specs.declared.Air.{Air}
+use Rattle.units.specs.declared.Tracer.{Tracer}
+use Rattle.model.specs.Limits.{totalLimit}
+use Rattle.model.specs.Basic.{at, tab, sum}
+use Rattle.model.specs.World.{airFits}
+use Rattle.model.specs.Remap.{airAbove, newAir, newTracer, layers}
+use Rattle.model.specs.Laws.Basic.{at-tab, sum-tab, sum-columns, term-le-sum}
+use Rattle.model.specs.Laws.Column.{Edges}
+use Rattle.row.specs.Row.{airAt, gasAt, airRow, gasRow}
+use Rattle.column.specs.Column.{IsNewAir, Served}
+use Rattle.column.specs.Gas.{GasNeed, IsRemapped}
+use Rattle.remap.specs.Columns.{ColumnNeed, columnOf, columnSet, cell-room}
+use Rattle.remap.specs.Served.{LoadNeed, IsColumn, ColumnsNeed, columnSum, load-need, column-spans, column-served, column-edges}
+use Rattle.remap.specs.Upto.{Upto, column-left, upto-more}
+
+-- what cell c of layer i shall have
+abbrev pub airNew : ℕ → ℕ → List ℕ → List ℕ → ℕ → ℕ → ℕ
+airNew k cells table air i c = newAir table (columnSum k cells air c) i
+
+abbrev pub capAt : ℕ → ℕ → Bool
+capAt cells c = eqb c 0 || eqb (suc c) cells
+
+abbrev pub gasNew : ℕ → ℕ → List ℕ → List ℕ → List ℕ → ℕ → ℕ → ℕ
+gasNew k cells table air gas i c =
+    newTracer table (columnSum k cells air c) (layers (capAt cells c) k (columnOf k cells air c) (columnOf k cells gas c)) i
+
+abbrev pub airMoved : ℕ → ℕ → List ℕ → List ℕ → List ℕ
+airMoved k cells table air = tab (k * cells) (λ i. airNew k cells table air (i / cells) (i % cells))
+
+abbrev pub gasMoved : ℕ → ℕ → List ℕ → List ℕ → List ℕ → List ℕ
+gasMoved k cells table air gas = tab (k * cells) (λ i. gasNew k cells table air gas (i / cells) (i % cells))
+
+-- every column's edges serve
+pub record AirNeed (air table : List ℕ) (cells k : ℕ) : Type 0 where
+  pub some : 0 < cells
+  pub columns : ColumnsNeed air table cells k
+  pub edges : (c : ℕ) → c < cells → Edges k table (columnSum k cells air c)
+
+pub record TracerNeed (gas air table : List ℕ) (cells k : ℕ) : Type 0 where
+  pub moves : AirNeed air table cells k
+  pub long : length gas ≡ k * cells
+  pub total : sum (k * cells) (at gas) ≤ totalLimit
+
+-- ---- the air
+module _ (air table : List ℕ) (cells k : ℕ) (need : AirNeed air table cells k) (c : ℕ) (h : c < cells) (now : List ℕ) (upto : Upto k cells (airNew k cells table air) air c now) where
+  pub air-room : ColumnNeed now c cells k
+  air-room = record { fit = need .columns .fit; few = need .columns .few; place = h; long = upto .long ∙ need .columns .long }
+
+  pub air-load : LoadNeed now table c cells k
+  air-load =
+      record {
+        column = air-room;
+        some = need .columns .some;
+        pairs = need .columns .pairs;
+        airIn = λ i p. rw (upto .left i c p (omega arith) h) (load-need (need .columns) c h .airIn i p);
+      }
+
+  same : columnOf k cells now c ≡ columnOf k cells air c
+  same = column-left k cells (airNew k cells table air) air (need .columns .long) c h now upto
+
+  module _ (a : List Air) (e : List ℕ) (is : IsColumn now table c cells k a e) where
+    edges-now : Edges k table (columnSum k cells now c)
+    edges-now = rw same (need .edges c h)
+
+    pub air-served : Served k e
+    air-served = column-served (need .columns .fit) (need .columns .some) is edges-now
+
+    pub air-more : (new : List Air) (next : List ℕ) → IsNewAir k e new → next ≡ columnSet cells now c (airAt new) k → Upto k cells (airNew k cells table air) air (c + 1) next
+    air-more new next made stored =
+        upto-more k cells (airNew k cells table air) air (need .columns .long) c h now upto (airAt new) next stored
+        (λ i p.
+        sym (at-tab k (airAt new) i p) ∙ ap (λ (l : List ℕ). at l i) (made .is table _ (is .edgesAre)) ∙
+        at-tab k (newAir table (columnSum k cells now c)) i p ∙
+        ap (λ (l : List ℕ). newAir table (airAbove l k) i) same)
+
+-- ---- a tracer
+module _ (gas air table : List ℕ) (cells k : ℕ) (need : TracerNeed gas air table cells k) (c : ℕ) (h : c < cells) (now : List ℕ) (upto : Upto k cells (gasNew k cells table air gas) gas c now) where
+  pub gas-room : ColumnNeed now c cells k
+  gas-room = record { fit = need .moves .columns .fit; few = need .moves .columns .few; place = h; long = upto .long ∙ need .long }
+
+  same-gas : columnOf k cells now c ≡ columnOf k cells gas c
+  same-gas = column-left k cells (gasNew k cells table air gas) gas (need .long) c h now upto
+
+  module _ (a : List Air) (e : List ℕ) (is : IsColumn air table c cells k a e) (old : List Tracer) (loaded : gasRow k old ≡ columnOf k cells now c) where
+    column-total : sum k (gasAt old) ≤ totalLimit
+    column-total =
+        let own : sum k (gasAt old) ≡ sum k (λ i. at gas (i * cells + c)) = sym (sum-tab k (gasAt old)) ∙ ap (λ (l : List ℕ). sum k (at l)) (loaded ∙ same-gas) ∙ sum-tab k (λ i. at gas (i * cells + c)) in
+        let whole = sum-columns k cells (at gas) in
+        let term : sum k (λ i. at gas (i * cells + c)) ≤ sum cells (λ c. sum k (λ i. at gas (i * cells + c))) = term-le-sum cells (λ c. sum k (λ i. at gas (i * cells + c))) c h in
+        omega (arith, own, whole, term, need .total)
+
+    pub gas-need : GasNeed k a old e
+    gas-need =
+        record {
+          spans = column-spans (need .moves .columns .fit) (need .moves .columns .some) is (need .moves .edges c h);
+          total = column-total;
+        }
+
+    pub gas-more : (cap : Bool) (new : List Tracer) (next : List ℕ) → cap ≡ eqb c 0 || eqb (c + 1) cells → IsRemapped cap k a old e new → next ≡ columnSet cells now c (gasAt new) k → Upto k cells (gasNew k cells table air gas) gas (c + 1) next
+    gas-more cap new next cap-is made stored =
+        upto-more k cells (gasNew k cells table air gas) gas (need .long) c h now upto (gasAt new) next stored
+        (λ i p.
+        sym (at-tab k (gasAt new) i p) ∙
+        ap (λ (l : List ℕ). at l i) (made .is table (column-edges (need .moves .columns .fit) (need .moves .columns .some) is (need .moves .edges c h))) ∙
+        at-tab k (newTracer table (airAbove (airRow k a) k) (layers cap k (airRow k a) (gasRow k old))) i p ∙
+        ap₂ (λ (x y : List ℕ). newTracer table (airAbove x k) (layers cap k x y) i) (is .airIs) (loaded ∙ same-gas) ∙
+        ap (λ (b : Bool). newTracer table (columnSum k cells air c) (layers b k (columnOf k cells air c) (columnOf k cells gas c)) i) (cap-is ∙ ap (λ (n : ℕ). eqb c 0 || eqb n cells) (add-one c)))

@@ -1,0 +1,163 @@
+-- A column with its edges, place 12 for all columns, and the count of pairs.
+-- Assumes nothing.
+use Prim.Native.Nat.{ℕ, suc, _+_, _*_, _≤_, _<_}
+use mathlib.Core.List.{List}
+use mathlib.Core.Bool.{Bool, true, false, _&&_, true≢false}
+use mathlib.Core.Path.{_≡_, sym, ap, ap₂, _∙_}
+use native.Mathlib.Omega.{arith}
+use lib.ListN.{length}
+use Rattle.units.specs.declared.Air.{Air}
+use Rattle.model.specs.Limits.{airLimit}
+use Rattle.model.specs.Basic.{at, tab, sum, every}
+use Rattle.model.specs.World.{airFits}
+use Rattle.model.specs.Remap.{airAbove, edgesServe, columnCount}
+use Rattle.model.specs.Step.{tableFits}
+use Rattle.model.specs.Laws.Basic.{at-tab, every-at, every-none, every-more, every-false, sum-none, sum-more}
+use Rattle.model.specs.Laws.Substep.{air-bounds}
+use Rattle.model.specs.Laws.Column.{Edges, edges-serve}
+use Rattle.row.specs.Row.{airAt, airRow}
+use Rattle.column.specs.Column.{AirNeed, IsAirSum, EdgesNeed, AreEdges, IsServing, Served}
+use Rattle.column.specs.Gas.{Spans, IsPairs}
+use Rattle.remap.specs.Columns.{ColumnNeed, columnOf, cell-room}
+
+-- the column at place c has air in range, and the table has k + 1 pairs
+pub record LoadNeed (air table : List ℕ) (c cells k : ℕ) : Type 0 where
+  pub column : ColumnNeed air c cells k
+  pub some : 1 ≤ k
+  pub pairs : length table ≡ 2 * (k + 1)
+  pub airIn : (i : ℕ) → i < k → airFits (at air (i * cells + c)) ≡ true
+
+-- P of that column
+abbrev pub columnSum : ℕ → ℕ → List ℕ → ℕ → ℕ
+columnSum k cells air c = airAbove (columnOf k cells air c) k
+
+-- a has the column's air, e the table's edges in it
+pub record IsColumn (air table : List ℕ) (c cells k : ℕ) (a : List Air) (e : List ℕ) : Type 0 where
+  pub airIs : airRow k a ≡ columnOf k cells air c
+  pub least : (i : ℕ) → i < k → 1 ≤ airAt a i
+  pub most : (i : ℕ) → i < k → airAt a i ≤ airLimit
+  pub edgesAre : AreEdges table (columnSum k cells air c) k e
+
+module _ {air table : List ℕ} {c cells k : ℕ} (need : LoadNeed air table c cells k) (a : List Air) (is : airRow k a ≡ columnOf k cells air c) where
+  loaded-at : (i : ℕ) → i < k → airAt a i ≡ at air (i * cells + c)
+  loaded-at i h =
+      sym (at-tab k (airAt a) i h) ∙ ap (λ (l : List ℕ). at l i) is ∙ at-tab k (λ i. at air (i * cells + c)) i h
+
+  loaded-bounds : (i : ℕ) → i < k → (1 ≤ airAt a i) × (airAt a i ≤ airLimit)
+  loaded-bounds i h = rw (loaded-at i h) (air-bounds _ (need .airIn i h))
+
+  pub air-need : AirNeed k a
+  air-need = record { fit = need .column .fit; most = λ i h. loaded-bounds i h .1 }
+
+  pub column-is : {P : ℕ} {e : List ℕ} → IsAirSum k a P → AreEdges table P k e → IsColumn air table c cells k a e
+  column-is {P} {e} sums edges =
+      record {
+        airIs = is;
+        least = λ i h. loaded-bounds i h .0;
+        most = λ i h. loaded-bounds i h .1;
+        edgesAre = rw (sums .is ∙ ap (λ (l : List ℕ). airAbove l k) is) at edges;
+      }
+
+-- edges that serve, as the functions of one column need them
+module _ {air table : List ℕ} {c cells k : ℕ} {a : List Air} {e : List ℕ} (fit : k ≤ 32) (some : 1 ≤ k) (is : IsColumn air table c cells k a e) (edges : Edges k table (columnSum k cells air c)) where
+  pub column-spans : Spans k a e
+  column-spans =
+      record {
+        some = some;
+        fit = fit;
+        least = is .least;
+        most = is .most;
+        first = is .edgesAre .is 0 (omega arith) ∙ edges .first;
+        last = is .edgesAre .is k (omega arith) ∙ edges .last ∙ ap (λ (l : List ℕ). airAbove l k) (sym (is .airIs));
+        rises = λ j h. rw (is .edgesAre .is j (omega arith), is .edgesAre .is (suc j) (omega arith)) (edges .rises j h);
+      }
+
+  pub column-served : Served k e
+  column-served =
+      record {
+        fit = fit;
+        rises = λ j h. rw (is .edgesAre .is j (omega arith), is .edgesAre .is (suc j) (omega arith)) (edges .rises j h);
+        most = λ j h. rw (is .edgesAre .is j (omega arith), is .edgesAre .is (suc j) (omega arith)) (edges .most j h);
+      }
+
+  -- the edges, of the array's own air
+  pub column-edges : AreEdges table (airAbove (airRow k a) k) k e
+  column-edges = rw (is .airIs) (is .edgesAre)
+
+-- ---- all columns
+pub record ColumnsNeed (air table : List ℕ) (cells k : ℕ) : Type 0 where
+  pub some : 1 ≤ k
+  pub fit : k ≤ 32
+  pub few : cells ≤ 3170
+  pub long : length air ≡ k * cells
+  pub pairs : length table ≡ 2 * (k + 1)
+  pub fits : tableFits k table ≡ true
+  pub airIn : (i : ℕ) → i < k * cells → airFits (at air i) ≡ true
+
+pub load-need : {air table : List ℕ} {cells k : ℕ} → ColumnsNeed air table cells k → (c : ℕ) → c < cells → LoadNeed air table c cells k
+load-need {air} {table} {cells} {k} need c h =
+    record {
+      column = column;
+      some = need .some;
+      pairs = need .pairs;
+      airIn = λ i p. need .airIn _ (omega (arith, cell-room column i p .0, need .long));
+    }
+  where
+    column : ColumnNeed air c cells k
+    column = record { fit = need .fit; few = need .few; place = h; long = need .long }
+
+abbrev pub servesAt : ℕ → ℕ → List ℕ → List ℕ → ℕ → Bool
+servesAt k cells table air c = edgesServe k table (columnSum k cells air c)
+
+abbrev pub countAt : ℕ → ℕ → List ℕ → List ℕ → ℕ → ℕ
+countAt k cells table air c = columnCount k table (columnOf k cells air c)
+
+-- ok says whether every column's edges serve; then the count is the columns' counts added up
+pub record AreServed (air table : List ℕ) (cells k : ℕ) (ok : Bool) (count : ℕ) : Type 0 where
+  pub is : ok ≡ every cells (servesAt k cells table air)
+  pub counted : ok ≡ true → count ≡ sum cells (countAt k cells table air)
+
+-- the first c columns serve
+pub record ServedUpto (air table : List ℕ) (cells k c count : ℕ) : Type 0 where
+  pub inside : c ≤ cells
+  pub serve : every c (servesAt k cells table air) ≡ true
+  pub counted : count ≡ sum c (countAt k cells table air)
+  pub few : count ≤ 64 * c
+
+module _ (air table : List ℕ) (cells k : ℕ) (need : ColumnsNeed air table cells k) where
+  pub upto-start : ServedUpto air table cells k 0 0
+  upto-start = record { inside = omega arith; serve = every-none _; counted = sym (sum-none _); few = omega arith }
+
+  module _ (c : ℕ) (h : c < cells) (a : List Air) (e : List ℕ) (is : IsColumn air table c cells k a e) where
+    pub not-served : (r : Bool) → IsServing k e r → r ≡ false → AreServed air table cells k false 0
+    not-served r serving fails =
+        record {
+          is = sym (every-false cells (servesAt k cells table air) c h (sym (serving .is table _ (is .edgesAre)) ∙ fails));
+          counted = λ q. absurd (true≢false (sym q));
+        }
+
+    module _ (r : Bool) (serving : IsServing k e r) (served : r ≡ true) where
+      serves-here : servesAt k cells table air c ≡ true
+      serves-here = sym (serving .is table _ (is .edgesAre)) ∙ served
+
+      pub spans-here : Spans k a e
+      spans-here = column-spans (need .fit) (need .some) is (edges-serve k table _ (need .fits) serves-here)
+
+      pub one-more : (count n : ℕ) → ServedUpto air table cells k c count → IsPairs k a e n → ServedUpto air table cells k (c + 1) (count + n)
+      one-more count n upto pairs =
+          record {
+            inside = omega arith;
+            serve = every-more c (servesAt k cells table air) ∙ ap₂ _&&_ (upto .serve) serves-here;
+            counted =
+                ap₂ _+_ (upto .counted) (pairs .is table (rw (is .airIs) (is .edgesAre)) ∙ ap (columnCount k table) (is .airIs)) ∙
+                sym (sum-more c (countAt k cells table air));
+            few = omega (arith, upto .few, pairs .most, need .fit);
+          }
+
+  pub all-served : (c count : ℕ) → ServedUpto air table cells k c count → cells ≤ c → AreServed air table cells k true count
+  all-served c count upto done =
+      let e : c ≡ cells = omega (arith, upto .inside) in
+      record {
+        is = sym (upto .serve) ∙ ap (λ (n : ℕ). every n (servesAt k cells table air)) e;
+        counted = λ q. upto .counted ∙ ap (λ (n : ℕ). sum n (countAt k cells table air)) e;
+      }
