@@ -54,6 +54,31 @@ extern "C" {
         fluxes: *const i32,
         faces: usize,
     ) -> u64;
+    fn puldeho_meridional(
+        w: u32,
+        r: u32,
+        k: u32,
+        n: u32,
+        air: *mut u32,
+        airs: usize,
+        tracers: *mut u32,
+        amounts: usize,
+        layer: u32,
+        fluxes: *const i32,
+        faces: usize,
+    ) -> u64;
+    fn puldeho_remap(
+        w: u32,
+        r: u32,
+        k: u32,
+        n: u32,
+        air: *mut u32,
+        airs: usize,
+        tracers: *mut u32,
+        amounts: usize,
+        table: *const u32,
+        numbers: usize,
+    ) -> u64;
     fn puldeho_total(
         w: u32,
         r: u32,
@@ -125,7 +150,31 @@ pub fn call(world: &mut World, call: &Call) -> Option<Answer> {
                 fluxes.as_ptr(),
                 fluxes.len(),
             ),
-            Call::Meridional { .. } | Call::Remap { .. } => return None,
+            Call::Meridional { layer, fluxes } => puldeho_meridional(
+                w,
+                r,
+                k,
+                n,
+                air,
+                airs,
+                tracers,
+                amounts,
+                *layer,
+                fluxes.as_ptr(),
+                fluxes.len(),
+            ),
+            Call::Remap { table } => puldeho_remap(
+                w,
+                r,
+                k,
+                n,
+                air,
+                airs,
+                tracers,
+                amounts,
+                table.as_ptr(),
+                table.len(),
+            ),
         }
     };
     Some(Answer {

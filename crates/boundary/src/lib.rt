@@ -1,7 +1,7 @@
 // The public calls for C and Rust. Each takes the grid's four numbers and the lent buffers, and returns one number: answer · 2^32 + count.
 ghost use mathlib.Core.Path.{_≡_};
 ghost use Prim.Native.Nat.{_+_, _*_};
-ghost use Rattle.model.specs.Step.{step, load, emission, withdrawal, zonal, total, reading};
+ghost use Rattle.model.specs.Step.{step, load, emission, withdrawal, zonal, meridional, remap, total, reading};
 ghost use Rattle.boundary.specs.Returned.{packedOf, Returns, lentWorld};
 use units::Answer;
 use units::Grid;
@@ -102,4 +102,35 @@ pub extern "C" fn puldeho_zonal(
     ensures { λ x. ⌜ Returns (step (lentWorld w r k n (now (air .entry)) (now (tracers .entry))) (zonal layer row (now (fluxes .entry)))) x (now (air .exit)) (now (tracers .exit)) ⌝ }
 {
     packed(zonal::zonal(Grid { w, r, k, n }, air, tracers, layer, row, fluxes))
+}
+
+#[no_mangle]
+pub extern "C" fn puldeho_meridional(
+    w: u32,
+    r: u32,
+    k: u32,
+    n: u32,
+    air: &mut [u32],
+    tracers: &mut [u32],
+    layer: u32,
+    fluxes: &[i32],
+) -> u64
+    ensures { λ x. ⌜ Returns (step (lentWorld w r k n (now (air .entry)) (now (tracers .entry))) (meridional layer (now (fluxes .entry)))) x (now (air .exit)) (now (tracers .exit)) ⌝ }
+{
+    packed(meridional::meridional(Grid { w, r, k, n }, air, tracers, layer, fluxes))
+}
+
+#[no_mangle]
+pub extern "C" fn puldeho_remap(
+    w: u32,
+    r: u32,
+    k: u32,
+    n: u32,
+    air: &mut [u32],
+    tracers: &mut [u32],
+    table: &[u32],
+) -> u64
+    ensures { λ x. ⌜ Returns (step (lentWorld w r k n (now (air .entry)) (now (tracers .entry))) (remap (now (table .entry)))) x (now (air .exit)) (now (tracers .exit)) ⌝ }
+{
+    packed(remap::remap(Grid { w, r, k, n }, air, tracers, table))
 }
