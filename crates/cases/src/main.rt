@@ -1,5 +1,5 @@
-// Marked cases m1 to m8 and further cases x1, x2 and x5, run through the zonal sweep: name, answer, count, all air, all tracers.
-// In a grid of one row of four columns; the first and the last amount are the caps'.
+// Marked cases m1 to m10 and further cases x1 to x5, run through the sweeps and the remap: name, answer, count, all air, all tracers.
+// In grids of one row of four columns; the first and the last amount of a layer are the caps'.
 use libc::STDOUT_FILENO;
 
 fn number(n: u32) {
@@ -15,24 +15,75 @@ fn amounts(l: &[u32]) {
     }
 }
 
-fn case(name: &[u8], from: [u32; 6], had: [u32; 6], fluxes: [i32; 4]) {
-    let g = units::Grid {
-        w: 4,
-        r: 1,
-        k: 1,
-        n: 1,
-    };
-    let mut air = from;
-    let mut gas = had;
-    let answer = zonal::zonal(g, &mut air, &mut gas, 0, 0, &fluxes);
+fn report(name: &[u8], answer: units::Answer, air: &[u32], gas: &[u32]) {
     io::write_all(STDOUT_FILENO, name);
     number(units::number(answer));
     number(units::count(answer));
     io::write_all(STDOUT_FILENO, b" air");
-    amounts(&air);
+    amounts(air);
     io::write_all(STDOUT_FILENO, b" tracer");
-    amounts(&gas);
+    amounts(gas);
     io::write_all(STDOUT_FILENO, b"\n");
+}
+
+fn layers(k: u32) -> units::Grid {
+    units::Grid {
+        w: 4,
+        r: 1,
+        k,
+        n: 1,
+    }
+}
+
+fn case(name: &[u8], from: [u32; 6], had: [u32; 6], fluxes: [i32; 4]) {
+    let mut air = from;
+    let mut gas = had;
+    let answer = zonal::zonal(layers(1), &mut air, &mut gas, 0, 0, &fluxes);
+    report(name, answer, &air, &gas);
+}
+
+// A meridional sweep with fluxes out of the south cap, and none into the north cap.
+fn from_south(name: &[u8], south: u32) {
+    let mut air = [south, 200, 200, 200, 200, 200];
+    let mut gas = [50, 10, 20, 30, 40, 5];
+    let fluxes = [60, 60, 0 - 50, 0, 0, 0, 0, 0];
+    let answer = meridional::meridional(layers(1), &mut air, &mut gas, 0, &fluxes);
+    report(name, answer, &air, &gas);
+}
+
+fn columns() {
+    let mut air = [100u32; 18];
+    let mut gas = [
+        0,
+        0,
+        0,
+        0,
+        0,
+        0,
+        100,
+        100,
+        100,
+        100,
+        100,
+        100,
+        200,
+        200,
+        200,
+        200,
+        200,
+        200,
+    ];
+    let answer = remap::remap(
+        layers(3),
+        &mut air,
+        &mut gas,
+        &[0, 0, 0, 32768, 200, 0, 0, 65536],
+    );
+    report(b"m9", answer, &air, &gas);
+    let mut thin = [1u32; 12];
+    let mut none = [0u32; 12];
+    let refused = remap::remap(layers(2), &mut thin, &mut none, &[0, 0, 0, 16384, 0, 65536]);
+    report(b"m10", refused, &thin, &none);
 }
 
 fn main() {
@@ -70,4 +121,7 @@ fn main() {
         [0u32; 6],
         [20, 0, 0, 21],
     );
+    from_south(b"x3", 100);
+    from_south(b"x4", 170);
+    columns();
 }

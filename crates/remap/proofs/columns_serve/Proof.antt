@@ -6,9 +6,6 @@ use Rattle.remap.specs.Served.{ServedUpto, load-need, upto-start, not-se
 use borrow.Author.Needs.{needs}
 use Rattle.remap.proofs.columns_serve.Statement.{statement}
 use Rattle.remap.proofs.columns_serve.Tie as tie
-use Rattle.column.proofs.edges_serve.Reads as edges-serve-reads
-use Rattle.column.proofs.pairs.Reads as pairs-reads
-use Rattle.remap.proofs.load_column.Reads as load-column-reads
 
 abbrev Inv-loop : tie.InvT-loop
 Inv-loop air table cells k count₀ c₀ count c = ServedUpto air table cells k c count
@@ -17,7 +14,9 @@ abbrev μ-loop : tie.MeasureT-loop
 μ-loop air table cells k count₀ c₀ count c = cells - c
 
 loop-holds : tie.Need-loop-holds Inv-loop μ-loop
-loop-holds c = upto-start (c .before .before .args .air .now) (c .before .before .args .table .now) (c .before .before .args .cells) (c .before .before .args .k) (c .before .before .pre)
+loop-holds c =
+    let lent = c .before .before .args in
+    upto-start (lent .air .now) (lent .table .now) (lent .cells) (lent .k) (c .before .before .pre)
 
 load-column-requires : tie.Need-load-column-requires Inv-loop μ-loop
 load-column-requires c κs = load-need (c .before .before .before .before .pre) (c .before .loop .c) (omega arith)
@@ -26,13 +25,19 @@ edges-serve-requires : tie.Need-edges-serve-requires Inv-loop μ-loop
 edges-serve-requires c κs = c .before .before .before .before .before .before .before .pre .fit
 
 returns : tie.Need-returns Inv-loop μ-loop
-returns c = not-served (c .before .before .before .before .before .before .before .before .before .args .air .now) (c .before .before .before .before .before .before .before .before .before .args .table .now) (c .before .before .before .before .before .before .before .before .before .args .cells) (c .before .before .before .before .before .before .before .before .before .args .k) (c .before .before .before .before .before .before .before .before .before .pre) (c .before .before .before .before .before .before .loop .c) (omega arith) _ _ (c .before .before .before .before .load-column .ensures) _ (c .before .edges-serve .ensures) (c .if1 .left)
+returns c =
+    let lent = c .before .before .before .before .before .before .before .before .before .args in
+    not-served (lent .air .now) (lent .table .now) (lent .cells) (lent .k) (c .before .before .before .before .before .before .before .before .before .pre) (c .before .before .before .before .before .before .loop .c) (omega arith) _ _ (c .before .before .before .before .load-column .ensures) _ (c .before .edges-serve .ensures) (c .if1 .left)
 
 pairs-requires : tie.Need-pairs-requires Inv-loop μ-loop
-pairs-requires c κs = spans-here (c .before .before .before .before .before .before .before .before .before .args .air .now) (c .before .before .before .before .before .before .before .before .before .args .table .now) (c .before .before .before .before .before .before .before .before .before .args .cells) (c .before .before .before .before .before .before .before .before .before .args .k) (c .before .before .before .before .before .before .before .before .before .pre) (c .before .before .before .before .before .before .loop .c) (omega arith) _ _ (c .before .before .before .before .load-column .ensures) _ (c .before .edges-serve .ensures) (c .if1 .taken)
+pairs-requires c κs =
+    let lent = c .before .before .before .before .before .before .before .before .before .args in
+    spans-here (lent .air .now) (lent .table .now) (lent .cells) (lent .k) (c .before .before .before .before .before .before .before .before .before .pre) (c .before .before .before .before .before .before .loop .c) (omega arith) _ _ (c .before .before .before .before .load-column .ensures) _ (c .before .edges-serve .ensures) (c .if1 .taken)
 
 add-count : tie.Need-add-count Inv-loop μ-loop
-add-count c = omega (arith, c .before .before .before .before .before .before .before .loop .inv .few, c .before .before .before .before .before .before .before .loop .inv .inside, c .before .before .before .before .before .before .before .before .before .before .pre .few, c .pairs .ensures .most, c .before .before .before .before .before .before .before .before .before .before .pre .fit)
+add-count c =
+    let need = c .before .before .before .before .before .before .before .before .before .before .pre in
+    omega (arith, c .before .before .before .before .before .before .before .loop .inv .few, c .before .before .before .before .before .before .before .loop .inv .inside, need .few, c .pairs .ensures .most, need .fit)
 
 add-c : tie.Need-add-c Inv-loop μ-loop
 add-c c = search needs
@@ -41,10 +46,14 @@ loop-less : tie.Need-loop-less Inv-loop μ-loop
 loop-less c = search needs
 
 loop-again : tie.Need-loop-again Inv-loop μ-loop
-loop-again c = one-more (c .before .before .before .before .before .before .before .before .before .before .args .air .now) (c .before .before .before .before .before .before .before .before .before .before .args .table .now) (c .before .before .before .before .before .before .before .before .before .before .args .cells) (c .before .before .before .before .before .before .before .before .before .before .args .k) (c .before .before .before .before .before .before .before .before .before .before .pre) (c .before .before .before .before .before .before .before .loop .c) (omega arith) _ _ (c .before .before .before .before .before .load-column .ensures) _ (c .before .before .edges-serve .ensures) (c .before .if1 .taken) _ _ (c .before .before .before .before .before .before .before .loop .inv) (c .pairs .ensures)
+loop-again c =
+    let lent = c .before .before .before .before .before .before .before .before .before .before .args in
+    one-more (lent .air .now) (lent .table .now) (lent .cells) (lent .k) (c .before .before .before .before .before .before .before .before .before .before .pre) (c .before .before .before .before .before .before .before .loop .c) (omega arith) _ _ (c .before .before .before .before .before .load-column .ensures) _ (c .before .before .edges-serve .ensures) (c .before .if1 .taken) _ _ (c .before .before .before .before .before .before .before .loop .inv) (c .pairs .ensures)
 
 returns-2 : tie.Need-returns-2 Inv-loop μ-loop
-returns-2 c = all-served (c .before .before .before .before .args .air .now) (c .before .before .before .before .args .table .now) (c .before .before .before .before .args .cells) (c .before .before .before .before .args .k) (c .before .before .before .before .pre) _ _ (c .before .loop .inv) (omega arith)
+returns-2 c =
+    let lent = c .before .before .before .before .args in
+    all-served (lent .air .now) (lent .table .now) (lent .cells) (lent .k) (c .before .before .before .before .pre) _ _ (c .before .loop .inv) (omega arith)
 
 pub columns-serve-spec : {M : Type 1} → statement M
 columns-serve-spec =

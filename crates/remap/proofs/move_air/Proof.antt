@@ -7,9 +7,6 @@ use Rattle.remap.specs.Upto.{Upto, upto-none, upto-all}
 use borrow.Author.Needs.{needs}
 use Rattle.remap.proofs.move_air.Statement.{statement}
 use Rattle.remap.proofs.move_air.Tie as tie
-use Rattle.column.proofs.new_air.Reads as new-air-reads
-use Rattle.remap.proofs.load_column.Reads as load-column-reads
-use Rattle.remap.proofs.store_air.Reads as store-air-reads
 
 abbrev Inv-loop : tie.InvT-loop
 Inv-loop air₀ table cells k c₀ air c = Upto k cells (airNew k cells table air₀) air₀ c air
@@ -18,16 +15,24 @@ abbrev μ-loop : tie.MeasureT-loop
 μ-loop air₀ table cells k c₀ air c = cells - c
 
 loop-holds : tie.Need-loop-holds Inv-loop μ-loop
-loop-holds c = upto-none (c .before .before .args .k) (c .before .before .args .cells) (airNew (c .before .before .args .k) (c .before .before .args .cells) (c .before .before .args .table .now) (c .before .before .args .air .now)) (c .before .before .args .air .now) (c .before .before .pre .columns .long)
+loop-holds c =
+    let lent = c .before .before .args in
+    upto-none (lent .k) (lent .cells) (airNew (lent .k) (lent .cells) (lent .table .now) (lent .air .now)) (lent .air .now) (c .before .before .pre .columns .long)
 
 load-column-requires : tie.Need-load-column-requires Inv-loop μ-loop
-load-column-requires c κs = air-load (c .before .before .before .before .before .args .air .now) (c .before .before .before .before .before .args .table .now) (c .before .before .before .before .before .args .cells) (c .before .before .before .before .before .args .k) (c .before .before .before .before .before .pre) (c .before .before .loop .c) (omega arith) (c .before .before .loop .air) (c .before .before .loop .inv)
+load-column-requires c κs =
+    let lent = c .before .before .before .before .before .args in
+    air-load (lent .air .now) (lent .table .now) (lent .cells) (lent .k) (c .before .before .before .before .before .pre) (c .before .before .loop .c) (omega arith) (c .before .before .loop .air) (c .before .before .loop .inv)
 
 new-air-requires : tie.Need-new-air-requires Inv-loop μ-loop
-new-air-requires c κs = air-served (c .before .before .before .before .before .before .before .args .air .now) (c .before .before .before .before .before .before .before .args .table .now) (c .before .before .before .before .before .before .before .args .cells) (c .before .before .before .before .before .before .before .args .k) (c .before .before .before .before .before .before .before .pre) (c .before .before .before .before .loop .c) (omega arith) (c .before .before .before .before .loop .air) (c .before .before .before .before .loop .inv) _ _ (c .before .load-column .ensures)
+new-air-requires c κs =
+    let lent = c .before .before .before .before .before .before .before .args in
+    air-served (lent .air .now) (lent .table .now) (lent .cells) (lent .k) (c .before .before .before .before .before .before .before .pre) (c .before .before .before .before .loop .c) (omega arith) (c .before .before .before .before .loop .air) (c .before .before .before .before .loop .inv) _ _ (c .before .load-column .ensures)
 
 store-air-requires : tie.Need-store-air-requires Inv-loop μ-loop
-store-air-requires c κs = air-room (c .before .before .before .before .before .before .before .before .before .args .air .now) (c .before .before .before .before .before .before .before .before .before .args .table .now) (c .before .before .before .before .before .before .before .before .before .args .cells) (c .before .before .before .before .before .before .before .before .before .args .k) (c .before .before .before .before .before .before .before .before .before .pre) (c .before .before .before .before .before .before .loop .c) (omega arith) (c .before .before .before .before .before .before .loop .air) (c .before .before .before .before .before .before .loop .inv)
+store-air-requires c κs =
+    let lent = c .before .before .before .before .before .before .before .before .before .args in
+    air-room (lent .air .now) (lent .table .now) (lent .cells) (lent .k) (c .before .before .before .before .before .before .before .before .before .pre) (c .before .before .before .before .before .before .loop .c) (omega arith) (c .before .before .before .before .before .before .loop .air) (c .before .before .before .before .before .before .loop .inv)
 
 add-c : tie.Need-add-c Inv-loop μ-loop
 add-c c = search needs
@@ -36,13 +41,18 @@ loop-less : tie.Need-loop-less Inv-loop μ-loop
 loop-less c = search needs
 
 loop-again : tie.Need-loop-again Inv-loop μ-loop
-loop-again c = air-more (c .before .before .before .before .before .before .before .before .before .before .before .before .args .air .now) (c .before .before .before .before .before .before .before .before .before .before .before .before .args .table .now) (c .before .before .before .before .before .before .before .before .before .before .before .before .args .cells) (c .before .before .before .before .before .before .before .before .before .before .before .before .args .k) (c .before .before .before .before .before .before .before .before .before .before .before .before .pre) (c .before .before .before .before .before .before .before .before .before .loop .c) (omega arith) (c .before .before .before .before .before .before .before .before .before .loop .air) (c .before .before .before .before .before .before .before .before .before .loop .inv) _ _ (c .before .before .before .before .before .before .load-column .ensures) _ _ (c .before .before .before .before .new-air .ensures) (c .before .before .store-air .ensures)
+loop-again c =
+    let lent = c .before .before .before .before .before .before .before .before .before .before .before .before .args in
+    air-more (lent .air .now) (lent .table .now) (lent .cells) (lent .k) (c .before .before .before .before .before .before .before .before .before .before .before .before .pre) (c .before .before .before .before .before .before .before .before .before .loop .c) (omega arith) (c .before .before .before .before .before .before .before .before .before .loop .air) (c .before .before .before .before .before .before .before .before .before .loop .inv) _ _ (c .before .before .before .before .before .before .load-column .ensures) _ _ (c .before .before .before .before .new-air .ensures) (c .before .before .store-air .ensures)
 
 same-length : tie.Need-same-length Inv-loop μ-loop
 same-length c = c .before .loop .inv .long
 
 returns : tie.Need-returns Inv-loop μ-loop
-returns c = upto-all (c .before .before .before .before .args .k) (c .before .before .before .before .args .cells) (airNew (c .before .before .before .before .args .k) (c .before .before .before .before .args .cells) (c .before .before .before .before .args .table .now) (c .before .before .before .before .args .air .now)) (c .before .before .before .before .args .air .now) (c .before .before .before .before .pre .columns .long) (c .before .before .before .before .pre .some) (c .before .loop .c) (c .before .loop .air) (omega arith) (c .before .loop .inv)
+returns c =
+    let need = c .before .before .before .before .pre in
+    let lent = c .before .before .before .before .args in
+    upto-all (lent .k) (lent .cells) (airNew (lent .k) (lent .cells) (lent .table .now) (lent .air .now)) (lent .air .now) (need .columns .long) (need .some) (c .before .loop .c) (c .before .loop .air) (omega arith) (c .before .loop .inv)
 
 pub move-air-spec : {M : Type 1} → statement M
 move-air-spec =

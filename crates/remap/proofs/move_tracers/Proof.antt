@@ -8,7 +8,6 @@ use Rattle.remap.specs.Tracers.{movedUpTo, tracer-room, moved-none, leng
 use borrow.Author.Needs.{needs}
 use Rattle.remap.proofs.move_tracers.Statement.{statement}
 use Rattle.remap.proofs.move_tracers.Tie as tie
-use Rattle.remap.proofs.move_tracer.Reads as move-tracer-reads
 
 abbrev Inv-loop : tie.InvT-loop
 Inv-loop tracers₀ air table cells k n t₀ tracers t = (t ≤ n) × (tracers ≡ movedUpTo t k cells table air tracers₀)
@@ -17,22 +16,34 @@ abbrev μ-loop : tie.MeasureT-loop
 μ-loop tracers₀ air table cells k n t₀ tracers t = n - t
 
 loop-holds : tie.Need-loop-holds Inv-loop μ-loop
-loop-holds c = (search needs, moved-none (c .before .before .before .args .tracers .now) (c .before .before .before .args .air .now) (c .before .before .before .args .table .now) (c .before .before .before .args .cells) (c .before .before .before .args .k) (c .before .before .before .args .n) (c .before .before .before .pre))
+loop-holds c =
+    let lent = c .before .before .before .args in
+    (search needs, moved-none (lent .tracers .now) (lent .air .now) (lent .table .now) (lent .cells) (lent .k) (lent .n) (c .before .before .before .pre))
 
 mul-a : tie.Need-mul-a Inv-loop μ-loop
-mul-a c = omega (arith, tracer-room (c .before .before .before .before .before .args .tracers .now) (c .before .before .before .before .before .args .air .now) (c .before .before .before .before .before .args .table .now) (c .before .before .before .before .before .args .cells) (c .before .before .before .before .before .args .k) (c .before .before .before .before .before .args .n) (c .before .before .before .before .before .pre) (c .before .loop .t) (omega arith) .1)
+mul-a c =
+    let lent = c .before .before .before .before .before .args in
+    omega (arith, tracer-room (lent .tracers .now) (lent .air .now) (lent .table .now) (lent .cells) (lent .k) (lent .n) (c .before .before .before .before .before .pre) (c .before .loop .t) (omega arith) .1)
 
 mul-a-2 : tie.Need-mul-a-2 Inv-loop μ-loop
-mul-a-2 c = omega (arith, tracer-room (c .before .before .before .before .before .args .tracers .now) (c .before .before .before .before .before .args .air .now) (c .before .before .before .before .before .args .table .now) (c .before .before .before .before .before .args .cells) (c .before .before .before .before .before .args .k) (c .before .before .before .before .before .args .n) (c .before .before .before .before .before .pre) (c .before .loop .t) (omega arith) .1)
+mul-a-2 c =
+    let lent = c .before .before .before .before .before .args in
+    omega (arith, tracer-room (lent .tracers .now) (lent .air .now) (lent .table .now) (lent .cells) (lent .k) (lent .n) (c .before .before .before .before .before .pre) (c .before .loop .t) (omega arith) .1)
 
 mul-e : tie.Need-mul-e Inv-loop μ-loop
-mul-e c = omega (arith, tracer-room (c .before .before .before .before .before .args .tracers .now) (c .before .before .before .before .before .args .air .now) (c .before .before .before .before .before .args .table .now) (c .before .before .before .before .before .args .cells) (c .before .before .before .before .before .args .k) (c .before .before .before .before .before .args .n) (c .before .before .before .before .before .pre) (c .before .loop .t) (omega arith) .1)
+mul-e c =
+    let lent = c .before .before .before .before .before .args in
+    omega (arith, tracer-room (lent .tracers .now) (lent .air .now) (lent .table .now) (lent .cells) (lent .k) (lent .n) (c .before .before .before .before .before .pre) (c .before .loop .t) (omega arith) .1)
 
 add-e : tie.Need-add-e Inv-loop μ-loop
-add-e c = omega (arith, tracer-room (c .before .before .before .before .before .args .tracers .now) (c .before .before .before .before .before .args .air .now) (c .before .before .before .before .before .args .table .now) (c .before .before .before .before .before .args .cells) (c .before .before .before .before .before .args .k) (c .before .before .before .before .before .args .n) (c .before .before .before .before .before .pre) (c .before .loop .t) (omega arith) .1)
+add-e c =
+    let lent = c .before .before .before .before .before .args in
+    omega (arith, tracer-room (lent .tracers .now) (lent .air .now) (lent .table .now) (lent .cells) (lent .k) (lent .n) (c .before .before .before .before .before .pre) (c .before .loop .t) (omega arith) .1)
 
 mul-move-tracer : tie.Need-mul-move-tracer Inv-loop μ-loop
-mul-move-tracer c = omega (arith, tracer-room (c .before .before .before .before .before .args .tracers .now) (c .before .before .before .before .before .args .air .now) (c .before .before .before .before .before .args .table .now) (c .before .before .before .before .before .args .cells) (c .before .before .before .before .before .args .k) (c .before .before .before .before .before .args .n) (c .before .before .before .before .before .pre) (c .before .loop .t) (omega arith) .1)
+mul-move-tracer c =
+    let lent = c .before .before .before .before .before .args in
+    omega (arith, tracer-room (lent .tracers .now) (lent .air .now) (lent .table .now) (lent .cells) (lent .k) (lent .n) (c .before .before .before .before .before .pre) (c .before .loop .t) (omega arith) .1)
 
 sub-move-tracer : tie.Need-sub-move-tracer Inv-loop μ-loop
 sub-move-tracer c = search needs
@@ -41,10 +52,15 @@ part-move-tracer-start : tie.Need-part-move-tracer-start Inv-loop μ-loop
 part-move-tracer-start c = search needs
 
 part-move-tracer-end : tie.Need-part-move-tracer-end Inv-loop μ-loop
-part-move-tracer-end c = omega (arith, tracer-room (c .before .before .before .before .before .args .tracers .now) (c .before .before .before .before .before .args .air .now) (c .before .before .before .before .before .args .table .now) (c .before .before .before .before .before .args .cells) (c .before .before .before .before .before .args .k) (c .before .before .before .before .before .args .n) (c .before .before .before .before .before .pre) (c .before .loop .t) (omega arith) .0, ap length (c .before .loop .inv .1), length-up-to (c .before .before .before .before .before .args .tracers .now) (c .before .before .before .before .before .args .air .now) (c .before .before .before .before .before .args .table .now) (c .before .before .before .before .before .args .cells) (c .before .before .before .before .before .args .k) (c .before .before .before .before .before .args .n) (c .before .before .before .before .before .pre) (c .before .loop .t) (omega arith))
+part-move-tracer-end c =
+    let need = c .before .before .before .before .before .pre in
+    let lent = c .before .before .before .before .before .args in
+    omega (arith, tracer-room (lent .tracers .now) (lent .air .now) (lent .table .now) (lent .cells) (lent .k) (lent .n) (need) (c .before .loop .t) (omega arith) .0, ap length (c .before .loop .inv .1), length-up-to (lent .tracers .now) (lent .air .now) (lent .table .now) (lent .cells) (lent .k) (lent .n) (need) (c .before .loop .t) (omega arith))
 
 move-tracer-requires : tie.Need-move-tracer-requires Inv-loop μ-loop
-move-tracer-requires c κs = tracer-need (c .before .before .before .before .before .before .args .tracers .now) (c .before .before .before .before .before .before .args .air .now) (c .before .before .before .before .before .before .args .table .now) (c .before .before .before .before .before .before .args .cells) (c .before .before .before .before .before .before .args .k) (c .before .before .before .before .before .before .args .n) (c .before .before .before .before .before .before .pre) (c .before .before .loop .t) (omega arith) (c .before .before .loop .tracers) (c .before .before .loop .inv .1)
+move-tracer-requires c κs =
+    let lent = c .before .before .before .before .before .before .args in
+    tracer-need (lent .tracers .now) (lent .air .now) (lent .table .now) (lent .cells) (lent .k) (lent .n) (c .before .before .before .before .before .before .pre) (c .before .before .loop .t) (omega arith) (c .before .before .loop .tracers) (c .before .before .loop .inv .1)
 
 add-t : tie.Need-add-t Inv-loop μ-loop
 add-t c = search needs
@@ -53,13 +69,19 @@ loop-less : tie.Need-loop-less Inv-loop μ-loop
 loop-less c = search needs
 
 loop-again : tie.Need-loop-again Inv-loop μ-loop
-loop-again c = (search needs, moved-more (c .before .before .before .before .before .before .before .before .before .args .tracers .now) (c .before .before .before .before .before .before .before .before .before .args .air .now) (c .before .before .before .before .before .before .before .before .before .args .table .now) (c .before .before .before .before .before .before .before .before .before .args .cells) (c .before .before .before .before .before .before .before .before .before .args .k) (c .before .before .before .before .before .before .before .before .before .args .n) (c .before .before .before .before .before .before .before .before .before .pre) (c .before .before .before .before .before .loop .t) (omega arith) (c .before .before .before .before .before .loop .tracers) (c .before .before .before .before .before .loop .inv .1) _ (c .before .before .move-tracer .ensures))
+loop-again c =
+    let lent = c .before .before .before .before .before .before .before .before .before .args in
+    (search needs, moved-more (lent .tracers .now) (lent .air .now) (lent .table .now) (lent .cells) (lent .k) (lent .n) (c .before .before .before .before .before .before .before .before .before .pre) (c .before .before .before .before .before .loop .t) (omega arith) (c .before .before .before .before .before .loop .tracers) (c .before .before .before .before .before .loop .inv .1) _ (c .before .before .move-tracer .ensures))
 
 same-length : tie.Need-same-length Inv-loop μ-loop
-same-length c = ap length (c .before .loop .inv .1) ∙ length-up-to (c .before .before .before .before .before .args .tracers .now) (c .before .before .before .before .before .args .air .now) (c .before .before .before .before .before .args .table .now) (c .before .before .before .before .before .args .cells) (c .before .before .before .before .before .args .k) (c .before .before .before .before .before .args .n) (c .before .before .before .before .before .pre) (c .before .loop .t) (omega arith)
+same-length c =
+    let lent = c .before .before .before .before .before .args in
+    ap length (c .before .loop .inv .1) ∙ length-up-to (lent .tracers .now) (lent .air .now) (lent .table .now) (lent .cells) (lent .k) (lent .n) (c .before .before .before .before .before .pre) (c .before .loop .t) (omega arith)
 
 returns : tie.Need-returns Inv-loop μ-loop
-returns c = moved-all (c .before .before .before .before .before .args .tracers .now) (c .before .before .before .before .before .args .air .now) (c .before .before .before .before .before .args .table .now) (c .before .before .before .before .before .args .cells) (c .before .before .before .before .before .args .k) (c .before .before .before .before .before .args .n) (c .before .before .before .before .before .pre) (c .before .loop .t) (c .before .loop .tracers) (omega arith) (c .before .loop .inv .1)
+returns c =
+    let lent = c .before .before .before .before .before .args in
+    moved-all (lent .tracers .now) (lent .air .now) (lent .table .now) (lent .cells) (lent .k) (lent .n) (c .before .before .before .before .before .pre) (c .before .loop .t) (c .before .loop .tracers) (omega arith) (c .before .loop .inv .1)
 
 pub move-tracers-spec : {M : Type 1} → statement M
 move-tracers-spec =

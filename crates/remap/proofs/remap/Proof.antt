@@ -8,11 +8,6 @@ use borrow.Author.Needs.{needs}
 use borrow.Author.Needs.{needs}
 use Rattle.remap.proofs.remap.Statement.{statement}
 use Rattle.remap.proofs.remap.Tie as tie
-use Rattle.remap.proofs.move_air.Reads as move-air-reads
-use Rattle.remap.proofs.move_tracers.Reads as move-tracers-reads
-use Rattle.remap.proofs.remap_place.Reads as remap-place-reads
-use Rattle.units.proofs.layer_cells.Reads as layer-cells-reads
-use Rattle.units.proofs.number.Reads as number-reads
 
 remap-place-requires : tie.Need-remap-place-requires
 remap-place-requires c κs = search needs
@@ -42,10 +37,14 @@ cast-n : tie.Need-cast-n
 cast-n c = search needs
 
 move-tracers-requires : tie.Need-move-tracers-requires
-move-tracers-requires c κs = tracers-need (c .before .before .before .before .before .before .before .before .before .before .before .before .before .args .g) (c .before .before .before .before .before .before .before .before .before .before .before .before .before .args .air .now) (c .before .before .before .before .before .before .before .before .before .before .before .before .before .args .tracers .now) (c .before .before .before .before .before .before .before .before .before .before .before .before .before .args .table .now) _ (c .before .before .before .before .before .before .before .remap-place .ensures .found (sym (c .before .before .before .before .before .before .number .ensures) ∙ c .before .before .before .before .before .if1 .taken)) _ (c .before .before .before .before .layer-cells .ensures .0) (c .before .before .before .before .layer-cells .ensures .1)
+move-tracers-requires c κs =
+    let lent = c .before .before .before .before .before .before .before .before .before .before .before .before .before .args in
+    tracers-need (lent .g) (lent .air .now) (lent .tracers .now) (lent .table .now) _ (c .before .before .before .before .before .before .before .remap-place .ensures .found (sym (c .before .before .before .before .before .before .number .ensures) ∙ c .before .before .before .before .before .if1 .taken)) _ (c .before .before .before .before .layer-cells .ensures .0) (c .before .before .before .before .layer-cells .ensures .1)
 
 move-air-requires : tie.Need-move-air-requires
-move-air-requires c κs = air-need (c .before .before .before .before .before .before .before .before .before .before .before .before .before .before .before .before .before .args .g) (c .before .before .before .before .before .before .before .before .before .before .before .before .before .before .before .before .before .args .air .now) (c .before .before .before .before .before .before .before .before .before .before .before .before .before .before .before .before .before .args .tracers .now) (c .before .before .before .before .before .before .before .before .before .before .before .before .before .before .before .before .before .args .table .now) _ (c .before .before .before .before .before .before .before .before .before .before .before .remap-place .ensures .found (sym (c .before .before .before .before .before .before .before .before .before .before .number .ensures) ∙ c .before .before .before .before .before .before .before .before .before .if1 .taken)) _ (c .before .before .before .before .before .before .before .before .layer-cells .ensures .0) (c .before .before .before .before .before .before .before .before .layer-cells .ensures .1)
+move-air-requires c κs =
+    let lent = c .before .before .before .before .before .before .before .before .before .before .before .before .before .before .before .before .before .args in
+    air-need (lent .g) (lent .air .now) (lent .tracers .now) (lent .table .now) _ (c .before .before .before .before .before .before .before .before .before .before .before .remap-place .ensures .found (sym (c .before .before .before .before .before .before .before .before .before .before .number .ensures) ∙ c .before .before .before .before .before .before .before .before .before .if1 .taken)) _ (c .before .before .before .before .before .before .before .before .layer-cells .ensures .0) (c .before .before .before .before .before .before .before .before .layer-cells .ensures .1)
 
 same-length-3 : tie.Need-same-length-3
 same-length-3 c = search needs
@@ -54,7 +53,9 @@ same-length-4 : tie.Need-same-length-4
 same-length-4 c = search needs
 
 returns-2 : tie.Need-returns-2
-returns-2 c = remap-agrees (c .before .before .before .before .before .before .before .before .before .before .before .before .before .before .before .before .before .before .before .before .args .g) (c .before .before .before .before .before .before .before .before .before .before .before .before .before .before .before .before .before .before .before .before .args .air .now) (c .before .before .before .before .before .before .before .before .before .before .before .before .before .before .before .before .before .before .before .before .args .tracers .now) (c .before .before .before .before .before .before .before .before .before .before .before .before .before .before .before .before .before .before .before .before .args .table .now) _ (c .before .before .before .before .before .before .before .before .before .before .before .before .before .before .remap-place .ensures .found (sym (c .before .before .before .before .before .before .before .before .before .before .before .before .before .number .ensures) ∙ c .before .before .before .before .before .before .before .before .before .before .before .before .if1 .taken)) _ (c .before .before .before .before .before .before .before .before .before .before .before .layer-cells .ensures .0) (c .before .before .before .before .before .before .before .before .before .before .before .layer-cells .ensures .1) _ _ (sym (c .before .before .before .before .before .before .before .before .before .before .before .before .before .number .ensures) ∙ c .before .before .before .before .before .before .before .before .before .before .before .before .if1 .taken) (c .before .before .move-air .ensures) (c .before .before .before .before .before .before .move-tracers .ensures)
+returns-2 c =
+    let lent = c .before .before .before .before .before .before .before .before .before .before .before .before .before .before .before .before .before .before .before .before .args in
+    remap-agrees (lent .g) (lent .air .now) (lent .tracers .now) (lent .table .now) _ (c .before .before .before .before .before .before .before .before .before .before .before .before .before .before .remap-place .ensures .found (sym (c .before .before .before .before .before .before .before .before .before .before .before .before .before .number .ensures) ∙ c .before .before .before .before .before .before .before .before .before .before .before .before .if1 .taken)) _ (c .before .before .before .before .before .before .before .before .before .before .before .layer-cells .ensures .0) (c .before .before .before .before .before .before .before .before .before .before .before .layer-cells .ensures .1) _ _ (sym (c .before .before .before .before .before .before .before .before .before .before .before .before .before .number .ensures) ∙ c .before .before .before .before .before .before .before .before .before .before .before .before .if1 .taken) (c .before .before .move-air .ensures) (c .before .before .before .before .before .before .move-tracers .ensures)
 
 pub remap-spec : {M : Type 1} → statement M
 remap-spec =

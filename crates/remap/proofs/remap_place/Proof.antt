@@ -10,11 +10,6 @@ use borrow.Author.Needs.{needs}
 use borrow.Author.Needs.{needs}
 use Rattle.remap.proofs.remap_place.Statement.{statement}
 use Rattle.remap.proofs.remap_place.Tie as tie
-use Rattle.column.proofs.table_fits.Reads as table-fits-reads
-use Rattle.places.proofs.common_places.Reads as common-places-reads
-use Rattle.remap.proofs.columns_serve.Reads as columns-serve-reads
-use Rattle.units.proofs.layer_cells.Reads as layer-cells-reads
-use Rattle.units.proofs.number.Reads as number-reads
 
 common-places-requires : tie.Need-common-places-requires
 common-places-requires c κs = search needs
@@ -23,16 +18,23 @@ number-requires : tie.Need-number-requires
 number-requires c κs = search needs
 
 returns : tie.Need-returns
-returns c = place-common (worldOf (c .before .before .before .before .before .before .args .g) (c .before .before .before .before .before .before .args .air .now) (c .before .before .before .before .before .before .args .tracers .now)) (c .before .before .before .before .before .before .args .table .now) _ _ (c .before .before .common-places .ensures) (λ z. omega (arith, c .before .number .ensures))
+returns c =
+    let lent = c .before .before .before .before .before .before .args in
+    place-common (worldOf (lent .g) (lent .air .now) (lent .tracers .now)) (lent .table .now) _ _ (c .before .before .common-places .ensures) (λ z. omega (arith, c .before .number .ensures))
 
 cast-k : tie.Need-cast-k
 cast-k c = search needs
 
 table-fits-requires : tie.Need-table-fits-requires
-table-fits-requires c κs = (in-range (c .before .before .before .before .before .before .before .args .g) ((c .before .before .before .common-places .ensures .passed (sym (c .before .before .number .ensures) ∙ c .before .if1 .taken)) .fits .grid) .highK, eqb-true _ _ ((c .before .before .before .common-places .ensures .passed (sym (c .before .before .number .ensures) ∙ c .before .if1 .taken)) .lentFit))
+table-fits-requires c κs =
+    let tested = c .before .before .before .common-places .ensures .passed (sym (c .before .before .number .ensures) ∙ c .before .if1 .taken) in
+    (in-range (c .before .before .before .before .before .before .before .args .g) (tested .fits .grid) .highK, eqb-true _ _ (tested .lentFit))
 
 returns-2 : tie.Need-returns-2
-returns-2 c = place-refused (worldOf (c .before .before .before .before .before .before .before .before .before .args .g) (c .before .before .before .before .before .before .before .before .before .args .air .now) (c .before .before .before .before .before .before .before .before .before .args .tracers .now)) (c .before .before .before .before .before .before .before .before .before .args .table .now) Table (λ z. omega arith) (no-table (worldOf (c .before .before .before .before .before .before .before .before .before .args .g) (c .before .before .before .before .before .before .before .before .before .args .air .now) (c .before .before .before .before .before .before .before .before .before .args .tracers .now)) ((c .before .before .before .before .before .common-places .ensures .passed (sym (c .before .before .before .before .number .ensures) ∙ c .before .before .before .if1 .taken)) .fits) (c .before .before .before .before .before .before .before .before .before .args .table .now) ((c .before .before .before .before .before .common-places .ensures .passed (sym (c .before .before .before .before .number .ensures) ∙ c .before .before .before .if1 .taken)) .lentFit) (sym (c .before .table-fits .ensures) ∙ c .if2 .left))
+returns-2 c =
+    let lent = c .before .before .before .before .before .before .before .before .before .args in
+    let tested = c .before .before .before .before .before .common-places .ensures .passed (sym (c .before .before .before .before .number .ensures) ∙ c .before .before .before .if1 .taken) in
+    place-refused (worldOf (lent .g) (lent .air .now) (lent .tracers .now)) (lent .table .now) Table (λ z. omega arith) (no-table (worldOf (lent .g) (lent .air .now) (lent .tracers .now)) (tested .fits) (lent .table .now) (tested .lentFit) (sym (c .before .table-fits .ensures) ∙ c .if2 .left))
 
 layer-cells-requires : tie.Need-layer-cells-requires
 layer-cells-requires c κs = in-range (c .before .before .before .before .before .before .before .before .before .args .g) ((c .before .before .before .before .before .common-places .ensures .passed (sym (c .before .before .before .before .number .ensures) ∙ c .before .before .before .if1 .taken)) .fits .grid)
@@ -41,13 +43,21 @@ cast-cells : tie.Need-cast-cells
 cast-cells c = search needs
 
 columns-serve-requires : tie.Need-columns-serve-requires
-columns-serve-requires c κs = columns-need (c .before .before .before .before .before .before .before .before .before .before .args .g) (c .before .before .before .before .before .before .before .before .before .before .args .air .now) (c .before .before .before .before .before .before .before .before .before .before .args .tracers .now) (c .before .before .before .before .before .before .before .before .before .before .args .table .now) _ (c .layer-cells .ensures .0) (c .layer-cells .ensures .1) ((c .before .before .before .before .before .before .common-places .ensures .passed (sym (c .before .before .before .before .before .number .ensures) ∙ c .before .before .before .before .if1 .taken)) .fits) ((c .before .before .before .before .before .before .common-places .ensures .passed (sym (c .before .before .before .before .before .number .ensures) ∙ c .before .before .before .before .if1 .taken)) .lentFit) (sym (c .before .before .table-fits .ensures) ∙ c .before .if2 .taken)
+columns-serve-requires c κs =
+    let lent = c .before .before .before .before .before .before .before .before .before .before .args in
+    let tested = c .before .before .before .before .before .before .common-places .ensures .passed (sym (c .before .before .before .before .before .number .ensures) ∙ c .before .before .before .before .if1 .taken) in
+    columns-need (lent .g) (lent .air .now) (lent .tracers .now) (lent .table .now) _ (c .layer-cells .ensures .0) (c .layer-cells .ensures .1) (tested .fits) (tested .lentFit) (sym (c .before .before .table-fits .ensures) ∙ c .before .if2 .taken)
 
 returns-3 : tie.Need-returns-3
-returns-3 c = place-refused (worldOf (c .before .before .before .before .before .before .before .before .before .before .before .before .args .g) (c .before .before .before .before .before .before .before .before .before .before .before .before .args .air .now) (c .before .before .before .before .before .before .before .before .before .before .before .before .args .tracers .now)) (c .before .before .before .before .before .before .before .before .before .before .before .before .args .table .now) Remap (λ z. omega arith) (not-serving (worldOf (c .before .before .before .before .before .before .before .before .before .before .before .before .args .g) (c .before .before .before .before .before .before .before .before .before .before .before .before .args .air .now) (c .before .before .before .before .before .before .before .before .before .before .before .before .args .tracers .now)) ((c .before .before .before .before .before .before .before .before .common-places .ensures .passed (sym (c .before .before .before .before .before .before .before .number .ensures) ∙ c .before .before .before .before .before .before .if1 .taken)) .fits) (c .before .before .before .before .before .before .before .before .before .before .before .before .args .table .now) ((c .before .before .before .before .before .before .before .before .common-places .ensures .passed (sym (c .before .before .before .before .before .before .before .number .ensures) ∙ c .before .before .before .before .before .before .if1 .taken)) .lentFit) (sym (c .before .before .before .before .table-fits .ensures) ∙ c .before .before .before .if2 .taken) (sym (serves-is (c .before .before .before .before .before .before .before .before .before .before .before .before .args .g) (c .before .before .before .before .before .before .before .before .before .before .before .before .args .air .now) (c .before .before .before .before .before .before .before .before .before .before .before .before .args .tracers .now) (c .before .before .before .before .before .before .before .before .before .before .before .before .args .table .now) _ (c .before .before .layer-cells .ensures .0) (c .before .before .layer-cells .ensures .1) ((c .before .before .before .before .before .before .before .before .common-places .ensures .passed (sym (c .before .before .before .before .before .before .before .number .ensures) ∙ c .before .before .before .before .before .before .if1 .taken)) .fits) ((c .before .before .before .before .before .before .before .before .common-places .ensures .passed (sym (c .before .before .before .before .before .before .before .number .ensures) ∙ c .before .before .before .before .before .before .if1 .taken)) .lentFit) (sym (c .before .before .before .before .table-fits .ensures) ∙ c .before .before .before .if2 .taken) _ _ (c .before .columns-serve .ensures)) ∙ c .if3 .left))
+returns-3 c =
+    let lent = c .before .before .before .before .before .before .before .before .before .before .before .before .args in
+    let tested = c .before .before .before .before .before .before .before .before .common-places .ensures .passed (sym (c .before .before .before .before .before .before .before .number .ensures) ∙ c .before .before .before .before .before .before .if1 .taken) in
+    place-refused (worldOf (lent .g) (lent .air .now) (lent .tracers .now)) (lent .table .now) Remap (λ z. omega arith) (not-serving (worldOf (lent .g) (lent .air .now) (lent .tracers .now)) (tested .fits) (lent .table .now) (tested .lentFit) (sym (c .before .before .before .before .table-fits .ensures) ∙ c .before .before .before .if2 .taken) (sym (serves-is (lent .g) (lent .air .now) (lent .tracers .now) (lent .table .now) _ (c .before .before .layer-cells .ensures .0) (c .before .before .layer-cells .ensures .1) (tested .fits) (tested .lentFit) (sym (c .before .before .before .before .table-fits .ensures) ∙ c .before .before .before .if2 .taken) _ _ (c .before .columns-serve .ensures)) ∙ c .if3 .left))
 
 returns-4 : tie.Need-returns-4
-returns-4 c = place-found (worldOf (c .before .before .before .before .before .before .before .before .before .before .before .before .args .g) (c .before .before .before .before .before .before .before .before .before .before .before .before .args .air .now) (c .before .before .before .before .before .before .before .before .before .before .before .before .args .tracers .now)) (c .before .before .before .before .before .before .before .before .before .before .before .before .args .table .now) _
+returns-4 c =
+    let lent = c .before .before .before .before .before .before .before .before .before .before .before .before .args in
+    place-found (worldOf (lent .g) (lent .air .now) (lent .tracers .now)) (lent .table .now) _
     record {
       fits = (c .before .before .before .before .before .before .before .before .common-places .ensures .passed (sym (c .before .before .before .before .before .before .before .number .ensures) ∙ c .before .before .before .before .before .before .if1 .taken)) .fits;
       pairs = eqb-true _ _ ((c .before .before .before .before .before .before .before .before .common-places .ensures .passed (sym (c .before .before .before .before .before .before .before .number .ensures) ∙ c .before .before .before .before .before .before .if1 .taken)) .lentFit);
