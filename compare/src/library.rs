@@ -104,8 +104,8 @@ extern "C" {
     ) -> u64;
 }
 
-/// Makes the call in the library; `None` for a call that the library does not have yet.
-pub fn call(world: &mut World, call: &Call) -> Option<Answer> {
+/// Makes the call in the library.
+pub fn call(world: &mut World, call: &Call) -> Answer {
     let g = &world.grid;
     let (w, r, k, n) = (g.w, g.r, g.k, g.n);
     let air = world.air.as_mut_ptr();
@@ -177,8 +177,8 @@ pub fn call(world: &mut World, call: &Call) -> Option<Answer> {
             ),
         }
     };
-    Some(Answer {
+    Answer {
         number: (packed >> 32) as u32,
         count: packed & 0xffff_ffff,
-    })
+    }
 }

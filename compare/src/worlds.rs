@@ -50,6 +50,12 @@ pub fn grid(random: &mut Random, size: u32) -> Grid {
         k: random.between(1, most.2) as u32,
         n: random.between(1, most.3) as u32,
     };
+    // Often one row, with a cap on either side of it, and often the most rows.
+    match random.below(8) {
+        0 => g.r = 1,
+        1 => g.r = most.1 as u32,
+        _ => {}
+    }
     if random.one_in(40) {
         match random.below(4) {
             0 => g.w = [3, 73, 0, u32::MAX][random.below(4) as usize],
