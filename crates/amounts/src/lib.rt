@@ -34,7 +34,8 @@ pub fn total(g: Grid, air: &[u32], tracers: &[u32], tracer: u32) -> Answer
     }
     let which = tracer as usize;
     let sums = tested.totals;
-    Answer::Accepted(sums[which] as u32)
+    let sum = sums[which] as u32;
+    Answer::Accepted(sum)
 }
 
 // The answer of places 1 to 5 to a call that names a tracer and a cell; where the cell's amount stands, and the tracer's total.

@@ -1,15 +1,20 @@
 -- `amounts::total` meets its contract.
 -- Assumes nothing.
-use Prim.Native.Nat.{_≤_}
-use mathlib.Core.List.{[]}
+use Prim.Native.Nat.{ℕ, _≤_, _<_}
+use mathlib.Core.List.{List, []}
 use mathlib.Core.Path.{refl, sym, _∙_}
 use native.Mathlib.Omega.{arith}
+use mir.Syntax.{w32}
+use mir.Val.{Fits}
 use Rattle.model.specs.Limits.{totalLimit}
-use Rattle.model.specs.World.{gasTotal}
+use Rattle.model.specs.Basic.{at}
+use Rattle.model.specs.World.{World, gasTotal}
 use Rattle.model.specs.Step.{total}
 use Rattle.units.specs.Grid.{worldOf, in-range}
 use Rattle.units.specs.declared.Refusal.the-variants.{Index}
 use Rattle.units.specs.Agrees.{place-agrees}
+use Rattle.places.specs.declared.Lent.the-variants.{Nothing}
+use Rattle.places.specs.Tested.{Passed}
 use Rattle.amounts.specs.Calls.{common-agrees, no-tracer, total-places, total-agrees}
 use borrow.Author.Needs.{needs}
 use Rattle.amounts.proofs.total.Statement.{statement}
@@ -32,20 +37,22 @@ returns-2 c =
     let fits = c .before .before .before .before .common-places .ensures .passed (sym (c .before .before .before .number .ensures) ∙ c .before .before .if1 .taken) .fits in
     place-agrees w (total (args .tracer)) Index (no-tracer w fits (total (args .tracer)) refl (args .tracer) [] (total-places (args .tracer)) (search needs)) (λ z. omega arith)
 
-mul-t13 : tie.Need-mul-t13
-mul-t13 c = search needs
+mul-sum : tie.Need-mul-sum
+mul-sum c = search needs
 
-array-read-t16 : tie.Need-array-read-t16
-array-read-t16 c =
+array-read-sum : tie.Need-array-read-sum
+array-read-sum c =
     let passed = c .before .before .before .before .before .common-places .ensures .passed (sym (c .before .before .before .before .number .ensures) ∙ c .before .before .before .if1 .taken) in
     omega (arith, in-range (c .before .before .before .before .before .before .before .before .args .g) (passed .fits .grid) .highN)
 
-cast-t10 : tie.Need-cast-t10
-cast-t10 c =
+-- a total that passed place 4 fits a count
+count-fits : (w : World) (sums : List ℕ) → Passed w Nothing sums → (t : ℕ) → t < w .grid .N → Fits w32 (at sums t)
+count-fits w sums passed t h = let small : gasTotal w t ≤ totalLimit = passed .fits .totals t h in omega (arith, passed .total t h)
+
+cast-sum : tie.Need-cast-sum
+cast-sum c =
     let passed = c .before .before .before .before .before .common-places .ensures .passed (sym (c .before .before .before .before .number .ensures) ∙ c .before .before .before .if1 .taken) in
-    let t = c .before .before .before .before .before .before .before .before .args .tracer in
-    let small : gasTotal (worldOf (c .before .before .before .before .before .before .before .before .args .g) (c .before .before .before .before .before .before .before .before .args .air .now) (c .before .before .before .before .before .before .before .before .args .tracers .now)) t ≤ totalLimit = passed .fits .totals t (search needs) in
-    omega (arith, passed .total t (search needs))
+    count-fits _ _ passed _ (omega (arith, in-range (c .before .before .before .before .before .before .before .before .args .g) (passed .fits .grid) .lowN))
 
 returns-3 : tie.Need-returns-3
 returns-3 c =
@@ -61,7 +68,7 @@ total-spec =
     number-requires
     returns
     returns-2
-    mul-t13
-    array-read-t16
-    cast-t10
+    mul-sum
+    array-read-sum
+    cast-sum
     returns-3)
