@@ -1,4 +1,5 @@
-/* Case P of document 01 and some refusals, in C through the header. It says what it does; the exit status is 1 if anything differs. */
+/* Case P of document 01 and some refusals, in C through the header. It says what it does and gives;
+ * the exit status is 1 if anything differs. */
 #include <stdio.h>
 #include <string.h>
 
