@@ -50,6 +50,20 @@ pub fn name(call: &Call) -> &'static str {
     }
 }
 
+/// The refusals that the table names for the call.
+pub fn refusals(call: &Call) -> &'static [u32] {
+    match call {
+        Call::Load { .. } => &[1, 2, 3, 4],
+        Call::Emission { .. } => &[1, 2, 3, 4, 5, 6],
+        Call::Withdrawal { .. } => &[1, 2, 3, 4, 5, 7],
+        Call::Zonal { .. } => &[1, 2, 3, 4, 5, 8, 9],
+        Call::Meridional { .. } => &[1, 2, 3, 4, 5, 8, 10],
+        Call::Remap { .. } => &[1, 2, 3, 4, 11, 12],
+        Call::Total { .. } => &[1, 2, 3, 4, 5],
+        Call::Cell { .. } => &[1, 2, 3, 4, 5],
+    }
+}
+
 /// The call as a line of a script.
 pub fn line(call: &Call) -> String {
     match call {

@@ -142,6 +142,13 @@ fn compare(lists: u64) {
                 report(&world, &call);
                 std::process::exit(1);
             }
+            if want.number != 0 && !library::refusals(&call).contains(&want.number) {
+                println!(
+                    "bindings/calls.txt does not name {} for {call:?}",
+                    want.number
+                );
+                std::process::exit(1);
+            }
             world = after;
             *seen.entry((library::name(&call), want.number)).or_default() += 1;
         }
