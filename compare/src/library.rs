@@ -1,184 +1,84 @@
-//! The proved library, called as C calls it: `rt staticlib boundary`.
+// Made by tools/bindings from bindings/calls.txt: not to be edited.
+//! The second implementation's calls, made in the library and written as lines of a script.
 
-use reference::{Answer, Call, World};
-
-// A slice passes as a pointer and then a length.
-extern "C" {
-    fn puldeho_load(
-        w: u32,
-        r: u32,
-        k: u32,
-        n: u32,
-        air: *const u32,
-        airs: usize,
-        tracers: *const u32,
-        amounts: usize,
-    ) -> u64;
-    fn puldeho_emission(
-        w: u32,
-        r: u32,
-        k: u32,
-        n: u32,
-        air: *const u32,
-        airs: usize,
-        tracers: *mut u32,
-        amounts: usize,
-        tracer: u32,
-        cell: u32,
-        amount: u32,
-    ) -> u64;
-    fn puldeho_withdrawal(
-        w: u32,
-        r: u32,
-        k: u32,
-        n: u32,
-        air: *const u32,
-        airs: usize,
-        tracers: *mut u32,
-        amounts: usize,
-        tracer: u32,
-        cell: u32,
-        amount: u32,
-    ) -> u64;
-    fn puldeho_zonal(
-        w: u32,
-        r: u32,
-        k: u32,
-        n: u32,
-        air: *mut u32,
-        airs: usize,
-        tracers: *mut u32,
-        amounts: usize,
-        layer: u32,
-        row: u32,
-        fluxes: *const i32,
-        faces: usize,
-    ) -> u64;
-    fn puldeho_meridional(
-        w: u32,
-        r: u32,
-        k: u32,
-        n: u32,
-        air: *mut u32,
-        airs: usize,
-        tracers: *mut u32,
-        amounts: usize,
-        layer: u32,
-        fluxes: *const i32,
-        faces: usize,
-    ) -> u64;
-    fn puldeho_remap(
-        w: u32,
-        r: u32,
-        k: u32,
-        n: u32,
-        air: *mut u32,
-        airs: usize,
-        tracers: *mut u32,
-        amounts: usize,
-        table: *const u32,
-        numbers: usize,
-    ) -> u64;
-    fn puldeho_total(
-        w: u32,
-        r: u32,
-        k: u32,
-        n: u32,
-        air: *const u32,
-        airs: usize,
-        tracers: *const u32,
-        amounts: usize,
-        tracer: u32,
-    ) -> u64;
-    fn puldeho_cell(
-        w: u32,
-        r: u32,
-        k: u32,
-        n: u32,
-        air: *const u32,
-        airs: usize,
-        tracers: *const u32,
-        amounts: usize,
-        tracer: u32,
-        cell: u32,
-    ) -> u64;
-}
+use puldeho::{Grid, Refusal};
+use reference::{Call, World};
 
 /// Makes the call in the library.
-pub fn call(world: &mut World, call: &Call) -> Answer {
-    let g = &world.grid;
-    let (w, r, k, n) = (g.w, g.r, g.k, g.n);
-    let air = world.air.as_mut_ptr();
-    let airs = world.air.len();
-    let tracers = world.tracers.as_mut_ptr();
-    let amounts = world.tracers.len();
-    // Safe: each pointer goes with its own vector's length, and nobody else holds the vectors.
-    let packed = unsafe {
-        match call {
-            Call::Load => puldeho_load(w, r, k, n, air, airs, tracers, amounts),
-            Call::Emission {
-                tracer,
-                cell,
-                amount,
-            } => puldeho_emission(
-                w, r, k, n, air, airs, tracers, amounts, *tracer, *cell, *amount,
-            ),
-            Call::Withdrawal {
-                tracer,
-                cell,
-                amount,
-            } => puldeho_withdrawal(
-                w, r, k, n, air, airs, tracers, amounts, *tracer, *cell, *amount,
-            ),
-            Call::Total { tracer } => {
-                puldeho_total(w, r, k, n, air, airs, tracers, amounts, *tracer)
-            }
-            Call::Cell { tracer, cell } => {
-                puldeho_cell(w, r, k, n, air, airs, tracers, amounts, *tracer, *cell)
-            }
-            Call::Zonal { layer, row, fluxes } => puldeho_zonal(
-                w,
-                r,
-                k,
-                n,
-                air,
-                airs,
-                tracers,
-                amounts,
-                *layer,
-                *row,
-                fluxes.as_ptr(),
-                fluxes.len(),
-            ),
-            Call::Meridional { layer, fluxes } => puldeho_meridional(
-                w,
-                r,
-                k,
-                n,
-                air,
-                airs,
-                tracers,
-                amounts,
-                *layer,
-                fluxes.as_ptr(),
-                fluxes.len(),
-            ),
-            Call::Remap { table } => puldeho_remap(
-                w,
-                r,
-                k,
-                n,
-                air,
-                airs,
-                tracers,
-                amounts,
-                table.as_ptr(),
-                table.len(),
-            ),
+pub fn call(world: &mut World, call: &Call) -> Result<u32, Refusal> {
+    let World { grid, air, tracers } = world;
+    let grid = Grid { w: grid.w, r: grid.r, k: grid.k, n: grid.n };
+    match call {
+        Call::Load => {
+            puldeho::load(grid, air, tracers)
         }
-    };
-    Answer {
-        number: (packed >> 32) as u32,
-        count: packed & 0xffff_ffff,
+        Call::Emission { tracer, cell, amount } => {
+            puldeho::emission(grid, air, tracers, *tracer, *cell, *amount)
+        }
+        Call::Withdrawal { tracer, cell, amount } => {
+            puldeho::withdrawal(grid, air, tracers, *tracer, *cell, *amount)
+        }
+        Call::Zonal { layer, row, fluxes } => {
+            puldeho::zonal(grid, air, tracers, *layer, *row, fluxes)
+        }
+        Call::Meridional { layer, fluxes } => {
+            puldeho::meridional(grid, air, tracers, *layer, fluxes)
+        }
+        Call::Remap { table } => {
+            puldeho::remap(grid, air, tracers, table)
+        }
+        Call::Total { tracer } => {
+            puldeho::total(grid, air, tracers, *tracer)
+        }
+        Call::Cell { tracer, cell } => {
+            puldeho::cell(grid, air, tracers, *tracer, *cell)
+        }
     }
+}
+
+/// The call's name.
+pub fn name(call: &Call) -> &'static str {
+    match call {
+        Call::Load { .. } => "load",
+        Call::Emission { .. } => "emission",
+        Call::Withdrawal { .. } => "withdrawal",
+        Call::Zonal { .. } => "zonal",
+        Call::Meridional { .. } => "meridional",
+        Call::Remap { .. } => "remap",
+        Call::Total { .. } => "total",
+        Call::Cell { .. } => "cell",
+    }
+}
+
+/// The refusals that the table names for the call.
+pub fn refusals(call: &Call) -> &'static [u32] {
+    match call {
+        Call::Load { .. } => &[1, 2, 3, 4],
+        Call::Emission { .. } => &[1, 2, 3, 4, 5, 6],
+        Call::Withdrawal { .. } => &[1, 2, 3, 4, 5, 7],
+        Call::Zonal { .. } => &[1, 2, 3, 4, 5, 8, 9],
+        Call::Meridional { .. } => &[1, 2, 3, 4, 5, 8, 10],
+        Call::Remap { .. } => &[1, 2, 3, 4, 11, 12],
+        Call::Total { .. } => &[1, 2, 3, 4, 5],
+        Call::Cell { .. } => &[1, 2, 3, 4, 5],
+    }
+}
+
+/// The call as a line of a script.
+pub fn line(call: &Call) -> String {
+    match call {
+        Call::Load => format!("load"),
+        Call::Emission { tracer, cell, amount } => format!("emission {tracer} {cell} {amount}"),
+        Call::Withdrawal { tracer, cell, amount } => format!("withdrawal {tracer} {cell} {amount}"),
+        Call::Zonal { layer, row, fluxes } => format!("zonal {layer} {row}{}", numbers(fluxes)),
+        Call::Meridional { layer, fluxes } => format!("meridional {layer}{}", numbers(fluxes)),
+        Call::Remap { table } => format!("remap{}", numbers(table)),
+        Call::Total { tracer } => format!("total {tracer}"),
+        Call::Cell { tracer, cell } => format!("cell {tracer} {cell}"),
+    }
+}
+
+/// Each number with a space before it.
+pub fn numbers<T: std::fmt::Display>(list: &[T]) -> String {
+    list.iter().map(|number| format!(" {number}")).collect()
 }

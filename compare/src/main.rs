@@ -2,8 +2,10 @@
 //! answer, count, all air and all tracers after every call. A difference is made as small as it
 //! can be made and printed, and the exit status is 1.
 //!
-//!     compare [LISTS]     how many lists of calls to run (default 2,000)
+//!     compare [LISTS]             how many lists of calls to run (default 2,000)
+//!     compare --script [LISTS]    prints lists in small worlds as a script, for another caller
 
+#[rustfmt::skip]
 mod library;
 mod worlds;
 
@@ -12,16 +14,17 @@ use std::collections::BTreeMap;
 
 const CALLS: usize = 24;
 
-fn kind(call: &Call) -> &'static str {
-    match call {
-        Call::Load => "load",
-        Call::Emission { .. } => "emission",
-        Call::Withdrawal { .. } => "withdrawal",
-        Call::Zonal { .. } => "zonal",
-        Call::Meridional { .. } => "meridional",
-        Call::Remap { .. } => "remap",
-        Call::Total { .. } => "total",
-        Call::Cell { .. } => "cell",
+/// Makes the call in the library; its answer in the second implementation's form.
+fn library_call(world: &mut World, call: &Call) -> Answer {
+    match library::call(world, call) {
+        Ok(count) => Answer {
+            number: 0,
+            count: count.into(),
+        },
+        Err(refusal) => Answer {
+            number: refusal as u32,
+            count: 0,
+        },
     }
 }
 
@@ -29,7 +32,7 @@ fn kind(call: &Call) -> &'static str {
 fn both(world: &World, call: &Call) -> (Answer, World, bool) {
     let mut ours = world.clone();
     let mut theirs = world.clone();
-    let got = library::call(&mut ours, call);
+    let got = library_call(&mut ours, call);
     let want = reference::call(&mut theirs, call);
     let differ = got != want || ours != theirs;
     (want, theirs, differ)
@@ -104,7 +107,7 @@ fn report(world: &World, call: &Call) {
     let mut theirs = world.clone();
     println!(
         "library: {:?}\n  air {:?}\n  tracers {:?}",
-        library::call(&mut ours, &call),
+        library_call(&mut ours, &call),
         ours.air,
         ours.tracers
     );
@@ -116,10 +119,8 @@ fn report(world: &World, call: &Call) {
     );
 }
 
-fn main() {
-    let lists: u64 = std::env::args()
-        .nth(1)
-        .map_or(2000, |s| s.parse().expect("a number of lists"));
+/// Runs the lists in both and stops at a difference.
+fn compare(lists: u64) {
     let mut seen: BTreeMap<(&str, u32), u64> = BTreeMap::new();
     for list in 0..lists {
         let size = if list * 10 < lists * 6 {
@@ -141,12 +142,46 @@ fn main() {
                 report(&world, &call);
                 std::process::exit(1);
             }
+            if want.number != 0 && !library::refusals(&call).contains(&want.number) {
+                println!(
+                    "bindings/calls.txt does not name {} for {call:?}",
+                    want.number
+                );
+                std::process::exit(1);
+            }
             world = after;
-            *seen.entry((kind(&call), want.number)).or_default() += 1;
+            *seen.entry((library::name(&call), want.number)).or_default() += 1;
         }
     }
     println!("{lists} lists of {CALLS} calls, no difference; calls by kind and answer:");
     for ((kind, number), times) in seen {
         println!("  {kind} {number}: {times}");
+    }
+}
+
+/// Prints the lists as a script that shows the world after every call.
+fn script(lists: u64) {
+    for list in 0..lists {
+        let mut random = worlds::Random::new(list + 1);
+        let grid = worlds::grid(&mut random, u32::from(list % 4 == 3));
+        let mut world = worlds::world(&mut random, grid);
+        println!("grid {} {} {} {}", grid.w, grid.r, grid.k, grid.n);
+        println!("air{}", library::numbers(&world.air));
+        println!("tracers{}", library::numbers(&world.tracers));
+        for _ in 0..CALLS {
+            let call = worlds::call(&mut random, &world);
+            println!("{}\nshow", library::line(&call));
+            reference::call(&mut world, &call);
+        }
+    }
+}
+
+fn main() {
+    let words: Vec<String> = std::env::args().skip(1).collect();
+    let lists =
+        |word: Option<&String>| word.map_or(2000, |word| word.parse().expect("a number of lists"));
+    match words.first() {
+        Some(word) if word == "--script" => script(lists(words.get(1))),
+        word => compare(lists(word)),
     }
 }

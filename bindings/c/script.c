@@ -1,0 +1,169 @@
+/*
+ * Reads a script of calls from standard input, makes them in the library through the header, and prints what the second
+ * implementation's program `script` prints (reference/README.md has the form of a line). A bad line ends it with status 1.
+ */
+#include <inttypes.h>
+#include <stdio.h>
+#include <stdlib.h>
+#include <string.h>
+
+#include "puldeho.h"
+#include "script.h"
+
+static const char space[] = " \t\r";
+
+static void *reserve(void *memory, size_t size)
+{
+    memory = realloc(memory, size);
+    if (memory == NULL) {
+        fprintf(stderr, "no memory\n");
+        exit(1);
+    }
+    return memory;
+}
+
+bool at_end(const char *rest)
+{
+    return rest[strspn(rest, space)] == '\0';
+}
+
+/* The next word, ended by 0; an empty one at the end. */
+static char *take_word(char **rest)
+{
+    char *word = *rest + strspn(*rest, space);
+    char *end = word + strcspn(word, space);
+    *rest = *end == '\0' ? end : end + 1;
+    *end = '\0';
+    return word;
+}
+
+/* The next word as a number from low to high. */
+static bool take_number(char **rest, long long low, long long high, uint32_t *number)
+{
+    char *word = take_word(rest);
+    char *end;
+    long long value = strtoll(word, &end, 10);
+    *number = (uint32_t)value;
+    return *word != '\0' && *end == '\0' && low <= value && value <= high;
+}
+
+/* All words that are left. A word takes two characters, with the space before it. */
+static bool take_numbers(char **rest, long long low, long long high, struct list *list)
+{
+    list->numbers = reserve(NULL, (strlen(*rest) / 2 + 1) * sizeof *list->numbers);
+    list->length = 0;
+    while (!at_end(*rest)) {
+        if (!take_number(rest, low, high, &list->numbers[list->length]))
+            return false;
+        list->length++;
+    }
+    return true;
+}
+
+bool take_u32(char **rest, uint32_t *number)
+{
+    return take_number(rest, 0, UINT32_MAX, number);
+}
+
+bool take_u32s(char **rest, struct list *list)
+{
+    return take_numbers(rest, 0, UINT32_MAX, list);
+}
+
+bool take_i32s(char **rest, struct list *list)
+{
+    return take_numbers(rest, INT32_MIN, INT32_MAX, list);
+}
+
+static bool set_list(char *rest, struct list *list)
+{
+    free(list->numbers);
+    return take_u32s(&rest, list);
+}
+
+static bool set_grid(char *rest, struct world *world)
+{
+    return take_u32(&rest, &world->w) && take_u32(&rest, &world->r) && take_u32(&rest, &world->k)
+        && take_u32(&rest, &world->n) && at_end(rest);
+}
+
+static void show_list(const char *name, const struct list *list)
+{
+    printf("%s", name);
+    for (size_t i = 0; i < list->length; i++)
+        printf(" %" PRIu32, list->numbers[i]);
+    printf("\n");
+}
+
+static bool show(const char *rest, const struct world *world)
+{
+    if (!at_end(rest))
+        return false;
+    show_list("air", &world->air);
+    show_list("tracers", &world->tracers);
+    return true;
+}
+
+static bool make_call(const char *name, char *rest, struct world *world)
+{
+    for (const struct call *call = calls; call->name != NULL; call++) {
+        if (strcmp(name, call->name) == 0) {
+            uint64_t returned;
+            if (!call->make(world, rest, &returned))
+                return false;
+            printf("%s %" PRIu32 " %" PRIu32 "\n", name, puldeho_answer(returned), puldeho_count(returned));
+            return true;
+        }
+    }
+    return false;
+}
+
+static bool run_line(char *rest, struct world *world)
+{
+    const char *name = take_word(&rest);
+    if (*name == '\0' || *name == '#')
+        return true;
+    if (strcmp(name, "grid") == 0)
+        return set_grid(rest, world);
+    if (strcmp(name, "air") == 0)
+        return set_list(rest, &world->air);
+    if (strcmp(name, "tracers") == 0)
+        return set_list(rest, &world->tracers);
+    if (strcmp(name, "show") == 0)
+        return show(rest, world);
+    return make_call(name, rest, world);
+}
+
+/* Reads a line into *line, which grows as needed; false at the end of the input. */
+static bool read_line(char **line, size_t *size)
+{
+    size_t length = 0;
+    for (;;) {
+        int c = getchar();
+        if (c == EOF && length == 0)
+            return false;
+        if (length == *size) {
+            *size = 2 * *size + 64;
+            *line = reserve(*line, *size);
+        }
+        if (c == EOF || c == '\n') {
+            (*line)[length] = '\0';
+            return true;
+        }
+        (*line)[length++] = (char)c;
+    }
+}
+
+int main(void)
+{
+    struct world world = {0, 0, 0, 0, {NULL, 0}, {NULL, 0}};
+    char *line = NULL;
+    size_t size = 0;
+    for (unsigned long number = 1; read_line(&line, &size); number++) {
+        if (!run_line(line, &world)) {
+            fprintf(stderr, "line %lu: bad\n", number);
+            return 1;
+        }
+    }
+    return 0;
+}

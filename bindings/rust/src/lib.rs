@@ -1,0 +1,38 @@
+//! The calls of the proved transport library, safe: any grid, numbers and lengths are answered.
+//!
+//! The caller keeps the world and lends it to each call: `air` with K·C numbers and `tracers` with
+//! N·K·C, where C = 2 + R·W. Layer k starts at k·C, tracer t at t·K·C. A call gives its count, or
+//! the first refusal that applies, and then it changed nothing.
+//!
+//! What no type can say: the stack must have room for the call (bindings/puldeho.h has the bytes).
+
+#[rustfmt::skip]
+mod calls;
+
+pub use calls::*;
+
+/// The grid: W columns (4 to 72), R rows (1 to 44), K layers (1 to 32), N tracers (1 to 8).
+#[derive(Clone, Copy, Debug, PartialEq, Eq)]
+pub struct Grid {
+    pub w: u32,
+    pub r: u32,
+    pub k: u32,
+    pub n: u32,
+}
+
+impl std::fmt::Display for Refusal {
+    fn fmt(&self, f: &mut std::fmt::Formatter) -> std::fmt::Result {
+        write!(f, "refusal {}: {}", *self as u32, self.condition())
+    }
+}
+
+impl std::error::Error for Refusal {}
+
+/// What a call returned, answer · 2^32 + count, as a count or a refusal. A refusal has count 0.
+fn outcome(returned: u64) -> Result<u32, Refusal> {
+    let refused = |refusal: &Refusal| (*refusal as u64) << 32 == returned;
+    u32::try_from(returned).map_err(|_| {
+        let refusal = Refusal::ALL.into_iter().find(refused);
+        refusal.expect("the library answers 0, or a refusal's number with count 0")
+    })
+}

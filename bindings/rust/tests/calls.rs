@@ -1,0 +1,195 @@
+//! Case P, m1 and each refusal through the safe wrapper, linked with the proved library.
+
+use puldeho::{Grid, Refusal};
+
+const GRID: Grid = Grid {
+    w: 4,
+    r: 1,
+    k: 1,
+    n: 1,
+};
+const AIR: [u32; 6] = [100; 6];
+const TRACERS: [u32; 6] = [0, 0, 100, 200, 100, 0];
+const MOST: u32 = 268_435_455;
+
+#[test]
+fn case_p() {
+    let (mut air, mut tracers) = (AIR, TRACERS);
+    assert_eq!(puldeho::load(GRID, &air, &tracers), Ok(0));
+    let fluxes = [0, 50, 0, 0];
+    assert_eq!(
+        puldeho::zonal(GRID, &mut air, &mut tracers, 0, 0, &fluxes),
+        Ok(1)
+    );
+    assert_eq!(puldeho::total(GRID, &air, &tracers, 0), Ok(400));
+    assert_eq!(puldeho::cell(GRID, &air, &tracers, 0, 3), Ok(262));
+}
+
+#[test]
+fn m1() {
+    let (mut air, mut tracers) = (AIR, TRACERS);
+    let fluxes = [0, 50, 0, 0];
+    assert_eq!(
+        puldeho::zonal(GRID, &mut air, &mut tracers, 0, 0, &fluxes),
+        Ok(1)
+    );
+    assert_eq!(air[1..5], [100, 50, 150, 100]);
+    assert_eq!(tracers[1..5], [0, 38, 262, 100]);
+}
+
+#[test]
+fn emission_withdrawal_meridional_and_remap() {
+    let (mut air, mut tracers) = (AIR, TRACERS);
+    assert_eq!(puldeho::emission(GRID, &air, &mut tracers, 0, 5, 7), Ok(0));
+    assert_eq!(tracers, [0, 0, 100, 200, 100, 7]);
+    assert_eq!(
+        puldeho::withdrawal(GRID, &air, &mut tracers, 0, 3, 200),
+        Ok(0)
+    );
+    assert_eq!(tracers, [0, 0, 100, 0, 100, 7]);
+    let fluxes = [1, 0, 0, 0, 0, 0, 0, -10];
+    assert_eq!(
+        puldeho::meridional(GRID, &mut air, &mut tracers, 0, &fluxes),
+        Ok(1)
+    );
+    assert_eq!(air, [99, 101, 100, 100, 110, 90]);
+    assert_eq!(
+        puldeho::remap(GRID, &mut air, &mut tracers, &[0, 0, 0, 65_536]),
+        Ok(6)
+    );
+}
+
+/// Makes the call on a world; it must give the refusal and leave the world as it was.
+fn refused(
+    air: &[u32],
+    tracers: &[u32],
+    call: impl Fn(&mut [u32], &mut [u32]) -> Result<u32, Refusal>,
+    refusal: Refusal,
+) {
+    let (mut air_after, mut tracers_after) = (air.to_vec(), tracers.to_vec());
+    assert_eq!(call(&mut air_after, &mut tracers_after), Err(refusal));
+    assert_eq!(air_after, air);
+    assert_eq!(tracers_after, tracers);
+}
+
+#[test]
+fn refusals_1_to_4() {
+    let narrow = Grid { w: 3, ..GRID };
+    refused(
+        &AIR,
+        &TRACERS,
+        |a, t| puldeho::load(narrow, a, t),
+        Refusal::GridRange,
+    );
+    refused(
+        &AIR,
+        &TRACERS[1..],
+        |a, t| puldeho::load(GRID, a, t),
+        Refusal::Lengths,
+    );
+    refused(&[], &[], |a, t| puldeho::load(GRID, a, t), Refusal::Lengths);
+    let thin = [100, 100, 0, 100, 100, 100];
+    refused(
+        &thin,
+        &TRACERS,
+        |a, t| puldeho::load(GRID, a, t),
+        Refusal::AirRange,
+    );
+    let full = [MOST, 1, 0, 0, 0, 0];
+    refused(
+        &AIR,
+        &full,
+        |a, t| puldeho::load(GRID, a, t),
+        Refusal::Totals,
+    );
+}
+
+#[test]
+fn refusals_5_to_7() {
+    let emission = |cell, amount| {
+        move |a: &mut [u32], t: &mut [u32]| puldeho::emission(GRID, a, t, 0, cell, amount)
+    };
+    refused(&AIR, &TRACERS, emission(6, 0), Refusal::Index);
+    refused(&AIR, &TRACERS, emission(5, MOST), Refusal::Emission);
+    refused(
+        &AIR,
+        &TRACERS,
+        |a, t| puldeho::withdrawal(GRID, a, t, 0, 3, 201),
+        Refusal::Withdrawal,
+    );
+}
+
+#[test]
+fn refusals_8_to_10() {
+    let zonal = |flux: i32| {
+        move |a: &mut [u32], t: &mut [u32]| puldeho::zonal(GRID, a, t, 0, 0, &[0, flux, 0, 0])
+    };
+    refused(&AIR, &TRACERS, zonal(1_048_561), Refusal::Fluxes);
+    refused(&AIR, &TRACERS, zonal(i32::MIN), Refusal::Fluxes);
+    refused(&AIR, &TRACERS, zonal(100), Refusal::Zonal);
+    refused(
+        &AIR,
+        &TRACERS,
+        |a, t| puldeho::meridional(GRID, a, t, 0, &[100, 0, 0, 0, 0, 0, 0, 0]),
+        Refusal::Meridional,
+    );
+}
+
+#[test]
+fn refusals_11_and_12() {
+    let two = Grid { k: 2, ..GRID };
+    let remap = |a, b| {
+        move |air: &mut [u32], t: &mut [u32]| puldeho::remap(two, air, t, &[0, 0, a, b, 0, 65_536])
+    };
+    refused(&[1; 12], &[0; 12], remap(0, 65_537), Refusal::Table);
+    refused(&[1; 12], &[0; 12], remap(0, 16_384), Refusal::Remap);
+}
+
+#[test]
+fn a_refusal_says_its_number_and_condition() {
+    let narrow = Grid { w: 3, ..GRID };
+    let refusal = puldeho::load(narrow, &AIR, &TRACERS).unwrap_err();
+    assert_eq!(
+        refusal.to_string(),
+        "refusal 1: W, R, K or N is outside its range"
+    );
+    assert_eq!(
+        Refusal::ALL.map(|r| r as u32),
+        std::array::from_fn(|i| i as u32 + 1)
+    );
+}
+
+/// On the greatest grid, in a thread whose whole stack is the 256 KiB that no call may pass.
+#[test]
+fn every_call_runs_on_256_kib_of_stack() {
+    let grid = Grid {
+        w: 72,
+        r: 44,
+        k: 32,
+        n: 8,
+    };
+    let cells = 32 * (2 + 44 * 72);
+    let calls = move || {
+        let (mut air, mut tracers) = (vec![100; cells], vec![1; 8 * cells]);
+        let table: Vec<u32> = (0..=32).flat_map(|j| [0, 2048 * j]).collect();
+        assert_eq!(puldeho::load(grid, &air, &tracers), Ok(0));
+        assert_eq!(puldeho::emission(grid, &air, &mut tracers, 7, 9, 1), Ok(0));
+        assert_eq!(
+            puldeho::withdrawal(grid, &air, &mut tracers, 7, 9, 1),
+            Ok(0)
+        );
+        assert_eq!(
+            puldeho::zonal(grid, &mut air, &mut tracers, 31, 43, &[1600; 72]),
+            Ok(16)
+        );
+        assert_eq!(
+            puldeho::meridional(grid, &mut air, &mut tracers, 31, &[1; 72 * 45]),
+            Ok(1)
+        );
+        assert_eq!(puldeho::total(grid, &air, &tracers, 7), Ok(cells as u32));
+        assert_eq!(puldeho::cell(grid, &air, &tracers, 7, 9), Ok(1));
+        puldeho::remap(grid, &mut air, &mut tracers, &table).unwrap();
+    };
+    let thread = std::thread::Builder::new().stack_size(256 * 1024);
+    thread.spawn(calls).unwrap().join().unwrap();
+}
