@@ -14,14 +14,22 @@ const SLOW: u64 = 32;
 const RECORDS: &str = concat!(env!("CARGO_MANIFEST_DIR"), "/../tools/records");
 const DIFFERENCE: &str = concat!(env!("CARGO_MANIFEST_DIR"), "/target/difference");
 
+/// The program, and whether it gets its input slowly.
+struct Tested<'a> {
+    program: &'a str,
+    slow: bool,
+}
+
 pub fn compare(inputs: u64, program: &str) -> ExitCode {
     let mut reached = Reached::default();
     for number in 0..inputs {
         let pieces = inputs::input(number);
-        let want = reference::runner::run(&pieces.concat());
-        if printed(program, &pieces, number % SLOW == 0) != want {
+        let slow = number % SLOW == 0;
+        let tested = Tested { program, slow };
+        let want = expected(&pieces);
+        if tested.printed(&pieces) != want {
             println!("DIFFERENT: input {number}");
-            report(program, shrink(program, pieces));
+            tested.report(tested.shrink(pieces));
             return ExitCode::FAILURE;
         }
         reached.add(&want);
@@ -39,33 +47,85 @@ pub fn compare(inputs: u64, program: &str) -> ExitCode {
     }
 }
 
-/// All that the program prints for the input, with a line more if it does not end as it should.
-fn printed(program: &str, pieces: &Pieces, slow: bool) -> String {
-    let mut child = start(program);
-    let mut input = child.stdin.take().unwrap();
-    let mut output = child.stdout.take().unwrap();
-    let mut bytes = Vec::new();
-    std::thread::scope(|scope| {
-        scope.spawn(move || feed(&mut input, pieces, slow));
-        output
-            .read_to_end(&mut bytes)
-            .expect("the program's output");
-    });
-    let status = child.wait().expect("the program's end");
-    let ending = if status.success() {
-        String::new()
-    } else {
-        format!("({status})\n")
-    };
-    String::from_utf8_lossy(&bytes).into_owned() + &ending
+/// What the second implementation prints.
+fn expected(pieces: &Pieces) -> String {
+    reference::runner::run(&pieces.concat())
 }
 
-fn start(program: &str) -> Child {
-    Command::new(program)
-        .stdin(Stdio::piped())
-        .stdout(Stdio::piped())
-        .spawn()
-        .unwrap_or_else(|error| panic!("{program}: {error}"))
+impl Tested<'_> {
+    fn differs(&self, pieces: &Pieces) -> bool {
+        self.printed(pieces) != expected(pieces)
+    }
+
+    /// All that the program prints for the input, with a line more if it does not end as it should.
+    fn printed(&self, pieces: &Pieces) -> String {
+        let mut child = self.start();
+        let mut input = child.stdin.take().unwrap();
+        let mut output = child.stdout.take().unwrap();
+        let mut bytes = Vec::new();
+        std::thread::scope(|scope| {
+            scope.spawn(move || feed(&mut input, pieces, self.slow));
+            output.read_to_end(&mut bytes).expect("its output");
+        });
+        let status = child.wait().expect("its end");
+        let ending = if status.success() {
+            String::new()
+        } else {
+            format!("({status})\n")
+        };
+        String::from_utf8_lossy(&bytes).into_owned() + &ending
+    }
+
+    fn start(&self) -> Child {
+        Command::new(self.program)
+            .stdin(Stdio::piped())
+            .stdout(Stdio::piped())
+            .spawn()
+            .unwrap_or_else(|error| panic!("{}: {error}", self.program))
+    }
+
+    /// Leaves out pieces, and then bytes at the end, as long as the two still differ.
+    fn shrink(&self, mut pieces: Pieces) -> Pieces {
+        let mut length = pieces.len() + 1;
+        while pieces.len() < length {
+            length = pieces.len();
+            for i in (0..length).rev() {
+                let mut trial = pieces.clone();
+                trial.remove(i);
+                if self.differs(&trial) {
+                    pieces = trial;
+                }
+            }
+        }
+        while let Some(last) = pieces.last().filter(|last| !last.is_empty()) {
+            let mut trial = pieces.clone();
+            *trial.last_mut().unwrap() = last[..last.len() - 1].to_vec();
+            if !self.differs(&trial) {
+                break;
+            }
+            pieces = trial;
+        }
+        pieces
+    }
+
+    /// Writes the input as bytes and as text, and prints the text and what the two make of it.
+    fn report(&self, pieces: Pieces) {
+        let file = format!("{DIFFERENCE}.input");
+        let text_file = format!("{DIFFERENCE}.txt");
+        std::fs::write(&file, pieces.concat()).expect("the file of the input");
+        let decoded = Command::new(RECORDS)
+            .args(["decode", &file])
+            .output()
+            .expect("tools/records");
+        std::fs::write(&text_file, &decoded.stdout).expect("the file of the text");
+        println!("{}", String::from_utf8_lossy(&decoded.stdout));
+        println!("{}:\n{}", self.program, self.printed(&pieces));
+        println!("second implementation:\n{}", expected(&pieces));
+        println!("the input: {file}, as text: {text_file}");
+        if self.slow {
+            println!("(written slowly, in two parts for each record)");
+        }
+    }
 }
 
 /// Writes the input. A program that has ended does not read the rest, which is no fault.
@@ -83,49 +143,4 @@ fn feed(input: &mut ChildStdin, pieces: &Pieces, slow: bool) {
             std::thread::sleep(Duration::from_micros(20));
         }
     }
-}
-
-fn differ(program: &str, pieces: &Pieces) -> bool {
-    printed(program, pieces, false) != reference::runner::run(&pieces.concat())
-}
-
-/// Leaves out pieces, and then bytes at the end, as long as the two still differ.
-fn shrink(program: &str, mut pieces: Pieces) -> Pieces {
-    let mut length = pieces.len() + 1;
-    while pieces.len() < length {
-        length = pieces.len();
-        for i in (0..length).rev() {
-            let mut trial = pieces.clone();
-            trial.remove(i);
-            if differ(program, &trial) {
-                pieces = trial;
-            }
-        }
-    }
-    while let Some(last) = pieces.last().filter(|last| !last.is_empty()) {
-        let mut trial = pieces.clone();
-        *trial.last_mut().unwrap() = last[..last.len() - 1].to_vec();
-        if !differ(program, &trial) {
-            break;
-        }
-        pieces = trial;
-    }
-    pieces
-}
-
-/// Writes the input as bytes and as text, and prints the text and what the two make of it.
-fn report(program: &str, pieces: Pieces) {
-    let file = format!("{DIFFERENCE}.input");
-    let text_file = format!("{DIFFERENCE}.txt");
-    std::fs::write(&file, pieces.concat()).expect("the file of the input");
-    let decoded = Command::new(RECORDS)
-        .args(["decode", &file])
-        .output()
-        .expect("tools/records");
-    std::fs::write(&text_file, &decoded.stdout).expect("the file of the text");
-    println!("{}", String::from_utf8_lossy(&decoded.stdout));
-    println!("{program}:\n{}", printed(program, &pieces, false));
-    let want = reference::runner::run(&pieces.concat());
-    println!("second implementation:\n{want}");
-    println!("the input: {file}, as text: {text_file}");
 }
