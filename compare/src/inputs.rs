@@ -119,13 +119,11 @@ fn next_world(random: &mut Random, grid: Grid, now: Option<World>) -> World {
     if let Some(world) = now.filter(|_| random.one_in(3)) {
         return world;
     }
-    let world = worlds::world(random, grid);
-    let cells = worlds::cells(&grid) as u32;
-    World {
-        grid,
-        air: records::of_length(world.air, cells),
-        tracers: records::of_length(world.tracers, grid.n * cells),
-    }
+    let mut world = worlds::world(random, grid);
+    let cells = worlds::cells(&grid) as usize;
+    world.air.resize(cells, 0);
+    world.tracers.resize(grid.n as usize * cells, 0);
+    world
 }
 
 fn next_call(random: &mut Random, world: &World) -> Call {

@@ -38,52 +38,28 @@ pub fn call(asked: &Call) -> Vec<u8> {
 
 /// The call with numbers and lists that fit its record: an index has one or two bytes, and a list has
 /// the grid's length.
-pub fn fitted(asked: Call, g: &Grid) -> Call {
-    match asked {
-        Call::Load => Call::Load,
-        Call::Emission {
-            tracer,
-            cell,
-            amount,
-        } => Call::Emission {
-            tracer: tracer.min(255),
-            cell: cell.min(65_535),
-            amount,
-        },
-        Call::Withdrawal {
-            tracer,
-            cell,
-            amount,
-        } => Call::Withdrawal {
-            tracer: tracer.min(255),
-            cell: cell.min(65_535),
-            amount,
-        },
-        Call::Zonal { layer, row, fluxes } => Call::Zonal {
-            layer: layer.min(255),
-            row: row.min(255),
-            fluxes: of_length(fluxes, g.w),
-        },
-        Call::Meridional { layer, fluxes } => Call::Meridional {
-            layer: layer.min(255),
-            fluxes: of_length(fluxes, g.w * (g.r + 1)),
-        },
-        Call::Remap { table } => Call::Remap {
-            table: of_length(table, 2 * (g.k + 1)),
-        },
-        Call::Total { tracer } => Call::Total {
-            tracer: tracer.min(255),
-        },
-        Call::Cell { tracer, cell } => Call::Cell {
-            tracer: tracer.min(255),
-            cell: cell.min(65_535),
-        },
+pub fn fitted(mut asked: Call, g: &Grid) -> Call {
+    match &mut asked {
+        Call::Load => {}
+        Call::Emission { tracer, cell, .. }
+        | Call::Withdrawal { tracer, cell, .. }
+        | Call::Cell { tracer, cell } => {
+            *tracer = (*tracer).min(255);
+            *cell = (*cell).min(65_535);
+        }
+        Call::Zonal { layer, row, fluxes } => {
+            *layer = (*layer).min(255);
+            *row = (*row).min(255);
+            fluxes.resize(g.w as usize, 0);
+        }
+        Call::Meridional { layer, fluxes } => {
+            *layer = (*layer).min(255);
+            fluxes.resize((g.w * (g.r + 1)) as usize, 0);
+        }
+        Call::Remap { table } => table.resize(2 * (g.k as usize + 1), 0),
+        Call::Total { tracer } => *tracer = (*tracer).min(255),
     }
-}
-
-pub fn of_length<T: Clone + Default>(mut list: Vec<T>, length: u32) -> Vec<T> {
-    list.resize(length as usize, T::default());
-    list
+    asked
 }
 
 /// "3 emission and 4 withdrawal: tracer 1 byte, cell over all layers 2 bytes, amount 4."
