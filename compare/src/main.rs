@@ -2,15 +2,23 @@
 //! answer, count, all air and all tracers after every call. A difference is made as small as it
 //! can be made and printed, and the exit status is 1.
 //!
-//!     compare [LISTS]             how many lists of calls to run (default 2,000)
-//!     compare --script [LISTS]    prints lists in small worlds as a script, for another caller
+//!     compare [LISTS]                     how many lists of calls to run (default 2,000)
+//!     compare --script [LISTS]            prints lists in small worlds as a script, for another caller
+//!     compare runner [INPUTS [PROGRAM]]   the runner program in place of the calls (default 20,000 inputs)
+//!     compare long-run                    writes one long input of the runner
 
+mod inputs;
 #[rustfmt::skip]
 mod library;
+mod reached;
+mod records;
+mod runner;
 mod worlds;
 
 use reference::{Answer, Call, World};
 use std::collections::BTreeMap;
+use std::io::Write;
+use std::process::ExitCode;
 
 const CALLS: usize = 24;
 
@@ -120,7 +128,7 @@ fn report(world: &World, call: &Call) {
 }
 
 /// Runs the lists in both and stops at a difference.
-fn compare(lists: u64) {
+fn compare_calls(lists: u64) {
     let mut seen: BTreeMap<(&str, u32), u64> = BTreeMap::new();
     for list in 0..lists {
         let size = if list * 10 < lists * 6 {
@@ -176,12 +184,23 @@ fn script(lists: u64) {
     }
 }
 
-fn main() {
-    let words: Vec<String> = std::env::args().skip(1).collect();
-    let lists =
-        |word: Option<&String>| word.map_or(2000, |word| word.parse().expect("a number of lists"));
-    match words.first() {
-        Some(word) if word == "--script" => script(lists(words.get(1))),
-        word => compare(lists(word)),
+fn main() -> ExitCode {
+    let arguments: Vec<String> = std::env::args().skip(1).collect();
+    let number = |place: usize, default| {
+        arguments
+            .get(place)
+            .map_or(default, |s| s.parse().expect("how many lists or inputs"))
+    };
+    match arguments.first().map(String::as_str) {
+        Some("--script") => script(number(1, 2_000)),
+        Some("runner") => {
+            let program = arguments.get(2).map_or("target/bin/runner", String::as_str);
+            return runner::compare(number(1, 20_000), program);
+        }
+        Some("long-run") => std::io::stdout()
+            .write_all(&inputs::long_run().concat())
+            .expect("standard output"),
+        _ => compare_calls(number(0, 2_000)),
     }
+    ExitCode::SUCCESS
 }

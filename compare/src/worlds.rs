@@ -32,7 +32,7 @@ impl Random {
     }
 }
 
-fn cells(g: &Grid) -> u64 {
+pub fn cells(g: &Grid) -> u64 {
     g.k as u64 * (2 + g.r as u64 * g.w as u64)
 }
 
