@@ -35,7 +35,7 @@ pub record HoldsAt (w : World) (calls : List Call) (i : ℕ) : Type 0 where
   pub independent : (own : ℕ → Bool) (v : World) → Loaded v → Alike own w v → Alike own (point w calls i) (point v calls i) × (namesNoOther own w (callAt calls i) ≡ true → SameReply (point w calls i) (point v calls i) (callAt calls i))
 
 -- what each call keeps
-call-keeps : (call : Call) (w : World) → Fits w → StepKeeps w call
+pub call-keeps : (call : Call) (w : World) → Fits w → StepKeeps w call
 call-keeps load = step-keeps load load-keeps
 call-keeps (emission t c amount) = step-keeps (emission t c amount) (emission-keeps t c amount)
 call-keeps (withdrawal t c amount) = step-keeps (withdrawal t c amount) (withdrawal-keeps t c amount)

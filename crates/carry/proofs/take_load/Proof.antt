@@ -1,0 +1,107 @@
+-- `carry::take_load` meets its contract: a refused load leaves both buffers and nothing loaded; an accepted one is decoded into them.
+-- Assumes nothing.
+use Prim.Native.Nat.{ℕ, _*_}
+use mathlib.Core.Path.{sym, _∙_, ap, ap₂}
+use native.Mathlib.Omega.{arith}
+use lib.ListN.{length}
+use lib.Seq.{length-take-le}
+use Rattle.model.specs.Laws.Basic.{length-tab}
+use Rattle.program.specs.Bytes.{numbersAt}
+use Rattle.records.specs.declared.Command.the-variants.{Load}
+use Rattle.carry.specs.Room.{take-short}
+use Rattle.carry.specs.Laws.{small, amounts-few, air-room, tracers-room, load-whole}
+use Rattle.carry.specs.Leaves.{load-leaves, load-refused}
+use borrow.Author.Needs.{needs}
+use Rattle.carry.proofs.take_load.Statement.{statement}
+use Rattle.carry.proofs.take_load.Tie as tie
+
+cells-of-requires : tie.Need-cells-of-requires
+cells-of-requires c κs = let start = c .before .before .before in small (start .args .g) Load (start .args .body .now) (start .args .air .now) (start .args .tracers .now) (start .pre)
+
+cast-amounts : tie.Need-cast-amounts
+cast-amounts c = search needs
+
+mul-amounts : tie.Need-mul-amounts
+mul-amounts c = let start = c .before .before .before .before .before in record { fits = omega (arith, amounts-few (start .args .g) Load (start .args .body .now) (start .args .air .now) (start .args .tracers .now) (start .pre) _ (c .before .cells-of .ensures .1)) }
+
+load-answer-requires : tie.Need-load-answer-requires
+load-answer-requires c κs =
+    let start = c .before .before .before .before .before in
+    let cells = c .before .cells-of in
+    record {
+      fewCells = cells .ensures .1;
+      fewAmounts = amounts-few (start .args .g) Load (start .args .body .now) (start .args .air .now) (start .args .tracers .now) (start .pre) _ (cells .ensures .1);
+      whole = load-whole (start .args .g) _ (start .args .body .now) (cells .ensures .0) (start .pre .whole);
+    }
+
+line-of-requires : tie.Need-line-of-requires
+line-of-requires c κs = search needs
+
+number-requires : tie.Need-number-requires
+number-requires c κs = search needs
+
+returns : tie.Need-returns
+returns c =
+    let start = c .before .before .before .before .before .before .before .before .before in
+    let answer = c .before .before .before .load-answer in
+    λ s. load-refused (start .args .g) _ (c .before .before .before .before .before .cells-of .ensures .0) _ _ (start .pre .taken) (start .args .kind) (start .args .body .now) (answer .result) _ s (c .before .before .line-of .ensures) (answer .ensures) (λ e. omega (arith, e, c .before .number .ensures, c .if1 .left))
+
+slice-relend-prefix-load-into : tie.Need-slice-relend-prefix-load-into
+slice-relend-prefix-load-into c = search needs
+
+slice-aggregate-load-into : tie.Need-slice-aggregate-load-into
+slice-aggregate-load-into c = let start = c .before .before .before .before .before .before .before .before .before .before in sym (length-take-le _ _ (air-room (start .args .g) Load (start .args .body .now) (start .args .air .now) (start .args .tracers .now) (start .pre) _ (c .before .before .before .before .before .before .cells-of .ensures .1)))
+
+slice-relend-prefix-load-into-2 : tie.Need-slice-relend-prefix-load-into-2
+slice-relend-prefix-load-into-2 c = let start = c .before .before .before .before .before .before .before .before .before .before in tracers-room (start .args .g) Load (start .args .body .now) (start .args .air .now) (start .args .tracers .now) (start .pre) _ (c .before .before .before .before .before .before .cells-of .ensures .1)
+
+slice-aggregate-load-into-2 : tie.Need-slice-aggregate-load-into-2
+slice-aggregate-load-into-2 c = let start = c .before .before .before .before .before .before .before .before .before .before .before in sym (length-take-le _ _ (tracers-room (start .args .g) Load (start .args .body .now) (start .args .air .now) (start .args .tracers .now) (start .pre) _ (c .before .before .before .before .before .before .before .cells-of .ensures .1)))
+
+load-into-requires : tie.Need-load-into-requires
+load-into-requires c κs =
+    let start = c .before .before .before .before .before .before .before .before .before .before .before in
+    let cells = c .before .before .before .before .before .before .before .cells-of in
+    record {
+      whole =
+          omega
+          (arith, take-short (cells .result) (start .args .air .now), take-short (start .args .g .n * cells .result) (start .args .tracers .now), load-whole (start .args .g) _ (start .args .body .now) (cells .ensures .0) (start .pre .whole));
+    }
+
+same-length : tie.Need-same-length
+same-length c = search needs
+
+same-length-2 : tie.Need-same-length-2
+same-length-2 c = search needs
+
+returns-2 : tie.Need-returns-2
+returns-2 c =
+    let start = c .before .before .before .before .before .before .before .before .before .before .before .before .before .before .before .before in
+    let cells = c .before .before .before .before .before .before .before .before .before .before .before .before .cells-of in
+    let answer = c .before .before .before .before .before .before .before .before .before .before .load-answer in
+    let into = c .before .before .before .before .load-into .ensures in
+    let airs = length-take-le (cells .result) (start .args .air .now) (air-room (start .args .g) Load (start .args .body .now) (start .args .air .now) (start .args .tracers .now) (start .pre) _ (cells .ensures .1)) in
+    let amounts = length-take-le (start .args .g .n * cells .result) (start .args .tracers .now) (tracers-room (start .args .g) Load (start .args .body .now) (start .args .air .now) (start .args .tracers .now) (start .pre) _ (cells .ensures .1)) in
+    let newAir = into .airIs ∙ ap (numbersAt (start .args .body .now) 0) airs in
+    let newTracers = into .tracersIs ∙ ap₂ (λ (a n : ℕ). numbersAt (start .args .body .now) (4 * a) n) airs amounts in
+    λ s. load-leaves (start .args .g) (cells .result) (cells .ensures .0) _ _ _ _ (ap length newAir ∙ length-tab _ _) (ap length newTracers ∙ length-tab _ _) (start .pre .taken) (start .args .kind) (start .args .body .now) (answer .result) _ s (c .before .before .before .before .before .before .before .before .before .line-of .ensures) (answer .ensures) (sym (c .before .before .before .before .before .before .before .before .number .ensures) ∙ c .before .before .before .before .before .before .before .if1 .taken) newAir newTracers
+
+pub take-load-spec : {M : Type 1} → statement M
+take-load-spec =
+    tie.close
+    (tie.spec
+    cells-of-requires
+    cast-amounts
+    mul-amounts
+    load-answer-requires
+    line-of-requires
+    number-requires
+    returns
+    slice-relend-prefix-load-into
+    slice-aggregate-load-into
+    slice-relend-prefix-load-into-2
+    slice-aggregate-load-into-2
+    load-into-requires
+    same-length
+    same-length-2
+    returns-2)

@@ -1,0 +1,26 @@
+-- `lines::put_byte` meets its contract: the byte stands before what stood at `end`.
+-- Assumes nothing.
+use borrow.Author.Needs.{needs}
+use Rattle.lines.specs.Laws.{put-byte}
+use Rattle.lines.proofs.put_byte.Statement.{statement}
+use Rattle.lines.proofs.put_byte.Tie as tie
+
+sub-at : tie.Need-sub-at
+sub-at c = search needs
+
+slice-write-out : tie.Need-slice-write-out
+slice-write-out c = search needs
+
+same-length : tie.Need-same-length
+same-length c = search needs
+
+returns : tie.Need-returns
+returns c =
+    let a = c .args in record {
+      put = put-byte (a .out .now) (a .end) (search needs) (search needs) (a .b);
+      above = search needs;
+      below = search needs;
+    }
+
+pub put-byte-spec : {M : Type 1} → statement M
+put-byte-spec = tie.close (tie.spec sub-at slice-write-out same-length returns)

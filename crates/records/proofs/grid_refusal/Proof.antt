@@ -1,0 +1,62 @@
+-- `records::grid_refusal` meets its contract: the places 1 and 15, in this order.
+-- Assumes nothing.
+use mathlib.Core.Path.{sym, _∙_}
+use native.Mathlib.Omega.{arith}
+use Rattle.units.specs.Grid.{gridOf, in-range}
+use Rattle.records.specs.Laws.{refused-range, refused-cells, refused-tracers, taken-grid}
+use borrow.Author.Needs.{needs}
+use Rattle.records.proofs.grid_refusal.Statement.{statement}
+use Rattle.records.proofs.grid_refusal.Tie as tie
+
+grid-fits-requires : tie.Need-grid-fits-requires
+grid-fits-requires c κs = search needs
+
+refusal-number-requires : tie.Need-refusal-number-requires
+refusal-number-requires c κs = search needs
+
+returns : tie.Need-returns
+returns c =
+    c .refusal-number .ensures ∙
+    sym (refused-range (gridOf (c .before .before .before .args .g)) (sym (c .before .before .grid-fits .ensures) ∙ c .before .if1 .left))
+
+world-cells-requires : tie.Need-world-cells-requires
+world-cells-requires c κs = in-range (c .before .before .args .g) (sym (c .before .grid-fits .ensures) ∙ c .if1 .taken)
+
+fault-number-requires : tie.Need-fault-number-requires
+fault-number-requires c κs = search needs
+
+returns-2 : tie.Need-returns-2
+returns-2 c =
+    let before = c .before .before .before in
+    c .fault-number .ensures ∙
+    sym (refused-cells (gridOf (before .before .before .args .g)) (sym (before .before .grid-fits .ensures) ∙ before .if1 .taken) (omega (arith, c .before .before .world-cells .ensures .0)))
+
+fault-number-requires-2 : tie.Need-fault-number-requires-2
+fault-number-requires-2 c κs = search needs
+
+returns-3 : tie.Need-returns-3
+returns-3 c =
+    let tests = c .before .before .before in
+    let before = tests .before .before in
+    c .fault-number2 .ensures ∙
+    sym (refused-tracers (gridOf (before .before .before .args .g)) (sym (before .before .grid-fits .ensures) ∙ before .if1 .taken) (omega (arith, tests .before .world-cells .ensures .0)) (c .before .if3 .left))
+
+returns-4 : tie.Need-returns-4
+returns-4 c =
+    let tests = c .before .before in
+    let before = tests .before .before in
+    sym (taken-grid (gridOf (before .before .before .args .g)) (sym (before .before .grid-fits .ensures) ∙ before .if1 .taken) (omega (arith, tests .before .world-cells .ensures .0)) (c .if3 .taken))
+
+pub grid-refusal-spec : {M : Type 1} → statement M
+grid-refusal-spec =
+    tie.close
+    (tie.spec
+    grid-fits-requires
+    refusal-number-requires
+    returns
+    world-cells-requires
+    fault-number-requires
+    returns-2
+    fault-number-requires-2
+    returns-3
+    returns-4)

@@ -1,0 +1,87 @@
+-- `records::read` meets its contract: the tests in their order, and the body after the kind byte handed to the parser.
+-- Assumes nothing.
+use mathlib.Core.Path.{sym, _∙_}
+use native.Mathlib.Omega.{arith}
+use Rattle.units.specs.Grid.{gridOf}
+use Rattle.records.specs.Stage.{kindIs, plainState}
+use Rattle.records.specs.Laws.{stage-small, parse-need, finds-nothing, finds-misplaced, finds-short, finds-record}
+use borrow.Author.Needs.{needs}
+use Rattle.records.proofs.read.Statement.{statement}
+use Rattle.records.proofs.read.Tie as tie
+
+returns : tie.Need-returns
+returns c = finds-nothing (c .before .before .args .stage) (c .before .before .args .input .now) (c .if1 .taken)
+
+shared-slice-read-kind-of : tie.Need-shared-slice-read-kind-of
+shared-slice-read-kind-of c = search needs
+
+kind-of-requires : tie.Need-kind-of-requires
+kind-of-requires c κs = search needs
+
+settled-requires : tie.Need-settled-requires
+settled-requires c κs = search needs
+
+in-place-requires : tie.Need-in-place-requires
+in-place-requires c κs = search needs
+
+returns-2 : tie.Need-returns-2
+returns-2 c =
+    let tests = c .before in
+    let start = tests .before .before .before .before .before .before in
+    finds-misplaced (start .args .stage) (tests .before .settled .result) (start .args .input .now) (kindIs (tests .before .before .kind-of .result)) (tests .before .settled .ensures) (tests .before .before .kind-of .ensures) (search needs) (sym (tests .in-place .ensures) ∙ c .if2 .left)
+
+grid-of-requires : tie.Need-grid-of-requires
+grid-of-requires c κs = search needs
+
+body-length-requires : tie.Need-body-length-requires
+body-length-requires c κs = stage-small (c .before .before .before .settled .result) _ (c .grid-of .ensures) (c .before .before .before .settled .ensures .taken)
+
+sub-if3 : tie.Need-sub-if3
+sub-if3 c = search needs
+
+returns-3 : tie.Need-returns-3
+returns-3 c =
+    let tests = c .before .before .before .before in
+    let start = tests .before .before .before .before .before .before in
+    finds-short (start .args .stage) (tests .before .settled .result) (start .args .input .now) (kindIs (tests .before .before .kind-of .result)) (tests .before .settled .ensures) (tests .before .before .kind-of .ensures) (search needs) (gridOf (c .before .before .grid-of .result)) (c .before .before .grid-of .ensures) (sym (tests .in-place .ensures) ∙ c .before .before .before .if2 .taken) (omega (arith, c .before .body-length .ensures .0, c .if3 .left))
+
+sub-parse : tie.Need-sub-parse
+sub-parse c = search needs
+
+part-parse-start : tie.Need-part-parse-start
+part-parse-start c = search needs
+
+part-parse-end : tie.Need-part-parse-end
+part-parse-end c = search needs
+
+parse-requires : tie.Need-parse-requires
+parse-requires c κs =
+    let tests = c .before .before .before .before .before in
+    let start = tests .before .before .before .before .before .before in
+    parse-need (kindIs (tests .before .before .kind-of .result)) (start .args .input .now) _ (gridOf (c .before .before .before .grid-of .result)) (sym (tests .in-place .ensures) ∙ c .before .before .before .before .if2 .taken) (omega (arith, c .before .before .body-length .ensures .0, c .before .if3 .taken))
+
+returns-4 : tie.Need-returns-4
+returns-4 c =
+    let tests = c .before .before .before .before .before .before in
+    let start = tests .before .before .before .before .before .before in
+    finds-record (start .args .stage) (tests .before .settled .result) (start .args .input .now) (kindIs (tests .before .before .kind-of .result)) (tests .before .settled .ensures) (tests .before .before .kind-of .ensures) (search needs) (gridOf (c .before .before .before .before .grid-of .result)) (c .before .before .before .before .grid-of .ensures) (sym (tests .in-place .ensures) ∙ c .before .before .before .before .before .if2 .taken) (omega (arith, c .before .before .before .body-length .ensures .0, c .before .before .if3 .taken)) (c .parse .result) (c .parse .ensures)
+
+pub read-spec : {M : Type 1} → statement M
+read-spec =
+    tie.close
+    (tie.spec
+    returns
+    shared-slice-read-kind-of
+    kind-of-requires
+    settled-requires
+    in-place-requires
+    returns-2
+    grid-of-requires
+    body-length-requires
+    sub-if3
+    returns-3
+    sub-parse
+    part-parse-start
+    part-parse-end
+    parse-requires
+    returns-4)

@@ -1,0 +1,77 @@
+-- The code's kinds, faults and stages as the model's.
+-- Assumes nothing. A stage whose grid the program does not take stands for the start.
+use Prim.Native.Nat.{ℕ, zero, suc, _*_, _≤_}
+use mathlib.Core.List.{List, []}
+use mathlib.Core.Bool.{Bool, true, false}
+use mathlib.Core.Path.{_≡_}
+use lib.ListN.{take}
+use Rattle.model.specs.World as model
+use Rattle.units.specs.declared.Grid as declared
+use Rattle.units.specs.Grid.{gridOf}
+use Rattle.program.specs.Records as program
+use Rattle.records.specs.declared.Kind as code
+use Rattle.records.specs.declared.Kind.the-variants.{Unknown, Grid, Load, Emission, Withdrawal, Zonal, Meridional, Remap, Total, Cell}
+use Rattle.records.specs.declared.Fault.{Fault}
+use Rattle.records.specs.declared.Fault.the-variants as fault
+use Rattle.records.specs.declared.Stage.{Stage}
+use Rattle.records.specs.declared.Stage.the-variants.{Start, Gridded, Loaded}
+
+abbrev pub kindIs : code.Kind → program.Kind
+kindIs Unknown = program.unknown
+kindIs Grid = program.gridKind
+kindIs Load = program.loadKind
+kindIs Emission = program.emissionKind
+kindIs Withdrawal = program.withdrawalKind
+kindIs Zonal = program.zonalKind
+kindIs Meridional = program.meridionalKind
+kindIs Remap = program.remapKind
+kindIs Total = program.totalKind
+kindIs Cell = program.cellKind
+
+-- "program, kind", "program, length", "program, grid": the number of each place
+abbrev pub faultNumber : Fault → ℕ
+faultNumber fault.Kind = 13
+faultNumber fault.Length = 14
+faultNumber fault.ProgramGrid = 15
+
+-- the world that a grid has at the start of the program's two buffers
+abbrev pub held : model.Grid → List ℕ → List ℕ → model.World
+held g air tracers =
+    record { grid = g; air = take (model.worldCells g) air; tracers = take (g .N * model.worldCells g) tracers }
+
+-- the state of a stage whose grid the program takes
+abbrev pub plainState : Stage → List ℕ → List ℕ → program.State
+plainState Start air tracers = program.start
+plainState (Gridded g) air tracers = program.gridded (gridOf g)
+plainState (Loaded g) air tracers = program.loaded (held (gridOf g) air tracers)
+
+-- the refusal of a stage's grid, 0 at the start
+abbrev pub stageRefusal : Stage → ℕ
+stageRefusal Start = 0
+stageRefusal (Gridded g) = program.gridRefusal (gridOf g)
+stageRefusal (Loaded g) = program.gridRefusal (gridOf g)
+
+-- the state that a stage and the program's two buffers stand for
+abbrev pub stateOf : Stage → List ℕ → List ℕ → program.State
+stateOf stage air tracers = elim (stageRefusal stage) [ zero ↦ plainState stage air tracers | suc n ↦ program.start ]
+
+pub record IsSettled (stage r : Stage) : Type 0 where
+  pub same : (air tracers : List ℕ) → stateOf stage air tracers ≡ plainState r air tracers
+  pub taken : stageRefusal r ≡ 0
+
+-- the grid of a stage
+abbrev pub gridOfStage : Stage → model.Grid
+gridOfStage stage = program.gridOf (plainState stage [] [])
+
+-- how many bytes a kind needs, whatever the buffers hold; a body is at most 2,048 cells of air and of two tracers
+pub record NeedsBytes (stage : Stage) (byte n : ℕ) : Type 0 where
+  pub number : (air tracers : List ℕ) → n ≡ program.needed (stateOf stage air tracers) byte
+  pub few : n ≤ 24576
+
+-- a grid no larger than the program takes
+pub record SmallGrid (g : declared.Grid) : Type 0 where
+  pub highW : g .w ≤ 72
+  pub highR : g .r ≤ 44
+  pub highK : g .k ≤ 32
+  pub highN : g .n ≤ 2
+  pub cells : model.worldCells (gridOf g) ≤ 2048
