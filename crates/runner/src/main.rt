@@ -1,0 +1,4 @@
+// The runner program.
+fn main() {
+    console::run();
+}
