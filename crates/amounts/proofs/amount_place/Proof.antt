@@ -29,7 +29,9 @@ returns-2 c =
     named-no-tracer _ _ _ _ _ _ (c .before .before .before .before .before .common-places .ensures .passed (sym (c .before .before .before .before .number .ensures) ∙ c .before .before .before .if1 .taken) .fits) (search needs) (c .not-named2 .ensures)
 
 world-cells-requires : tie.Need-world-cells-requires
-world-cells-requires c κs = in-range _ (c .before .before .before .before .common-places .ensures .passed (sym (c .before .before .before .number .ensures) ∙ c .before .before .if1 .taken) .fits .grid)
+world-cells-requires c κs =
+    let common-places = c .before .before .before .before .common-places in
+    in-range _ (common-places .ensures .passed (sym (c .before .before .before .number .ensures) ∙ c .before .before .if1 .taken) .fits .grid)
 
 not-named-requires-3 : tie.Need-not-named-requires-3
 not-named-requires-3 c κs = search needs
@@ -62,8 +64,11 @@ mul-t23 c = search needs
 
 array-read-t26 : tie.Need-array-read-t26
 array-read-t26 c =
-    let passed = c .before .before .before .before .before .before .before .common-places .ensures .passed (sym (c .before .before .before .before .before .before .number .ensures) ∙ c .before .before .before .before .before .if1 .taken) in
-    omega (arith, in-range (c .before .before .before .before .before .before .before .before .before .before .args .g) (passed .fits .grid) .highN)
+    let start = c .before .before .before .before .before .before .before .before .before .before in
+    let common-places = c .before .before .before .before .before .before .before .common-places in
+    let number = c .before .before .before .before .before .before .number in
+    let passed = common-places .ensures .passed (sym (number .ensures) ∙ c .before .before .before .before .before .if1 .taken) in
+    omega (arith, in-range (start .args .g) (passed .fits .grid) .highN)
 
 returns-4 : tie.Need-returns-4
 returns-4 c =

@@ -17,7 +17,8 @@ number-requires c κs = search needs
 
 returns : tie.Need-returns
 returns c =
-    c .before .before .amount-place .ensures .refused (λ z. omega (arith, c .before .number .ensures)) (reading (c .before .before .before .before .before .args .tracer) (c .before .before .before .before .before .args .cell)) [] refl (reading-places _ _)
+    let start = c .before .before .before .before .before in
+    c .before .before .amount-place .ensures .refused (λ z. omega (arith, c .before .number .ensures)) (reading (start .args .tracer) (start .args .cell)) [] refl (reading-places _ _)
 
 mul-t11 : tie.Need-mul-t11
 mul-t11 c = omega (arith, c .before .before .amount-place .ensures .found (sym (c .before .number .ensures) ∙ c .if1 .taken) .near)

@@ -19,7 +19,8 @@ same-length c = search needs
 
 returns : tie.Need-returns
 returns c =
-    c .before .before .amount-place .ensures .refused (λ z. omega (arith, c .before .number .ensures)) (emission (c .before .before .before .before .before .before .args .tracer) (c .before .before .before .before .before .before .args .cell) (c .before .before .before .before .before .before .args .amount)) _ refl (emission-places _ _ _)
+    let start = c .before .before .before .before .before .before in
+    c .before .before .amount-place .ensures .refused (λ z. omega (arith, c .before .number .ensures)) (emission (start .args .tracer) (start .args .cell) (start .args .amount)) _ refl (emission-places _ _ _)
 
 add-if2 : tie.Need-add-if2
 add-if2 c = omega (arith, c .before .before .before .amount-place .ensures .found (sym (c .before .before .number .ensures) ∙ c .before .if1 .taken) .totalIn)
@@ -31,19 +32,33 @@ returns-2 : tie.Need-returns-2
 returns-2 c = emission-refused _ _ _ _ _ _ (c .before .before .before .before .amount-place .ensures .found (sym (c .before .before .before .number .ensures) ∙ c .before .before .if1 .taken)) (search needs)
 
 mul-tracers : tie.Need-mul-tracers
-mul-tracers c = omega (arith, c .before .before .before .before .amount-place .ensures .found (sym (c .before .before .before .number .ensures) ∙ c .before .before .if1 .taken) .near)
+mul-tracers c =
+    let amount-place = c .before .before .before .before .amount-place in
+    omega (arith, amount-place .ensures .found (sym (c .before .before .before .number .ensures) ∙ c .before .before .if1 .taken) .near)
 
 slice-read-tracers : tie.Need-slice-read-tracers
-slice-read-tracers c = c .before .before .before .before .before .amount-place .ensures .found (sym (c .before .before .before .before .number .ensures) ∙ c .before .before .before .if1 .taken) .inside
+slice-read-tracers c =
+    let amount-place = c .before .before .before .before .before .amount-place in
+    let number = c .before .before .before .before .number in
+    amount-place .ensures .found (sym (number .ensures) ∙ c .before .before .before .if1 .taken) .inside
 
 add-tracers : tie.Need-add-tracers
-add-tracers c = omega (arith, c .before .before .before .before .before .amount-place .ensures .found (sym (c .before .before .before .before .number .ensures) ∙ c .before .before .before .if1 .taken) .amountIn)
+add-tracers c =
+    let amount-place = c .before .before .before .before .before .amount-place in
+    let number = c .before .before .before .before .number in
+    omega (arith, amount-place .ensures .found (sym (number .ensures) ∙ c .before .before .before .if1 .taken) .amountIn)
 
 mul-tracers-2 : tie.Need-mul-tracers-2
-mul-tracers-2 c = omega (arith, c .before .before .before .before .before .amount-place .ensures .found (sym (c .before .before .before .before .number .ensures) ∙ c .before .before .before .if1 .taken) .near)
+mul-tracers-2 c =
+    let amount-place = c .before .before .before .before .before .amount-place in
+    let number = c .before .before .before .before .number in
+    omega (arith, amount-place .ensures .found (sym (number .ensures) ∙ c .before .before .before .if1 .taken) .near)
 
 slice-write-tracers : tie.Need-slice-write-tracers
-slice-write-tracers c = c .before .before .before .before .before .amount-place .ensures .found (sym (c .before .before .before .before .number .ensures) ∙ c .before .before .before .if1 .taken) .inside
+slice-write-tracers c =
+    let amount-place = c .before .before .before .before .before .amount-place in
+    let number = c .before .before .before .before .number in
+    amount-place .ensures .found (sym (number .ensures) ∙ c .before .before .before .if1 .taken) .inside
 
 same-length-3 : tie.Need-same-length-3
 same-length-3 c = search needs

@@ -28,7 +28,8 @@ number-requires c κs = search needs
 
 returns : tie.Need-returns
 returns c =
-    common-agrees _ _ _ (c .before .before .common-places .ensures) (total (c .before .before .before .before .before .args .tracer)) refl (λ z. omega (arith, c .before .number .ensures))
+    let start = c .before .before .before .before .before in
+    common-agrees _ _ _ (c .before .before .common-places .ensures) (total (start .args .tracer)) refl (λ z. omega (arith, c .before .number .ensures))
 
 returns-2 : tie.Need-returns-2
 returns-2 c =
@@ -42,8 +43,11 @@ mul-sum c = search needs
 
 array-read-sum : tie.Need-array-read-sum
 array-read-sum c =
-    let passed = c .before .before .before .before .before .common-places .ensures .passed (sym (c .before .before .before .before .number .ensures) ∙ c .before .before .before .if1 .taken) in
-    omega (arith, in-range (c .before .before .before .before .before .before .before .before .args .g) (passed .fits .grid) .highN)
+    let start = c .before .before .before .before .before .before .before .before in
+    let common-places = c .before .before .before .before .before .common-places in
+    let number = c .before .before .before .before .number in
+    let passed = common-places .ensures .passed (sym (number .ensures) ∙ c .before .before .before .if1 .taken) in
+    omega (arith, in-range (start .args .g) (passed .fits .grid) .highN)
 
 -- a total that passed place 4 fits a count
 count-fits : (w : World) (sums : List ℕ) → Passed w Nothing sums → (t : ℕ) → t < w .grid .N → Fits w32 (at sums t)
@@ -51,8 +55,11 @@ count-fits w sums passed t h = let small : gasTotal w t ≤ totalLimit = passed 
 
 cast-sum : tie.Need-cast-sum
 cast-sum c =
-    let passed = c .before .before .before .before .before .common-places .ensures .passed (sym (c .before .before .before .before .number .ensures) ∙ c .before .before .before .if1 .taken) in
-    count-fits _ _ passed _ (omega (arith, in-range (c .before .before .before .before .before .before .before .before .args .g) (passed .fits .grid) .lowN))
+    let start = c .before .before .before .before .before .before .before .before in
+    let common-places = c .before .before .before .before .before .common-places in
+    let number = c .before .before .before .before .number in
+    let passed = common-places .ensures .passed (sym (number .ensures) ∙ c .before .before .before .if1 .taken) in
+    count-fits _ _ passed _ (omega (arith, in-range (start .args .g) (passed .fits .grid) .lowN))
 
 returns-3 : tie.Need-returns-3
 returns-3 c =

@@ -19,7 +19,8 @@ same-length c = search needs
 
 returns : tie.Need-returns
 returns c =
-    c .before .before .amount-place .ensures .refused (λ z. omega (arith, c .before .number .ensures)) (withdrawal (c .before .before .before .before .before .before .args .tracer) (c .before .before .before .before .before .before .args .cell) (c .before .before .before .before .before .before .args .amount)) _ refl (withdrawal-places _ _ _)
+    let start = c .before .before .before .before .before .before in
+    c .before .before .amount-place .ensures .refused (λ z. omega (arith, c .before .number .ensures)) (withdrawal (start .args .tracer) (start .args .cell) (start .args .amount)) _ refl (withdrawal-places _ _ _)
 
 mul-had : tie.Need-mul-had
 mul-had c = omega (arith, c .before .before .amount-place .ensures .found (sym (c .before .number .ensures) ∙ c .if1 .taken) .near)
@@ -34,10 +35,14 @@ returns-2 : tie.Need-returns-2
 returns-2 c = withdrawal-refused _ _ _ _ _ _ (c .before .before .before .before .amount-place .ensures .found (sym (c .before .before .before .number .ensures) ∙ c .before .before .if1 .taken)) (search needs)
 
 mul-tracers : tie.Need-mul-tracers
-mul-tracers c = omega (arith, c .before .before .before .before .amount-place .ensures .found (sym (c .before .before .before .number .ensures) ∙ c .before .before .if1 .taken) .near)
+mul-tracers c =
+    let amount-place = c .before .before .before .before .amount-place in
+    omega (arith, amount-place .ensures .found (sym (c .before .before .before .number .ensures) ∙ c .before .before .if1 .taken) .near)
 
 slice-write-tracers : tie.Need-slice-write-tracers
-slice-write-tracers c = c .before .before .before .before .amount-place .ensures .found (sym (c .before .before .before .number .ensures) ∙ c .before .before .if1 .taken) .inside
+slice-write-tracers c =
+    let amount-place = c .before .before .before .before .amount-place in
+    amount-place .ensures .found (sym (c .before .before .before .number .ensures) ∙ c .before .before .if1 .taken) .inside
 
 same-length-3 : tie.Need-same-length-3
 same-length-3 c = search needs

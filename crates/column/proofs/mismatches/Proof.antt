@@ -76,9 +76,10 @@ loop-again c =
 
 returns-2 : tie.Need-returns-2 Inv-loop μ-loop
 returns-2 c =
-    let a = c .before .before .before .args in
+    let start = c .before .before .before in
+    let a = start .args in
     let l = c .before .loop in
-    rw (c .before .before .if1 .left) (filled-all (a .k) (a .t1) (l .d) (l .i) (l .inv .3) (c .before .before .before .pre) (omega arith))
+    rw (c .before .before .if1 .left) (filled-all (a .k) (a .t1) (l .d) (l .i) (l .inv .3) (start .pre) (omega arith))
 
 pub mismatches-spec : {M : Type 1} → statement M
 mismatches-spec =

@@ -48,8 +48,9 @@ cast-lower c = search needs
 
 add-lower : tie.Need-add-lower Inv-loop μ-loop
 add-lower c =
+    let loop = c .before .before .before .before .loop in
     let start = c .before .before .before .before .before in
-    omega (arith, next-fits (start .pre .spans) (c .before .before .before .before .loop .inv .0))
+    omega (arith, next-fits (start .pre .spans) (loop .inv .0))
 
 add-edge : tie.Need-add-edge Inv-loop μ-loop
 add-edge c = search needs

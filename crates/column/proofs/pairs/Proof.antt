@@ -31,7 +31,9 @@ cast-lower : tie.Need-cast-lower Inv-loop μ-loop
 cast-lower c = search needs
 
 add-lower : tie.Need-add-lower Inv-loop μ-loop
-add-lower c = omega (arith, next-fits (c .before .before .before .before .pre) (c .before .before .before .loop .inv .0))
+add-lower c =
+    let start = c .before .before .before .before in
+    omega (arith, next-fits (start .pre) (c .before .before .before .loop .inv .0))
 
 mul-shared : tie.Need-mul-shared Inv-loop μ-loop
 mul-shared c = search needs

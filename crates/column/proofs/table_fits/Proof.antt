@@ -90,7 +90,8 @@ loop-again c =
 
 returns : tie.Need-returns Inv-loop μ-loop
 returns c =
-    let a = c .before .before .before .before .before .before .before .args in
+    let start = c .before .before .before .before .before .before .before in
+    let a = start .args in
     let l = c .before .loop in
     let done : l .j ≡ a .k + 1 = omega arith in
     let is : l .ok ≡ every (a .k + 1) (pairFits (a .table .now)) = l .inv .1 ∙ ap (λ (n : ℕ). every n (pairFits (a .table .now))) done in

@@ -11,7 +11,9 @@ slice-relend-prefix-read-full : tie.Need-slice-relend-prefix-read-full
 slice-relend-prefix-read-full c = search needs
 
 slice-aggregate-read-full : tie.Need-slice-aggregate-read-full
-slice-aggregate-read-full c = sym (length-take-le 1 (c .before .before .args .bytes .now) (omega (arith, c .before .before .pre)))
+slice-aggregate-read-full c =
+    let start = c .before .before in
+    sym (length-take-le 1 (start .args .bytes .now) (omega (arith, start .pre)))
 
 read-full-requires : tie.Need-read-full-requires
 read-full-requires c κs = search needs

@@ -46,8 +46,12 @@ rows-allow-requires c κs = search needs
 
 returns : tie.Need-returns
 returns c =
-    let a = c .before .before .before .before .before .before .before .before .before .before .before .before .args in
-    let south = c .before .before .before .before .before .cell-allows .ensures ∙ cell-allows (south-cell (a .w) (a .rows) (flowOf (a .f)) (c .before .before .before .before .before .before .before .air-sum .ensures) (c .before .before .before .before .before .before .air-sum2 .ensures)) (a .air .now) in
+    let start = c .before .before .before .before .before .before .before .before .before .before .before .before in
+    let air-sum = c .before .before .before .before .before .before .before .air-sum in
+    let air-sum2 = c .before .before .before .before .before .before .air-sum2 in
+    let cell-allows-here = c .before .before .before .before .before .cell-allows in
+    let a = start .args in
+    let south = cell-allows-here .ensures ∙ cell-allows (south-cell (a .w) (a .rows) (flowOf (a .f)) (air-sum .ensures) (air-sum2 .ensures)) (a .air .now) in
     let north = c .before .cell-allows2 .ensures ∙ cell-allows (north-cell (a .w) (a .rows) (flowOf (a .f)) (c .before .before .before .air-sum3 .ensures) (c .before .before .air-sum4 .ensures)) (a .air .now) in
     (λ i. south i && c .rows-allow .ensures i && north i) ∙ allowed-cells (a .w) (a .rows) (flowOf (a .f)) (a .air .now)
 

@@ -12,7 +12,9 @@ mismatches-requires : tie.Need-mismatches-requires
 mismatches-requires c κs = search needs
 
 pieces-of-requires : tie.Need-pieces-of-requires
-pieces-of-requires c κs = givers (c .before .before .before .before .pre) _ _ (c .before .ratios .ensures) (c .mismatches .ensures)
+pieces-of-requires c κs =
+    let start = c .before .before .before .before in
+    givers (start .pre) _ _ (c .before .ratios .ensures) (c .mismatches .ensures)
 
 returns : tie.Need-returns
 returns c = search needs

@@ -59,7 +59,10 @@ element-copy-out-row-gas-after-4 : tie.Need-element-copy-out-row-gas-after-4 Inv
 element-copy-out-row-gas-after-4 c = search needs
 
 row-gas-after-requires : tie.Need-row-gas-after-requires Inv-loop μ-loop
-row-gas-after-requires c κs = row-exchange (c .before .before .before .before .before .before .before .before .pre) (c .before .before .before .before .before .before .loop .inv .1) (omega arith)
+row-gas-after-requires c κs =
+    let start = c .before .before .before .before .before .before .before .before in
+    let loop = c .before .before .before .before .before .before .loop in
+    row-exchange (start .pre) (loop .inv .1) (omega arith)
 
 mul-gas : tie.Need-mul-gas Inv-loop μ-loop
 mul-gas c = search needs
@@ -84,8 +87,9 @@ same-length c = c .before .loop .inv .1 .long
 
 returns : tie.Need-returns Inv-loop μ-loop
 returns c =
+    let start = c .before .before .before in
     let l = c .before .loop in
-    let done : l .j ≡ c .before .before .before .args .rows * c .before .before .before .args .w = omega arith in
+    let done : l .j ≡ start .args .rows * start .args .w = omega arith in
     rw done at (l .inv .1)
 
 pub pass-rows-gas-spec : {M : Type 1} → statement M

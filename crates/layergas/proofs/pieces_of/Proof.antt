@@ -64,7 +64,11 @@ element-copy-out-high-given : tie.Need-element-copy-out-high-given Inv-loop μ-l
 element-copy-out-high-given c = search needs
 
 high-given-requires : tie.Need-high-given-requires Inv-loop μ-loop
-high-given-requires c κs = gives-high (c .before .before .before .before .before .before .before .before .before .before .pre) (c .before .before .before .before .before .before .before .loop .i) (omega arith) _ (c .before .before .before .before .before .south-of .ensures .0) _ refl
+high-given-requires c κs =
+    let start = c .before .before .before .before .before .before .before .before .before .before in
+    let loop = c .before .before .before .before .before .before .before .loop in
+    let south-of = c .before .before .before .before .before .south-of in
+    gives-high (start .pre) (loop .i) (omega arith) _ (south-of .ensures .0) _ refl
 
 mul-high : tie.Need-mul-high Inv-loop μ-loop
 mul-high c = search needs
@@ -97,7 +101,11 @@ element-copy-out-low-given : tie.Need-element-copy-out-low-given Inv-loop μ-loo
 element-copy-out-low-given c = search needs
 
 low-given-requires : tie.Need-low-given-requires Inv-loop μ-loop
-low-given-requires c κs = gives-low (c .before .before .before .before .before .before .before .before .before .before .before .before .before .before .before .pre) (c .before .before .before .before .before .before .before .before .before .before .before .before .loop .i) (omega arith) _ (c .before .before .before .before .before .before .before .before .before .north-of .ensures .0) _ refl
+low-given-requires c κs =
+    let start = c .before .before .before .before .before .before .before .before .before .before .before .before .before .before .before in
+    let loop = c .before .before .before .before .before .before .before .before .before .before .before .before .loop in
+    let north-of = c .before .before .before .before .before .before .before .before .before .north-of in
+    gives-low (start .pre) (loop .i) (omega arith) _ (north-of .ensures .0) _ refl
 
 mul-low : tie.Need-mul-low Inv-loop μ-loop
 mul-low c = search needs

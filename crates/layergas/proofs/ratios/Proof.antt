@@ -33,7 +33,9 @@ shared-slice-read-t10-2 : tie.Need-shared-slice-read-t10-2 Inv-loop μ-loop
 shared-slice-read-t10-2 c = search needs
 
 ratio-requires : tie.Need-ratio-requires Inv-loop μ-loop
-ratio-requires c κs = c .before .before .before .before .before .before .pre .some (c .before .before .before .loop .c) (omega arith)
+ratio-requires c κs =
+    let start = c .before .before .before .before .before .before in
+    start .pre .some (c .before .before .before .loop .c) (omega arith)
 
 mul-q : tie.Need-mul-q Inv-loop μ-loop
 mul-q c = search needs

@@ -10,13 +10,18 @@ layer-pieces-requires : tie.Need-layer-pieces-requires
 layer-pieces-requires c κs = search needs
 
 pass-gas-requires : tie.Need-pass-gas-requires
-pass-gas-requires c κs = gas-moves (c .before .before .before .before .before .pre) (c .before .layer-pieces .ensures)
+pass-gas-requires c κs =
+    let start = c .before .before .before .before .before in
+    gas-moves (start .pre) (c .before .layer-pieces .ensures)
 
 same-length : tie.Need-same-length
 same-length c = search needs
 
 returns : tie.Need-returns
-returns c = c .before .before .pass-gas .ensures ∙ same-after (c .before .before .before .before .before .before .before .before .pre) (c .before .before .before .before .layer-pieces .ensures)
+returns c =
+    let start = c .before .before .before .before .before .before .before .before in
+    let layer-pieces = c .before .before .before .before .layer-pieces in
+    c .before .before .pass-gas .ensures ∙ same-after (start .pre) (layer-pieces .ensures)
 
 pub step-layer-gas-spec : {M : Type 1} → statement M
 step-layer-gas-spec =

@@ -64,9 +64,12 @@ cast-first c = search needs
 
 layer-cells-requires : tie.Need-layer-cells-requires
 layer-cells-requires c κs =
-    let args = c .before .before .before .before .before .before .before .before .before .before .args in
+    let start = c .before .before .before .before .before .before .before .before .before .before in
+    let common-places = c .before .before .before .before .before .before .before .common-places in
+    let number = c .before .before .before .before .before .before .number in
+    let args = start .args in
     let w = worldOf (args .g) (args .air .now) (args .tracers .now) in
-    let passed = c .before .before .before .before .before .before .before .common-places .ensures .passed (sym (c .before .before .before .before .before .before .number .ensures) ∙ c .before .before .before .before .before .if1 .taken) in
+    let passed = common-places .ensures .passed (sym (number .ensures) ∙ c .before .before .before .before .before .if1 .taken) in
     let range = in-range (args .g) (passed .fits .grid) in
     range
 
@@ -78,9 +81,12 @@ add-end c = search needs
 
 flow-of-requires : tie.Need-flow-of-requires
 flow-of-requires c κs =
-    let args = c .before .before .before .before .before .before .before .before .before .before .before .args in
+    let start = c .before .before .before .before .before .before .before .before .before .before .before in
+    let common-places = c .before .before .before .before .before .before .before .before .common-places in
+    let number = c .before .before .before .before .before .before .before .number in
+    let args = start .args in
     let w = worldOf (args .g) (args .air .now) (args .tracers .now) in
-    let passed = c .before .before .before .before .before .before .before .before .common-places .ensures .passed (sym (c .before .before .before .before .before .before .before .number .ensures) ∙ c .before .before .before .before .before .before .if1 .taken) in
+    let passed = common-places .ensures .passed (sym (number .ensures) ∙ c .before .before .before .before .before .before .if1 .taken) in
     let range = in-range (args .g) (passed .fits .grid) in
     faces-few (args .g) range _ (eqb-true (length (args .fluxes .now)) _ (passed .lentFit))
 
@@ -95,13 +101,16 @@ part-layer-allowed-start c = search needs
 
 part-layer-allowed-end : tie.Need-part-layer-allowed-end
 part-layer-allowed-end c =
+    let common-places = c .before .before .before .before .before .before .before .before .before .common-places in
+    let number = c .before .before .before .before .before .before .before .before .number in
+    let layer-start = c .before .before .layer-start in
     let args = c .before .before .before .before .before .before .before .before .before .before .before .before .args in
     let w = worldOf (args .g) (args .air .now) (args .tracers .now) in
-    let passed = c .before .before .before .before .before .before .before .before .before .common-places .ensures .passed (sym (c .before .before .before .before .before .before .before .before .number .ensures) ∙ c .before .before .before .before .before .before .before .if1 .taken) in
+    let passed = common-places .ensures .passed (sym (number .ensures) ∙ c .before .before .before .before .before .before .before .if1 .taken) in
     let range = in-range (args .g) (passed .fits .grid) in
-    let start = c .before .before .layer-start .ensures in
+    let start = layer-start .ensures in
     let wide = c .before .layer-cells .ensures .0 in
-    let inside : c .before .before .layer-start .result + c .before .layer-cells .result ≤ length (args .air .now) = omega (arith, start .1, wide, passed .fits .airLength) in
+    let inside : layer-start .result + c .before .layer-cells .result ≤ length (args .air .now) = omega (arith, start .1, wide, passed .fits .airLength) in
     inside
 
 cast-layer-allowed : tie.Need-cast-layer-allowed
@@ -112,13 +121,17 @@ cast-layer-allowed-2 c = search needs
 
 layer-allowed-requires : tie.Need-layer-allowed-requires
 layer-allowed-requires c κs =
+    let common-places = c .before .before .before .before .before .before .before .before .before .before .before .before .common-places in
+    let number = c .before .before .before .before .before .before .before .before .before .before .before .number in
+    let layer-start = c .before .before .before .before .before .layer-start in
+    let layer-cells = c .before .before .before .before .layer-cells in
     let args = c .before .before .before .before .before .before .before .before .before .before .before .before .before .before .before .args in
     let w = worldOf (args .g) (args .air .now) (args .tracers .now) in
-    let passed = c .before .before .before .before .before .before .before .before .before .before .before .before .common-places .ensures .passed (sym (c .before .before .before .before .before .before .before .before .before .before .before .number .ensures) ∙ c .before .before .before .before .before .before .before .before .before .before .if1 .taken) in
+    let passed = common-places .ensures .passed (sym (number .ensures) ∙ c .before .before .before .before .before .before .before .before .before .before .if1 .taken) in
     let range = in-range (args .g) (passed .fits .grid) in
-    let start = c .before .before .before .before .before .layer-start .ensures in
-    let wide = c .before .before .before .before .layer-cells .ensures .0 in
-    let inside : c .before .before .before .before .before .layer-start .result + c .before .before .before .before .layer-cells .result ≤ length (args .air .now) = omega (arith, start .1, wide, passed .fits .airLength) in
+    let start = layer-start .ensures in
+    let wide = layer-cells .ensures .0 in
+    let inside : layer-start .result + layer-cells .result ≤ length (args .air .now) = omega (arith, start .1, wide, passed .fits .airLength) in
     part-over (args .g) range (args .air .now) _ _ wide inside
 
 no-layer-requires-4 : tie.Need-no-layer-requires-4

@@ -26,7 +26,8 @@ returns c = c .before .before .layer-place .ensures .refused (λ z. omega (arith
 
 layer-cells-requires : tie.Need-layer-cells-requires
 layer-cells-requires c κs =
-    let args = c .before .before .before .before .before .before .before .args in
+    let start = c .before .before .before .before .before .before .before in
+    let args = start .args in
     let zero = sym (c .before .number .ensures) ∙ c .if1 .taken in
     let found = c .before .before .layer-place .ensures .found zero in
     in-range (args .g) (found .fits .grid)
@@ -36,7 +37,8 @@ cast-end c = search needs
 
 add-end : tie.Need-add-end
 add-end c =
-    let args = c .before .before .before .before .before .before .before .before .args in
+    let start = c .before .before .before .before .before .before .before .before in
+    let args = start .args in
     let zero = sym (c .before .before .number .ensures) ∙ c .before .if1 .taken in
     let found = c .before .before .before .layer-place .ensures .found zero in
     let wide = c .layer-cells .ensures .0 in
@@ -44,16 +46,20 @@ add-end c =
 
 flow-of-requires : tie.Need-flow-of-requires
 flow-of-requires c κs =
-    let args = c .before .before .before .before .before .before .before .before .args in
+    let start = c .before .before .before .before .before .before .before .before in
+    let args = start .args in
     let zero = sym (c .before .before .number .ensures) ∙ c .before .if1 .taken in
     let found = c .before .before .before .layer-place .ensures .found zero in
     faces-few (args .g) (in-range (args .g) (found .fits .grid)) _ (found .long)
 
 mul-sweep-tracers : tie.Need-mul-sweep-tracers
 mul-sweep-tracers c =
-    let args = c .before .before .before .before .before .before .before .before .before .before .args in
-    let zero = sym (c .before .before .before .before .number .ensures) ∙ c .before .before .before .if1 .taken in
-    let found = c .before .before .before .before .before .layer-place .ensures .found zero in
+    let start = c .before .before .before .before .before .before .before .before .before .before in
+    let layer-place = c .before .before .before .before .before .layer-place in
+    let number = c .before .before .before .before .number in
+    let args = start .args in
+    let zero = sym (number .ensures) ∙ c .before .before .before .if1 .taken in
+    let found = layer-place .ensures .found zero in
     let wide = c .before .before .layer-cells .ensures .0 in
     omega (arith, layer-near (args .g) (args .air .now) (args .tracers .now) (args .layer) (args .fluxes .now) _ found _ wide)
 
@@ -65,26 +71,37 @@ part-sweep-tracers-start c = search needs
 
 part-sweep-tracers-end : tie.Need-part-sweep-tracers-end
 part-sweep-tracers-end c =
-    let args = c .before .before .before .before .before .before .before .before .before .before .before .args in
-    let zero = sym (c .before .before .before .before .before .number .ensures) ∙ c .before .before .before .before .if1 .taken in
-    let found = c .before .before .before .before .before .before .layer-place .ensures .found zero in
+    let start = c .before .before .before .before .before .before .before .before .before .before .before in
+    let layer-place = c .before .before .before .before .before .before .layer-place in
+    let number = c .before .before .before .before .before .number in
+    let args = start .args in
+    let zero = sym (number .ensures) ∙ c .before .before .before .before .if1 .taken in
+    let found = layer-place .ensures .found zero in
     let wide = c .before .before .before .layer-cells .ensures .0 in
     layer-in-air (args .g) (args .air .now) (args .tracers .now) (args .layer) (args .fluxes .now) _ found _ wide
 
 sweep-tracers-requires : tie.Need-sweep-tracers-requires
 sweep-tracers-requires c κs =
-    let args = c .before .before .before .before .before .before .before .before .before .before .before .before .args in
-    let zero = sym (c .before .before .before .before .before .before .number .ensures) ∙ c .before .before .before .before .before .if1 .taken in
-    let found = c .before .before .before .before .before .before .before .layer-place .ensures .found zero in
-    let wide = c .before .before .before .before .layer-cells .ensures .0 in
+    let start = c .before .before .before .before .before .before .before .before .before .before .before .before in
+    let layer-place = c .before .before .before .before .before .before .before .layer-place in
+    let number = c .before .before .before .before .before .before .number in
+    let layer-cells = c .before .before .before .before .layer-cells in
+    let args = start .args in
+    let zero = sym (number .ensures) ∙ c .before .before .before .before .before .if1 .taken in
+    let found = layer-place .ensures .found zero in
+    let wide = layer-cells .ensures .0 in
     tracers-need (args .g) (args .air .now) (args .tracers .now) (args .layer) (args .fluxes .now) _ found _ wide _ (c .before .before .before .flow-of .ensures)
 
 mul-step-layer-air : tie.Need-mul-step-layer-air
 mul-step-layer-air c =
-    let args = c .before .before .before .before .before .before .before .before .before .before .before .before .before .before .before .args in
-    let zero = sym (c .before .before .before .before .before .before .before .before .before .number .ensures) ∙ c .before .before .before .before .before .before .before .before .if1 .taken in
-    let found = c .before .before .before .before .before .before .before .before .before .before .layer-place .ensures .found zero in
-    let wide = c .before .before .before .before .before .before .before .layer-cells .ensures .0 in
+    let start = c .before .before .before .before .before .before .before .before .before .before .before .before .before .before .before in
+    let layer-place = c .before .before .before .before .before .before .before .before .before .before .layer-place in
+    let number = c .before .before .before .before .before .before .before .before .before .number in
+    let layer-cells = c .before .before .before .before .before .before .before .layer-cells in
+    let args = start .args in
+    let zero = sym (number .ensures) ∙ c .before .before .before .before .before .before .before .before .if1 .taken in
+    let found = layer-place .ensures .found zero in
+    let wide = layer-cells .ensures .0 in
     omega (arith, layer-near (args .g) (args .air .now) (args .tracers .now) (args .layer) (args .fluxes .now) _ found _ wide)
 
 sub-step-layer-air : tie.Need-sub-step-layer-air
@@ -95,10 +112,14 @@ part-step-layer-air-start c = search needs
 
 part-step-layer-air-end : tie.Need-part-step-layer-air-end
 part-step-layer-air-end c =
-    let args = c .before .before .before .before .before .before .before .before .before .before .before .before .before .before .before .args in
-    let zero = sym (c .before .before .before .before .before .before .before .before .before .number .ensures) ∙ c .before .before .before .before .before .before .before .before .if1 .taken in
-    let found = c .before .before .before .before .before .before .before .before .before .before .layer-place .ensures .found zero in
-    let wide = c .before .before .before .before .before .before .before .layer-cells .ensures .0 in
+    let start = c .before .before .before .before .before .before .before .before .before .before .before .before .before .before .before in
+    let layer-place = c .before .before .before .before .before .before .before .before .before .before .layer-place in
+    let number = c .before .before .before .before .before .before .before .before .before .number in
+    let layer-cells = c .before .before .before .before .before .before .before .layer-cells in
+    let args = start .args in
+    let zero = sym (number .ensures) ∙ c .before .before .before .before .before .before .before .before .if1 .taken in
+    let found = layer-place .ensures .found zero in
+    let wide = layer-cells .ensures .0 in
     layer-in-air (args .g) (args .air .now) (args .tracers .now) (args .layer) (args .fluxes .now) _ found _ wide
 
 cast-step-layer-air : tie.Need-cast-step-layer-air
@@ -109,11 +130,16 @@ cast-step-layer-air-2 c = search needs
 
 step-layer-air-requires : tie.Need-step-layer-air-requires
 step-layer-air-requires c κs =
-    let args = c .before .before .before .before .before .before .before .before .before .before .before .before .before .before .before .before .before .before .args in
-    let zero = sym (c .before .before .before .before .before .before .before .before .before .before .before .before .number .ensures) ∙ c .before .before .before .before .before .before .before .before .before .before .before .if1 .taken in
-    let found = c .before .before .before .before .before .before .before .before .before .before .before .before .before .layer-place .ensures .found zero in
-    let wide = c .before .before .before .before .before .before .before .before .before .before .layer-cells .ensures .0 in
-    air-need (args .g) (args .air .now) (args .tracers .now) (args .layer) (args .fluxes .now) _ found _ wide _ (c .before .before .before .before .before .before .before .before .before .flow-of .ensures)
+    let start = c .before .before .before .before .before .before .before .before .before .before .before .before .before .before .before .before .before .before in
+    let layer-place = c .before .before .before .before .before .before .before .before .before .before .before .before .before .layer-place in
+    let number = c .before .before .before .before .before .before .before .before .before .before .before .before .number in
+    let layer-cells = c .before .before .before .before .before .before .before .before .before .before .layer-cells in
+    let flow-of = c .before .before .before .before .before .before .before .before .before .flow-of in
+    let args = start .args in
+    let zero = sym (number .ensures) ∙ c .before .before .before .before .before .before .before .before .before .before .before .if1 .taken in
+    let found = layer-place .ensures .found zero in
+    let wide = layer-cells .ensures .0 in
+    air-need (args .g) (args .air .now) (args .tracers .now) (args .layer) (args .fluxes .now) _ found _ wide _ (flow-of .ensures)
 
 same-length-3 : tie.Need-same-length-3
 same-length-3 c = search needs
@@ -123,12 +149,18 @@ same-length-4 c = search needs
 
 returns-2 : tie.Need-returns-2
 returns-2 c =
-    let args = c .before .before .before .before .before .before .before .before .before .before .before .before .before .before .before .before .before .before .before .before .before .args in
-    let zero = sym (c .before .before .before .before .before .before .before .before .before .before .before .before .before .before .before .number .ensures) ∙ c .before .before .before .before .before .before .before .before .before .before .before .before .before .before .if1 .taken in
-    let found = c .before .before .before .before .before .before .before .before .before .before .before .before .before .before .before .before .layer-place .ensures .found zero in
-    let wide = c .before .before .before .before .before .before .before .before .before .before .before .before .before .layer-cells .ensures .0 in
-    rw (c .before .before .before .before .before .before .before .before .sweep-tracers .ensures)
-    (meridional-agrees (args .g) (args .air .now) (args .tracers .now) (args .layer) (args .fluxes .now) _ found _ wide _ (c .before .before .before .before .before .before .before .before .before .before .before .before .flow-of .ensures) _ _ refl refl (c .before .before .step-layer-air .ensures))
+    let start = c .before .before .before .before .before .before .before .before .before .before .before .before .before .before .before .before .before .before .before .before .before in
+    let layer-place = c .before .before .before .before .before .before .before .before .before .before .before .before .before .before .before .before .layer-place in
+    let number = c .before .before .before .before .before .before .before .before .before .before .before .before .before .before .before .number in
+    let layer-cells = c .before .before .before .before .before .before .before .before .before .before .before .before .before .layer-cells in
+    let flow-of = c .before .before .before .before .before .before .before .before .before .before .before .before .flow-of in
+    let sweep-tracers = c .before .before .before .before .before .before .before .before .sweep-tracers in
+    let args = start .args in
+    let zero = sym (number .ensures) ∙ c .before .before .before .before .before .before .before .before .before .before .before .before .before .before .if1 .taken in
+    let found = layer-place .ensures .found zero in
+    let wide = layer-cells .ensures .0 in
+    rw (sweep-tracers .ensures)
+    (meridional-agrees (args .g) (args .air .now) (args .tracers .now) (args .layer) (args .fluxes .now) _ found _ wide _ (flow-of .ensures) _ _ refl refl (c .before .before .step-layer-air .ensures))
 
 pub meridional-spec : {M : Type 1} → statement M
 meridional-spec =

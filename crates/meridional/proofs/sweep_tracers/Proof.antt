@@ -27,7 +27,9 @@ cast-wide : tie.Need-cast-wide Inv-loop μ-loop
 cast-wide c = search needs
 
 world-cells-requires : tie.Need-world-cells-requires Inv-loop μ-loop
-world-cells-requires c κs = c .before .before .before .before .pre .range
+world-cells-requires c κs =
+    let start = c .before .before .before .before in
+    start .pre .range
 
 cast-cells : tie.Need-cast-cells Inv-loop μ-loop
 cast-cells c = search needs
@@ -110,8 +112,9 @@ same-length c =
 
 returns : tie.Need-returns Inv-loop μ-loop
 returns c =
-    let args = c .before .before .before .before .before .before .before .args in
-    let need = c .before .before .before .before .before .before .before .pre in
+    let start = c .before .before .before .before .before .before .before in
+    let args = start .args in
+    let need = start .pre in
     let done : c .before .loop .t ≡ args .g .n = omega arith in
     swept-all (args .g) (args .tracers .now) (args .air .now) (flowOf (args .f)) (args .first) need _ (rw done at (c .before .loop .inv .1))
 

@@ -50,8 +50,9 @@ loop-again c =
 
 returns : tie.Need-returns Inv-loop μ-loop
 returns c =
+    let start = c .before .before in
     c .before .loop .inv .1 ∙
-    ap (λ (n : ℕ). every n (λ k. leb (natAbs (flux (c .before .before .args .fluxes .now) k)) (c .before .before .args .limit .0))) (omega arith)
+    ap (λ (n : ℕ). every n (λ k. leb (natAbs (flux (start .args .fluxes .now) k)) (start .args .limit .0))) (omega arith)
 
 pub fluxes-fit-spec : {M : Type 1} → statement M
 fluxes-fit-spec =

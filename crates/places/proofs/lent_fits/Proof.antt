@@ -29,7 +29,8 @@ add-result c = search needs
 
 mul-result : tie.Need-mul-result
 mul-result c =
-    let g = c .before .before .before .before .before .before .pre in
+    let start = c .before .before .before .before .before .before in
+    let g = start .pre in
     record { fits = omega (arith, mul-le-mul (g .highW) (g .highR), g .highW) }
 
 enum-known-lent-3 : tie.Need-enum-known-lent-3

@@ -15,29 +15,40 @@ abbrev μ-loop : tie.MeasureT-loop
 
 loop-holds : tie.Need-loop-holds Inv-loop μ-loop
 loop-holds c =
-    let lent = c .before .before .args in
-    upto-start (lent .air .now) (lent .table .now) (lent .cells) (lent .k) (c .before .before .pre)
+    let start = c .before .before in
+    let lent = start .args in
+    upto-start (lent .air .now) (lent .table .now) (lent .cells) (lent .k) (start .pre)
 
 load-column-requires : tie.Need-load-column-requires Inv-loop μ-loop
-load-column-requires c κs = load-need (c .before .before .before .before .pre) (c .before .loop .c) (omega arith)
+load-column-requires c κs =
+    let start = c .before .before .before .before in
+    load-need (start .pre) (c .before .loop .c) (omega arith)
 
 edges-serve-requires : tie.Need-edges-serve-requires Inv-loop μ-loop
-edges-serve-requires c κs = c .before .before .before .before .before .before .before .pre .fit
+edges-serve-requires c κs =
+    let start = c .before .before .before .before .before .before .before in
+    start .pre .fit
 
 returns : tie.Need-returns Inv-loop μ-loop
 returns c =
-    let lent = c .before .before .before .before .before .before .before .before .before .args in
-    not-served (lent .air .now) (lent .table .now) (lent .cells) (lent .k) (c .before .before .before .before .before .before .before .before .before .pre) (c .before .before .before .before .before .before .loop .c) (omega arith) _ _ (c .before .before .before .before .load-column .ensures) _ (c .before .edges-serve .ensures) (c .if1 .left)
+    let start = c .before .before .before .before .before .before .before .before .before in
+    let load-column = c .before .before .before .before .load-column in
+    let lent = start .args in
+    not-served (lent .air .now) (lent .table .now) (lent .cells) (lent .k) (start .pre) (c .before .before .before .before .before .before .loop .c) (omega arith) _ _ (load-column .ensures) _ (c .before .edges-serve .ensures) (c .if1 .left)
 
 pairs-requires : tie.Need-pairs-requires Inv-loop μ-loop
 pairs-requires c κs =
-    let lent = c .before .before .before .before .before .before .before .before .before .args in
-    spans-here (lent .air .now) (lent .table .now) (lent .cells) (lent .k) (c .before .before .before .before .before .before .before .before .before .pre) (c .before .before .before .before .before .before .loop .c) (omega arith) _ _ (c .before .before .before .before .load-column .ensures) _ (c .before .edges-serve .ensures) (c .if1 .taken)
+    let start = c .before .before .before .before .before .before .before .before .before in
+    let load-column = c .before .before .before .before .load-column in
+    let lent = start .args in
+    spans-here (lent .air .now) (lent .table .now) (lent .cells) (lent .k) (start .pre) (c .before .before .before .before .before .before .loop .c) (omega arith) _ _ (load-column .ensures) _ (c .before .edges-serve .ensures) (c .if1 .taken)
 
 add-count : tie.Need-add-count Inv-loop μ-loop
 add-count c =
-    let need = c .before .before .before .before .before .before .before .before .before .before .pre in
-    omega (arith, c .before .before .before .before .before .before .before .loop .inv .few, c .before .before .before .before .before .before .before .loop .inv .inside, need .few, c .pairs .ensures .most, need .fit)
+    let start = c .before .before .before .before .before .before .before .before .before .before in
+    let loop = c .before .before .before .before .before .before .before .loop in
+    let need = start .pre in
+    omega (arith, loop .inv .few, loop .inv .inside, need .few, c .pairs .ensures .most, need .fit)
 
 add-c : tie.Need-add-c Inv-loop μ-loop
 add-c c = search needs
@@ -47,13 +58,17 @@ loop-less c = search needs
 
 loop-again : tie.Need-loop-again Inv-loop μ-loop
 loop-again c =
-    let lent = c .before .before .before .before .before .before .before .before .before .before .args in
-    one-more (lent .air .now) (lent .table .now) (lent .cells) (lent .k) (c .before .before .before .before .before .before .before .before .before .before .pre) (c .before .before .before .before .before .before .before .loop .c) (omega arith) _ _ (c .before .before .before .before .before .load-column .ensures) _ (c .before .before .edges-serve .ensures) (c .before .if1 .taken) _ _ (c .before .before .before .before .before .before .before .loop .inv) (c .pairs .ensures)
+    let start = c .before .before .before .before .before .before .before .before .before .before in
+    let loop = c .before .before .before .before .before .before .before .loop in
+    let load-column = c .before .before .before .before .before .load-column in
+    let lent = start .args in
+    one-more (lent .air .now) (lent .table .now) (lent .cells) (lent .k) (start .pre) (c .before .before .before .before .before .before .before .loop .c) (omega arith) _ _ (load-column .ensures) _ (c .before .before .edges-serve .ensures) (c .before .if1 .taken) _ _ (loop .inv) (c .pairs .ensures)
 
 returns-2 : tie.Need-returns-2 Inv-loop μ-loop
 returns-2 c =
-    let lent = c .before .before .before .before .args in
-    all-served (lent .air .now) (lent .table .now) (lent .cells) (lent .k) (c .before .before .before .before .pre) _ _ (c .before .loop .inv) (omega arith)
+    let start = c .before .before .before .before in
+    let lent = start .args in
+    all-served (lent .air .now) (lent .table .now) (lent .cells) (lent .k) (start .pre) _ _ (c .before .loop .inv) (omega arith)
 
 pub columns-serve-spec : {M : Type 1} → statement M
 columns-serve-spec =

@@ -16,7 +16,8 @@ edges-requires c κs = search needs
 
 returns : tie.Need-returns
 returns c =
-    column-is (c .before .before .before .before .before .pre) _ (c .before .before .load-air .ensures) (c .before .air-sum .ensures) (c .edges .ensures)
+    let start = c .before .before .before .before .before in
+    column-is (start .pre) _ (c .before .before .load-air .ensures) (c .before .air-sum .ensures) (c .edges .ensures)
 
 pub load-column-spec : {M : Type 1} → statement M
 load-column-spec = tie.close (tie.spec load-air-requires air-sum-requires edges-requires returns)

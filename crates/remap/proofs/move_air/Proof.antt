@@ -16,23 +16,29 @@ abbrev μ-loop : tie.MeasureT-loop
 
 loop-holds : tie.Need-loop-holds Inv-loop μ-loop
 loop-holds c =
-    let lent = c .before .before .args in
-    upto-none (lent .k) (lent .cells) (airNew (lent .k) (lent .cells) (lent .table .now) (lent .air .now)) (lent .air .now) (c .before .before .pre .columns .long)
+    let start = c .before .before in
+    let lent = start .args in
+    upto-none (lent .k) (lent .cells) (airNew (lent .k) (lent .cells) (lent .table .now) (lent .air .now)) (lent .air .now) (start .pre .columns .long)
 
 load-column-requires : tie.Need-load-column-requires Inv-loop μ-loop
 load-column-requires c κs =
-    let lent = c .before .before .before .before .before .args in
-    air-load (lent .air .now) (lent .table .now) (lent .cells) (lent .k) (c .before .before .before .before .before .pre) (c .before .before .loop .c) (omega arith) (c .before .before .loop .air) (c .before .before .loop .inv)
+    let start = c .before .before .before .before .before in
+    let lent = start .args in
+    air-load (lent .air .now) (lent .table .now) (lent .cells) (lent .k) (start .pre) (c .before .before .loop .c) (omega arith) (c .before .before .loop .air) (c .before .before .loop .inv)
 
 new-air-requires : tie.Need-new-air-requires Inv-loop μ-loop
 new-air-requires c κs =
-    let lent = c .before .before .before .before .before .before .before .args in
-    air-served (lent .air .now) (lent .table .now) (lent .cells) (lent .k) (c .before .before .before .before .before .before .before .pre) (c .before .before .before .before .loop .c) (omega arith) (c .before .before .before .before .loop .air) (c .before .before .before .before .loop .inv) _ _ (c .before .load-column .ensures)
+    let start = c .before .before .before .before .before .before .before in
+    let loop = c .before .before .before .before .loop in
+    let lent = start .args in
+    air-served (lent .air .now) (lent .table .now) (lent .cells) (lent .k) (start .pre) (c .before .before .before .before .loop .c) (omega arith) (c .before .before .before .before .loop .air) (loop .inv) _ _ (c .before .load-column .ensures)
 
 store-air-requires : tie.Need-store-air-requires Inv-loop μ-loop
 store-air-requires c κs =
-    let lent = c .before .before .before .before .before .before .before .before .before .args in
-    air-room (lent .air .now) (lent .table .now) (lent .cells) (lent .k) (c .before .before .before .before .before .before .before .before .before .pre) (c .before .before .before .before .before .before .loop .c) (omega arith) (c .before .before .before .before .before .before .loop .air) (c .before .before .before .before .before .before .loop .inv)
+    let start = c .before .before .before .before .before .before .before .before .before in
+    let loop = c .before .before .before .before .before .before .loop in
+    let lent = start .args in
+    air-room (lent .air .now) (lent .table .now) (lent .cells) (lent .k) (start .pre) (c .before .before .before .before .before .before .loop .c) (omega arith) (c .before .before .before .before .before .before .loop .air) (loop .inv)
 
 add-c : tie.Need-add-c Inv-loop μ-loop
 add-c c = search needs
@@ -42,16 +48,21 @@ loop-less c = search needs
 
 loop-again : tie.Need-loop-again Inv-loop μ-loop
 loop-again c =
-    let lent = c .before .before .before .before .before .before .before .before .before .before .before .before .args in
-    air-more (lent .air .now) (lent .table .now) (lent .cells) (lent .k) (c .before .before .before .before .before .before .before .before .before .before .before .before .pre) (c .before .before .before .before .before .before .before .before .before .loop .c) (omega arith) (c .before .before .before .before .before .before .before .before .before .loop .air) (c .before .before .before .before .before .before .before .before .before .loop .inv) _ _ (c .before .before .before .before .before .before .load-column .ensures) _ _ (c .before .before .before .before .new-air .ensures) (c .before .before .store-air .ensures)
+    let start = c .before .before .before .before .before .before .before .before .before .before .before .before in
+    let loop = c .before .before .before .before .before .before .before .before .before .loop in
+    let load-column = c .before .before .before .before .before .before .load-column in
+    let new-air = c .before .before .before .before .new-air in
+    let lent = start .args in
+    air-more (lent .air .now) (lent .table .now) (lent .cells) (lent .k) (start .pre) (c .before .before .before .before .before .before .before .before .before .loop .c) (omega arith) (c .before .before .before .before .before .before .before .before .before .loop .air) (loop .inv) _ _ (load-column .ensures) _ _ (new-air .ensures) (c .before .before .store-air .ensures)
 
 same-length : tie.Need-same-length Inv-loop μ-loop
 same-length c = c .before .loop .inv .long
 
 returns : tie.Need-returns Inv-loop μ-loop
 returns c =
-    let need = c .before .before .before .before .pre in
-    let lent = c .before .before .before .before .args in
+    let start = c .before .before .before .before in
+    let need = start .pre in
+    let lent = start .args in
     upto-all (lent .k) (lent .cells) (airNew (lent .k) (lent .cells) (lent .table .now) (lent .air .now)) (lent .air .now) (need .columns .long) (need .some) (c .before .loop .c) (c .before .loop .air) (omega arith) (c .before .loop .inv)
 
 pub move-air-spec : {M : Type 1} → statement M

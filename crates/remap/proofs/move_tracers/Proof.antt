@@ -22,28 +22,33 @@ loop-holds c =
 
 mul-a : tie.Need-mul-a Inv-loop μ-loop
 mul-a c =
-    let lent = c .before .before .before .before .before .args in
-    omega (arith, tracer-room (lent .tracers .now) (lent .air .now) (lent .table .now) (lent .cells) (lent .k) (lent .n) (c .before .before .before .before .before .pre) (c .before .loop .t) (omega arith) .1)
+    let start = c .before .before .before .before .before in
+    let lent = start .args in
+    omega (arith, tracer-room (lent .tracers .now) (lent .air .now) (lent .table .now) (lent .cells) (lent .k) (lent .n) (start .pre) (c .before .loop .t) (omega arith) .1)
 
 mul-a-2 : tie.Need-mul-a-2 Inv-loop μ-loop
 mul-a-2 c =
-    let lent = c .before .before .before .before .before .args in
-    omega (arith, tracer-room (lent .tracers .now) (lent .air .now) (lent .table .now) (lent .cells) (lent .k) (lent .n) (c .before .before .before .before .before .pre) (c .before .loop .t) (omega arith) .1)
+    let start = c .before .before .before .before .before in
+    let lent = start .args in
+    omega (arith, tracer-room (lent .tracers .now) (lent .air .now) (lent .table .now) (lent .cells) (lent .k) (lent .n) (start .pre) (c .before .loop .t) (omega arith) .1)
 
 mul-e : tie.Need-mul-e Inv-loop μ-loop
 mul-e c =
-    let lent = c .before .before .before .before .before .args in
-    omega (arith, tracer-room (lent .tracers .now) (lent .air .now) (lent .table .now) (lent .cells) (lent .k) (lent .n) (c .before .before .before .before .before .pre) (c .before .loop .t) (omega arith) .1)
+    let start = c .before .before .before .before .before in
+    let lent = start .args in
+    omega (arith, tracer-room (lent .tracers .now) (lent .air .now) (lent .table .now) (lent .cells) (lent .k) (lent .n) (start .pre) (c .before .loop .t) (omega arith) .1)
 
 add-e : tie.Need-add-e Inv-loop μ-loop
 add-e c =
-    let lent = c .before .before .before .before .before .args in
-    omega (arith, tracer-room (lent .tracers .now) (lent .air .now) (lent .table .now) (lent .cells) (lent .k) (lent .n) (c .before .before .before .before .before .pre) (c .before .loop .t) (omega arith) .1)
+    let start = c .before .before .before .before .before in
+    let lent = start .args in
+    omega (arith, tracer-room (lent .tracers .now) (lent .air .now) (lent .table .now) (lent .cells) (lent .k) (lent .n) (start .pre) (c .before .loop .t) (omega arith) .1)
 
 mul-move-tracer : tie.Need-mul-move-tracer Inv-loop μ-loop
 mul-move-tracer c =
-    let lent = c .before .before .before .before .before .args in
-    omega (arith, tracer-room (lent .tracers .now) (lent .air .now) (lent .table .now) (lent .cells) (lent .k) (lent .n) (c .before .before .before .before .before .pre) (c .before .loop .t) (omega arith) .1)
+    let start = c .before .before .before .before .before in
+    let lent = start .args in
+    omega (arith, tracer-room (lent .tracers .now) (lent .air .now) (lent .table .now) (lent .cells) (lent .k) (lent .n) (start .pre) (c .before .loop .t) (omega arith) .1)
 
 sub-move-tracer : tie.Need-sub-move-tracer Inv-loop μ-loop
 sub-move-tracer c = search needs
@@ -53,14 +58,16 @@ part-move-tracer-start c = search needs
 
 part-move-tracer-end : tie.Need-part-move-tracer-end Inv-loop μ-loop
 part-move-tracer-end c =
-    let need = c .before .before .before .before .before .pre in
-    let lent = c .before .before .before .before .before .args in
+    let start = c .before .before .before .before .before in
+    let need = start .pre in
+    let lent = start .args in
     omega (arith, tracer-room (lent .tracers .now) (lent .air .now) (lent .table .now) (lent .cells) (lent .k) (lent .n) (need) (c .before .loop .t) (omega arith) .0, ap length (c .before .loop .inv .1), length-up-to (lent .tracers .now) (lent .air .now) (lent .table .now) (lent .cells) (lent .k) (lent .n) (need) (c .before .loop .t) (omega arith))
 
 move-tracer-requires : tie.Need-move-tracer-requires Inv-loop μ-loop
 move-tracer-requires c κs =
-    let lent = c .before .before .before .before .before .before .args in
-    tracer-need (lent .tracers .now) (lent .air .now) (lent .table .now) (lent .cells) (lent .k) (lent .n) (c .before .before .before .before .before .before .pre) (c .before .before .loop .t) (omega arith) (c .before .before .loop .tracers) (c .before .before .loop .inv .1)
+    let start = c .before .before .before .before .before .before in
+    let lent = start .args in
+    tracer-need (lent .tracers .now) (lent .air .now) (lent .table .now) (lent .cells) (lent .k) (lent .n) (start .pre) (c .before .before .loop .t) (omega arith) (c .before .before .loop .tracers) (c .before .before .loop .inv .1)
 
 add-t : tie.Need-add-t Inv-loop μ-loop
 add-t c = search needs
@@ -75,13 +82,15 @@ loop-again c =
 
 same-length : tie.Need-same-length Inv-loop μ-loop
 same-length c =
-    let lent = c .before .before .before .before .before .args in
-    ap length (c .before .loop .inv .1) ∙ length-up-to (lent .tracers .now) (lent .air .now) (lent .table .now) (lent .cells) (lent .k) (lent .n) (c .before .before .before .before .before .pre) (c .before .loop .t) (omega arith)
+    let start = c .before .before .before .before .before in
+    let lent = start .args in
+    ap length (c .before .loop .inv .1) ∙ length-up-to (lent .tracers .now) (lent .air .now) (lent .table .now) (lent .cells) (lent .k) (lent .n) (start .pre) (c .before .loop .t) (omega arith)
 
 returns : tie.Need-returns Inv-loop μ-loop
 returns c =
-    let lent = c .before .before .before .before .before .args in
-    moved-all (lent .tracers .now) (lent .air .now) (lent .table .now) (lent .cells) (lent .k) (lent .n) (c .before .before .before .before .before .pre) (c .before .loop .t) (c .before .loop .tracers) (omega arith) (c .before .loop .inv .1)
+    let start = c .before .before .before .before .before in
+    let lent = start .args in
+    moved-all (lent .tracers .now) (lent .air .now) (lent .table .now) (lent .cells) (lent .k) (lent .n) (start .pre) (c .before .loop .t) (c .before .loop .tracers) (omega arith) (c .before .loop .inv .1)
 
 pub move-tracers-spec : {M : Type 1} → statement M
 move-tracers-spec =

@@ -25,7 +25,9 @@ returns : tie.Need-returns
 returns c = c .before .before .remap-place .ensures .refused (λ z. omega (arith, c .before .number .ensures))
 
 layer-cells-requires : tie.Need-layer-cells-requires
-layer-cells-requires c κs = in-range (c .before .before .before .before .before .before .before .before .args .g) ((c .before .before .remap-place .ensures .found (sym (c .before .number .ensures) ∙ c .if1 .taken)) .fits .grid)
+layer-cells-requires c κs =
+    let start = c .before .before .before .before .before .before .before .before in
+    in-range (start .args .g) ((c .before .before .remap-place .ensures .found (sym (c .before .number .ensures) ∙ c .if1 .taken)) .fits .grid)
 
 cast-cells : tie.Need-cast-cells
 cast-cells c = search needs
@@ -38,13 +40,21 @@ cast-n c = search needs
 
 move-tracers-requires : tie.Need-move-tracers-requires
 move-tracers-requires c κs =
-    let lent = c .before .before .before .before .before .before .before .before .before .before .before .before .before .args in
-    tracers-need (lent .g) (lent .air .now) (lent .tracers .now) (lent .table .now) _ (c .before .before .before .before .before .before .before .remap-place .ensures .found (sym (c .before .before .before .before .before .before .number .ensures) ∙ c .before .before .before .before .before .if1 .taken)) _ (c .before .before .before .before .layer-cells .ensures .0) (c .before .before .before .before .layer-cells .ensures .1)
+    let start = c .before .before .before .before .before .before .before .before .before .before .before .before .before in
+    let remap-place = c .before .before .before .before .before .before .before .remap-place in
+    let number = c .before .before .before .before .before .before .number in
+    let layer-cells = c .before .before .before .before .layer-cells in
+    let lent = start .args in
+    tracers-need (lent .g) (lent .air .now) (lent .tracers .now) (lent .table .now) _ (remap-place .ensures .found (sym (number .ensures) ∙ c .before .before .before .before .before .if1 .taken)) _ (layer-cells .ensures .0) (layer-cells .ensures .1)
 
 move-air-requires : tie.Need-move-air-requires
 move-air-requires c κs =
-    let lent = c .before .before .before .before .before .before .before .before .before .before .before .before .before .before .before .before .before .args in
-    air-need (lent .g) (lent .air .now) (lent .tracers .now) (lent .table .now) _ (c .before .before .before .before .before .before .before .before .before .before .before .remap-place .ensures .found (sym (c .before .before .before .before .before .before .before .before .before .before .number .ensures) ∙ c .before .before .before .before .before .before .before .before .before .if1 .taken)) _ (c .before .before .before .before .before .before .before .before .layer-cells .ensures .0) (c .before .before .before .before .before .before .before .before .layer-cells .ensures .1)
+    let start = c .before .before .before .before .before .before .before .before .before .before .before .before .before .before .before .before .before in
+    let remap-place = c .before .before .before .before .before .before .before .before .before .before .before .remap-place in
+    let number = c .before .before .before .before .before .before .before .before .before .before .number in
+    let layer-cells = c .before .before .before .before .before .before .before .before .layer-cells in
+    let lent = start .args in
+    air-need (lent .g) (lent .air .now) (lent .tracers .now) (lent .table .now) _ (remap-place .ensures .found (sym (number .ensures) ∙ c .before .before .before .before .before .before .before .before .before .if1 .taken)) _ (layer-cells .ensures .0) (layer-cells .ensures .1)
 
 same-length-3 : tie.Need-same-length-3
 same-length-3 c = search needs
@@ -54,8 +64,13 @@ same-length-4 c = search needs
 
 returns-2 : tie.Need-returns-2
 returns-2 c =
-    let lent = c .before .before .before .before .before .before .before .before .before .before .before .before .before .before .before .before .before .before .before .before .args in
-    remap-agrees (lent .g) (lent .air .now) (lent .tracers .now) (lent .table .now) _ (c .before .before .before .before .before .before .before .before .before .before .before .before .before .before .remap-place .ensures .found (sym (c .before .before .before .before .before .before .before .before .before .before .before .before .before .number .ensures) ∙ c .before .before .before .before .before .before .before .before .before .before .before .before .if1 .taken)) _ (c .before .before .before .before .before .before .before .before .before .before .before .layer-cells .ensures .0) (c .before .before .before .before .before .before .before .before .before .before .before .layer-cells .ensures .1) _ _ (sym (c .before .before .before .before .before .before .before .before .before .before .before .before .before .number .ensures) ∙ c .before .before .before .before .before .before .before .before .before .before .before .before .if1 .taken) (c .before .before .move-air .ensures) (c .before .before .before .before .before .before .move-tracers .ensures)
+    let start = c .before .before .before .before .before .before .before .before .before .before .before .before .before .before .before .before .before .before .before .before in
+    let remap-place = c .before .before .before .before .before .before .before .before .before .before .before .before .before .before .remap-place in
+    let number = c .before .before .before .before .before .before .before .before .before .before .before .before .before .number in
+    let layer-cells = c .before .before .before .before .before .before .before .before .before .before .before .layer-cells in
+    let move-tracers = c .before .before .before .before .before .before .move-tracers in
+    let lent = start .args in
+    remap-agrees (lent .g) (lent .air .now) (lent .tracers .now) (lent .table .now) _ (remap-place .ensures .found (sym (number .ensures) ∙ c .before .before .before .before .before .before .before .before .before .before .before .before .if1 .taken)) _ (layer-cells .ensures .0) (layer-cells .ensures .1) _ _ (sym (number .ensures) ∙ c .before .before .before .before .before .before .before .before .before .before .before .before .if1 .taken) (c .before .before .move-air .ensures) (move-tracers .ensures)
 
 pub remap-spec : {M : Type 1} → statement M
 remap-spec =

@@ -19,7 +19,8 @@ number-requires c κs = search needs
 
 returns : tie.Need-returns
 returns c =
-    let lent = c .before .before .before .before .before .before .args in
+    let start = c .before .before .before .before .before .before in
+    let lent = start .args in
     place-common (worldOf (lent .g) (lent .air .now) (lent .tracers .now)) (lent .table .now) _ _ (c .before .before .common-places .ensures) (λ z. omega (arith, c .before .number .ensures))
 
 cast-k : tie.Need-cast-k
@@ -27,43 +28,64 @@ cast-k c = search needs
 
 table-fits-requires : tie.Need-table-fits-requires
 table-fits-requires c κs =
+    let start = c .before .before .before .before .before .before .before in
     let tested = c .before .before .before .common-places .ensures .passed (sym (c .before .before .number .ensures) ∙ c .before .if1 .taken) in
-    (in-range (c .before .before .before .before .before .before .before .args .g) (tested .fits .grid) .highK, eqb-true _ _ (tested .lentFit))
+    (in-range (start .args .g) (tested .fits .grid) .highK, eqb-true _ _ (tested .lentFit))
 
 returns-2 : tie.Need-returns-2
 returns-2 c =
-    let lent = c .before .before .before .before .before .before .before .before .before .args in
-    let tested = c .before .before .before .before .before .common-places .ensures .passed (sym (c .before .before .before .before .number .ensures) ∙ c .before .before .before .if1 .taken) in
+    let start = c .before .before .before .before .before .before .before .before .before in
+    let common-places = c .before .before .before .before .before .common-places in
+    let number = c .before .before .before .before .number in
+    let lent = start .args in
+    let tested = common-places .ensures .passed (sym (number .ensures) ∙ c .before .before .before .if1 .taken) in
     place-refused (worldOf (lent .g) (lent .air .now) (lent .tracers .now)) (lent .table .now) Table (λ z. omega arith) (no-table (worldOf (lent .g) (lent .air .now) (lent .tracers .now)) (tested .fits) (lent .table .now) (tested .lentFit) (sym (c .before .table-fits .ensures) ∙ c .if2 .left))
 
 layer-cells-requires : tie.Need-layer-cells-requires
-layer-cells-requires c κs = in-range (c .before .before .before .before .before .before .before .before .before .args .g) ((c .before .before .before .before .before .common-places .ensures .passed (sym (c .before .before .before .before .number .ensures) ∙ c .before .before .before .if1 .taken)) .fits .grid)
+layer-cells-requires c κs =
+    let start = c .before .before .before .before .before .before .before .before .before in
+    let common-places = c .before .before .before .before .before .common-places in
+    let number = c .before .before .before .before .number in
+    in-range (start .args .g) ((common-places .ensures .passed (sym (number .ensures) ∙ c .before .before .before .if1 .taken)) .fits .grid)
 
 cast-cells : tie.Need-cast-cells
 cast-cells c = search needs
 
 columns-serve-requires : tie.Need-columns-serve-requires
 columns-serve-requires c κs =
-    let lent = c .before .before .before .before .before .before .before .before .before .before .args in
-    let tested = c .before .before .before .before .before .before .common-places .ensures .passed (sym (c .before .before .before .before .before .number .ensures) ∙ c .before .before .before .before .if1 .taken) in
+    let start = c .before .before .before .before .before .before .before .before .before .before in
+    let common-places = c .before .before .before .before .before .before .common-places in
+    let number = c .before .before .before .before .before .number in
+    let lent = start .args in
+    let tested = common-places .ensures .passed (sym (number .ensures) ∙ c .before .before .before .before .if1 .taken) in
     columns-need (lent .g) (lent .air .now) (lent .tracers .now) (lent .table .now) _ (c .layer-cells .ensures .0) (c .layer-cells .ensures .1) (tested .fits) (tested .lentFit) (sym (c .before .before .table-fits .ensures) ∙ c .before .if2 .taken)
 
 returns-3 : tie.Need-returns-3
 returns-3 c =
-    let lent = c .before .before .before .before .before .before .before .before .before .before .before .before .args in
-    let tested = c .before .before .before .before .before .before .before .before .common-places .ensures .passed (sym (c .before .before .before .before .before .before .before .number .ensures) ∙ c .before .before .before .before .before .before .if1 .taken) in
-    place-refused (worldOf (lent .g) (lent .air .now) (lent .tracers .now)) (lent .table .now) Remap (λ z. omega arith) (not-serving (worldOf (lent .g) (lent .air .now) (lent .tracers .now)) (tested .fits) (lent .table .now) (tested .lentFit) (sym (c .before .before .before .before .table-fits .ensures) ∙ c .before .before .before .if2 .taken) (sym (serves-is (lent .g) (lent .air .now) (lent .tracers .now) (lent .table .now) _ (c .before .before .layer-cells .ensures .0) (c .before .before .layer-cells .ensures .1) (tested .fits) (tested .lentFit) (sym (c .before .before .before .before .table-fits .ensures) ∙ c .before .before .before .if2 .taken) _ _ (c .before .columns-serve .ensures)) ∙ c .if3 .left))
+    let start = c .before .before .before .before .before .before .before .before .before .before .before .before in
+    let common-places = c .before .before .before .before .before .before .before .before .common-places in
+    let number = c .before .before .before .before .before .before .before .number in
+    let table-fits = c .before .before .before .before .table-fits in
+    let layer-cells = c .before .before .layer-cells in
+    let lent = start .args in
+    let tested = common-places .ensures .passed (sym (number .ensures) ∙ c .before .before .before .before .before .before .if1 .taken) in
+    place-refused (worldOf (lent .g) (lent .air .now) (lent .tracers .now)) (lent .table .now) Remap (λ z. omega arith) (not-serving (worldOf (lent .g) (lent .air .now) (lent .tracers .now)) (tested .fits) (lent .table .now) (tested .lentFit) (sym (table-fits .ensures) ∙ c .before .before .before .if2 .taken) (sym (serves-is (lent .g) (lent .air .now) (lent .tracers .now) (lent .table .now) _ (layer-cells .ensures .0) (layer-cells .ensures .1) (tested .fits) (tested .lentFit) (sym (table-fits .ensures) ∙ c .before .before .before .if2 .taken) _ _ (c .before .columns-serve .ensures)) ∙ c .if3 .left))
 
 returns-4 : tie.Need-returns-4
 returns-4 c =
-    let lent = c .before .before .before .before .before .before .before .before .before .before .before .before .args in
+    let start = c .before .before .before .before .before .before .before .before .before .before .before .before in
+    let common-places = c .before .before .before .before .before .before .before .before .common-places in
+    let number = c .before .before .before .before .before .before .before .number in
+    let table-fits = c .before .before .before .before .table-fits in
+    let layer-cells = c .before .before .layer-cells in
+    let lent = start .args in
     place-found (worldOf (lent .g) (lent .air .now) (lent .tracers .now)) (lent .table .now) _
     record {
-      fits = (c .before .before .before .before .before .before .before .before .common-places .ensures .passed (sym (c .before .before .before .before .before .before .before .number .ensures) ∙ c .before .before .before .before .before .before .if1 .taken)) .fits;
-      pairs = eqb-true _ _ ((c .before .before .before .before .before .before .before .before .common-places .ensures .passed (sym (c .before .before .before .before .before .before .before .number .ensures) ∙ c .before .before .before .before .before .before .if1 .taken)) .lentFit);
-      tableFit = (sym (c .before .before .before .before .table-fits .ensures) ∙ c .before .before .before .if2 .taken);
-      counted = count-is (c .before .before .before .before .before .before .before .before .before .before .before .before .args .g) (c .before .before .before .before .before .before .before .before .before .before .before .before .args .air .now) (c .before .before .before .before .before .before .before .before .before .before .before .before .args .tracers .now) (c .before .before .before .before .before .before .before .before .before .before .before .before .args .table .now) _ (c .before .before .layer-cells .ensures .0) (c .before .before .layer-cells .ensures .1) ((c .before .before .before .before .before .before .before .before .common-places .ensures .passed (sym (c .before .before .before .before .before .before .before .number .ensures) ∙ c .before .before .before .before .before .before .if1 .taken)) .fits) ((c .before .before .before .before .before .before .before .before .common-places .ensures .passed (sym (c .before .before .before .before .before .before .before .number .ensures) ∙ c .before .before .before .before .before .before .if1 .taken)) .lentFit) (sym (c .before .before .before .before .table-fits .ensures) ∙ c .before .before .before .if2 .taken) _ _ (c .before .columns-serve .ensures) (c .if3 .taken);
-      accepting = remap-accepted (worldOf (c .before .before .before .before .before .before .before .before .before .before .before .before .args .g) (c .before .before .before .before .before .before .before .before .before .before .before .before .args .air .now) (c .before .before .before .before .before .before .before .before .before .before .before .before .args .tracers .now)) ((c .before .before .before .before .before .before .before .before .common-places .ensures .passed (sym (c .before .before .before .before .before .before .before .number .ensures) ∙ c .before .before .before .before .before .before .if1 .taken)) .fits) (c .before .before .before .before .before .before .before .before .before .before .before .before .args .table .now) ((c .before .before .before .before .before .before .before .before .common-places .ensures .passed (sym (c .before .before .before .before .before .before .before .number .ensures) ∙ c .before .before .before .before .before .before .if1 .taken)) .lentFit) (sym (c .before .before .before .before .table-fits .ensures) ∙ c .before .before .before .if2 .taken) (sym (serves-is (c .before .before .before .before .before .before .before .before .before .before .before .before .args .g) (c .before .before .before .before .before .before .before .before .before .before .before .before .args .air .now) (c .before .before .before .before .before .before .before .before .before .before .before .before .args .tracers .now) (c .before .before .before .before .before .before .before .before .before .before .before .before .args .table .now) _ (c .before .before .layer-cells .ensures .0) (c .before .before .layer-cells .ensures .1) ((c .before .before .before .before .before .before .before .before .common-places .ensures .passed (sym (c .before .before .before .before .before .before .before .number .ensures) ∙ c .before .before .before .before .before .before .if1 .taken)) .fits) ((c .before .before .before .before .before .before .before .before .common-places .ensures .passed (sym (c .before .before .before .before .before .before .before .number .ensures) ∙ c .before .before .before .before .before .before .if1 .taken)) .lentFit) (sym (c .before .before .before .before .table-fits .ensures) ∙ c .before .before .before .if2 .taken) _ _ (c .before .columns-serve .ensures)) ∙ c .if3 .taken);
+      fits = (common-places .ensures .passed (sym (number .ensures) ∙ c .before .before .before .before .before .before .if1 .taken)) .fits;
+      pairs = eqb-true _ _ ((common-places .ensures .passed (sym (number .ensures) ∙ c .before .before .before .before .before .before .if1 .taken)) .lentFit);
+      tableFit = (sym (table-fits .ensures) ∙ c .before .before .before .if2 .taken);
+      counted = count-is (start .args .g) (start .args .air .now) (start .args .tracers .now) (start .args .table .now) _ (layer-cells .ensures .0) (layer-cells .ensures .1) ((common-places .ensures .passed (sym (number .ensures) ∙ c .before .before .before .before .before .before .if1 .taken)) .fits) ((common-places .ensures .passed (sym (number .ensures) ∙ c .before .before .before .before .before .before .if1 .taken)) .lentFit) (sym (table-fits .ensures) ∙ c .before .before .before .if2 .taken) _ _ (c .before .columns-serve .ensures) (c .if3 .taken);
+      accepting = remap-accepted (worldOf (start .args .g) (start .args .air .now) (start .args .tracers .now)) ((common-places .ensures .passed (sym (number .ensures) ∙ c .before .before .before .before .before .before .if1 .taken)) .fits) (start .args .table .now) ((common-places .ensures .passed (sym (number .ensures) ∙ c .before .before .before .before .before .before .if1 .taken)) .lentFit) (sym (table-fits .ensures) ∙ c .before .before .before .if2 .taken) (sym (serves-is (start .args .g) (start .args .air .now) (start .args .tracers .now) (start .args .table .now) _ (layer-cells .ensures .0) (layer-cells .ensures .1) ((common-places .ensures .passed (sym (number .ensures) ∙ c .before .before .before .before .before .before .if1 .taken)) .fits) ((common-places .ensures .passed (sym (number .ensures) ∙ c .before .before .before .before .before .before .if1 .taken)) .lentFit) (sym (table-fits .ensures) ∙ c .before .before .before .if2 .taken) _ _ (c .before .columns-serve .ensures)) ∙ c .if3 .taken);
     }
 
 pub remap-place-spec : {M : Type 1} → statement M

@@ -77,7 +77,8 @@ loop-again c =
 
 returns : tie.Need-returns Inv-loop μ-loop
 returns c =
-    let a = c .before .before .before .before .args in
+    let start = c .before .before .before .before in
+    let a = start .args in
     c .before .loop .inv .1 ∙
     ap (λ (n : ℕ). every n (λ k. columnTest (flowOf (a .f)) (airAt (a .t1)) (westOf (a .w) k) k)) (omega arith) ∙
     allowed-columns (a .w) (flowOf (a .f)) (airAt (a .t1))

@@ -38,7 +38,8 @@ add-result-2 c = search needs
 
 returns : tie.Need-returns
 returns c =
-    let a = c .before .before .before .before .before .args in
+    let start = c .before .before .before .before .before in
+    let a = start .args in
     column-test (a .m .0) (a .outwest .0 + a .outeast .0) (a .inwest .0 + a .ineast .0)
 
 pub column-allowed-spec : {M : Type 1} → statement M

@@ -86,7 +86,8 @@ loop-again c =
 
 returns : tie.Need-returns Inv-loop μ-loop
 returns c =
-    let a = c .before .before .before .before .args in
+    let start = c .before .before .before .before in
+    let a = start .args in
     tab-ext (a .w) (airAt (c .before .loop .next)) _ (λ k h. c .before .loop .inv .2 k (omega arith)) ∙
     after-columns (a .w) (flowOf (a .f)) (airAt (a .t1))
 

@@ -17,7 +17,9 @@ passed-on-requires : tie.Need-passed-on-requires
 passed-on-requires c κs = gives (c .before .before .before .pre) _ (c .pieces-of .ensures)
 
 returns : tie.Need-returns
-returns c = step-is (c .before .before .before .before .pre) _ (c .before .pieces-of .ensures) _ (c .passed-on .ensures)
+returns c =
+    let start = c .before .before .before .before in
+    step-is (start .pre) _ (c .before .pieces-of .ensures) _ (c .passed-on .ensures)
 
 pub step-gas-spec : {M : Type 1} → statement M
 step-gas-spec =

@@ -68,8 +68,9 @@ same-length c = ap length (c .before .loop .inv .1) ∙ length-stored-up-to (c .
 
 returns : tie.Need-returns Inv-loop μ-loop
 returns c =
-    let done : c .before .loop .t ≡ c .before .before .before .args .n = omega arith in
-    stored-all (c .before .before .before .args .tracers .now) (c .before .before .before .args .first) (c .before .before .before .args .cells) (c .before .before .before .args .w) (c .before .before .before .args .n) (c .before .before .before .args .t1) (c .before .before .before .pre) _ (rw done at (c .before .loop .inv .1))
+    let start = c .before .before .before in
+    let done : c .before .loop .t ≡ start .args .n = omega arith in
+    stored-all (start .args .tracers .now) (start .args .first) (start .args .cells) (start .args .w) (start .args .n) (start .args .t1) (start .pre) _ (rw done at (c .before .loop .inv .1))
 
 pub store-rows-spec : {M : Type 1} → statement M
 store-rows-spec =

@@ -13,9 +13,10 @@ high-piece-requires c κs = search needs
 
 returns : tie.Need-returns
 returns c =
-    let a = c .before .before .args in
+    let start = c .before .before in
+    let a = start .args in
     let D = mismatchOf (a .d) in
-    sym (ap (highPiece D (a .have .0) (a .t .0)) (c .if1 .taken) ∙ piece-none D (a .have .0) (a .t .0) (c .before .before .pre .some))
+    sym (ap (highPiece D (a .have .0) (a .t .0)) (c .if1 .taken) ∙ piece-none D (a .have .0) (a .t .0) (start .pre .some))
 
 returns-2 : tie.Need-returns-2
 returns-2 c = c .high-piece .ensures .is

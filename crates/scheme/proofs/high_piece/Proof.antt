@@ -53,19 +53,27 @@ mul-level-2 : tie.Need-mul-level-2
 mul-level-2 c = omega (arith, sizes (c .before .before .before .pre))
 
 mul-tilt : tie.Need-mul-tilt
-mul-tilt c = omega (arith, sizes (c .before .before .before .before .pre))
+mul-tilt c =
+    let start = c .before .before .before .before in
+    omega (arith, sizes (start .pre))
 
 sub-tilt : tie.Need-sub-tilt
 sub-tilt c = search needs
 
 mul-tilt-2 : tie.Need-mul-tilt-2
-mul-tilt-2 c = omega (arith, sizes (c .before .before .before .before .pre))
+mul-tilt-2 c =
+    let start = c .before .before .before .before in
+    omega (arith, sizes (start .pre))
 
 add-numerator : tie.Need-add-numerator
-add-numerator c = omega (arith, sizes (c .before .before .before .before .before .pre))
+add-numerator c =
+    let start = c .before .before .before .before .before in
+    omega (arith, sizes (start .pre))
 
 sub-numerator : tie.Need-sub-numerator
-sub-numerator c = sizes (c .before .before .before .before .before .pre) .tilt
+sub-numerator c =
+    let start = c .before .before .before .before .before in
+    sizes (start .pre) .tilt
 
 mul-piece : tie.Need-mul-piece
 mul-piece c = search needs
@@ -77,7 +85,8 @@ div-piece c = search needs
 quotient : (c : tie.Joined1) → let a = c .before .before .before .before .before .args in c .if1 .numerator / (2 * scale * a .have .0) ≡ highPiece (mismatchOf (a .d)) (a .have .0) (a .t .0) (a .m .0)
 unfolding numerator
 quotient c =
-    let a = c .before .before .before .before .before .args in
+    let start = c .before .before .before .before .before in
+    let a = start .args in
     let is-numerator = signed (mismatchOf (a .d)) (a .have .0) (a .t .0) (a .m .0) in
     rw (piece-is (mismatchOf (a .d)) (a .have .0) (a .t .0) (a .m .0))
     (ap (λ (x : ℕ). x / (2 * scale * a .have .0))
@@ -85,12 +94,14 @@ quotient c =
 
 cast-piece : tie.Need-cast-piece
 cast-piece c =
-    let g = c .before .before .before .before .before .before .pre in
+    let start = c .before .before .before .before .before .before in
+    let g = start .pre in
     omega (arith, quotient (c .before), sizes g, g .tracer)
 
 returns : tie.Need-returns
 returns c =
-    let g = c .before .before .before .before .before .before .pre in
+    let start = c .before .before .before .before .before .before in
+    let g = start .pre in
     record { is = quotient (c .before); within = rw (quotient (c .before)) (sizes g .piece) }
 
 pub high-piece-spec : {M : Type 1} → statement M

@@ -47,14 +47,16 @@ at-most-twice-requires-2 c κs = search needs
 size : (c : tie.After-at-most-twice2) → let a = c .before .before .before .before .before .before .before .args in c .at-most-twice2 .result ≡ mismatch (a .qa) (a .q) (a .qb) .size
 unfolding mismatch
 size c =
-    let a = c .before .before .before .before .before .before .before .args in
+    let start = c .before .before .before .before .before .before .before in
+    let a = start .args in
     let assoc = min-assoc (distance (a .qa) (a .qb) / 2) (2 * (a .q - min (a .qa) (min (a .q) (a .qb)))) (2 * (max (a .qa) (max (a .q) (a .qb)) - a .q)) in
     cc
 
 returns : tie.Need-returns
 unfolding mismatch
 returns c =
-    let a = c .before .before .before .before .before .before .before .args in
+    let start = c .before .before .before .before .before .before .before in
+    let a = start .args in
     record { is = λ i. record { size = size c i; positive = leb (a .qa) (a .qb) }; small = rw (size c) (mismatch-twice (a .qa) (a .q) (a .qb)) }
 
 pub mismatch-spec : {M : Type 1} → statement M

@@ -89,24 +89,34 @@ part-load-air-start c = search needs
 
 part-load-air-end : tie.Need-part-load-air-end
 part-load-air-end c =
-    let args = c .before .before .before .before .before .before .before .before .before .before .before .before .before .args in
+    let start = c .before .before .before .before .before .before .before .before .before .before .before .before .before in
+    let common-places = c .before .before .before .before .before .before .before .before .before .before .common-places in
+    let number = c .before .before .before .before .before .before .before .before .before .number in
+    let args = start .args in
     let w = worldOf (args .g) (args .air .now) (args .tracers .now) in
-    let passed = c .before .before .before .before .before .before .before .before .before .before .common-places .ensures .passed (sym (c .before .before .before .before .before .before .before .before .before .number .ensures) ∙ c .before .before .before .before .before .before .before .before .if1 .taken) in
+    let passed = common-places .ensures .passed (sym (number .ensures) ∙ c .before .before .before .before .before .before .before .before .if1 .taken) in
     omega (arith, c .before .row-start .ensures .1, passed .fits .airLength)
 
 load-air-requires : tie.Need-load-air-requires
 load-air-requires c κs =
-    let args = c .before .before .before .before .before .before .before .before .before .before .before .before .before .before .args in
+    let start = c .before .before .before .before .before .before .before .before .before .before .before .before .before .before in
+    let common-places = c .before .before .before .before .before .before .before .before .before .before .before .common-places in
+    let number = c .before .before .before .before .before .before .before .before .before .before .number in
+    let row-start = c .before .before .row-start in
+    let args = start .args in
     let w = worldOf (args .g) (args .air .now) (args .tracers .now) in
-    let passed = c .before .before .before .before .before .before .before .before .before .before .before .common-places .ensures .passed (sym (c .before .before .before .before .before .before .before .before .before .before .number .ensures) ∙ c .before .before .before .before .before .before .before .before .before .if1 .taken) in
-    let inside : c .before .before .row-start .result + args .g .w ≤ length (args .air .now) = omega (arith, c .before .before .row-start .ensures .1, passed .fits .airLength) in
-    part-wide (args .air .now) (c .before .before .row-start .result) (args .g .w) inside (in-range (args .g) (passed .fits .grid) .highW)
+    let passed = common-places .ensures .passed (sym (number .ensures) ∙ c .before .before .before .before .before .before .before .before .before .if1 .taken) in
+    let inside : row-start .result + args .g .w ≤ length (args .air .now) = omega (arith, row-start .ensures .1, passed .fits .airLength) in
+    part-wide (args .air .now) (row-start .result) (args .g .w) inside (in-range (args .g) (passed .fits .grid) .highW)
 
 count-requires : tie.Need-count-requires
 count-requires c κs =
-    let args = c .before .before .before .before .before .before .before .before .before .before .before .before .before .before .before .args in
+    let start = c .before .before .before .before .before .before .before .before .before .before .before .before .before .before .before in
+    let common-places = c .before .before .before .before .before .before .before .before .before .before .before .before .common-places in
+    let number = c .before .before .before .before .before .before .before .before .before .before .before .number in
+    let args = start .args in
     let w = worldOf (args .g) (args .air .now) (args .tracers .now) in
-    let passed = c .before .before .before .before .before .before .before .before .before .before .before .before .common-places .ensures .passed (sym (c .before .before .before .before .before .before .before .before .before .before .before .number .ensures) ∙ c .before .before .before .before .before .before .before .before .before .before .if1 .taken) in
+    let passed = common-places .ensures .passed (sym (number .ensures) ∙ c .before .before .before .before .before .before .before .before .before .before .if1 .taken) in
     omega (arith, eqb-true (length (args .fluxes .now)) (args .g .w) (passed .lentFit), in-range (args .g) (passed .fits .grid) .highW)
 
 no-row-requires-5 : tie.Need-no-row-requires-5

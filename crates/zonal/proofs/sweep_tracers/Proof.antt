@@ -20,23 +20,31 @@ cast-cells c = search needs
 
 load-rows-requires : tie.Need-load-rows-requires
 load-rows-requires c κs =
-    rows-fit (c .before .before .before .before .before .args .g) (c .before .before .before .before .before .args .tracers .now) (c .before .before .before .before .before .args .air) (c .before .before .before .before .before .args .first) (c .before .before .before .before .before .args .fluxes .now) (c .before .before .before .before .before .args .substeps) _ (c .before .before .before .before .before .pre) (c .before .world-cells .ensures .0)
+    let start = c .before .before .before .before .before in
+    rows-fit (start .args .g) (start .args .tracers .now) (start .args .air) (start .args .first) (start .args .fluxes .now) (start .args .substeps) _ (start .pre) (c .before .world-cells .ensures .0)
 
 sweep-rows-requires : tie.Need-sweep-rows-requires
 sweep-rows-requires c κs =
-    rows-sweep (c .before .before .before .before .before .before .args .g) (c .before .before .before .before .before .before .args .tracers .now) (c .before .before .before .before .before .before .args .air) (c .before .before .before .before .before .before .args .first) (c .before .before .before .before .before .before .args .fluxes .now) (c .before .before .before .before .before .before .args .substeps) _ (c .before .before .before .before .before .before .pre) (c .before .before .world-cells .ensures .0) _ (c .load-rows .ensures)
+    let start = c .before .before .before .before .before .before in
+    rows-sweep (start .args .g) (start .args .tracers .now) (start .args .air) (start .args .first) (start .args .fluxes .now) (start .args .substeps) _ (start .pre) (c .before .before .world-cells .ensures .0) _ (c .load-rows .ensures)
 
 store-rows-requires : tie.Need-store-rows-requires
 store-rows-requires c κs =
-    rows-fit (c .before .before .before .before .before .before .before .before .args .g) (c .before .before .before .before .before .before .before .before .args .tracers .now) (c .before .before .before .before .before .before .before .before .args .air) (c .before .before .before .before .before .before .before .before .args .first) (c .before .before .before .before .before .before .before .before .args .fluxes .now) (c .before .before .before .before .before .before .before .before .args .substeps) _ (c .before .before .before .before .before .before .before .before .pre) (c .before .before .before .before .world-cells .ensures .0)
+    let start = c .before .before .before .before .before .before .before .before in
+    let world-cells = c .before .before .before .before .world-cells in
+    rows-fit (start .args .g) (start .args .tracers .now) (start .args .air) (start .args .first) (start .args .fluxes .now) (start .args .substeps) _ (start .pre) (world-cells .ensures .0)
 
 same-length : tie.Need-same-length
 same-length c = search needs
 
 returns : tie.Need-returns
 returns c =
+    let start = c .before .before .before .before .before .before .before .before .before .before .before in
+    let world-cells = c .before .before .before .before .before .before .before .world-cells in
+    let load-rows = c .before .before .before .before .before .load-rows in
+    let sweep-rows = c .before .before .before .before .sweep-rows in
     c .before .before .store-rows .ensures ∙
-    all-swept (c .before .before .before .before .before .before .before .before .before .before .before .args .g) (c .before .before .before .before .before .before .before .before .before .before .before .args .tracers .now) (c .before .before .before .before .before .before .before .before .before .before .before .args .air) (c .before .before .before .before .before .before .before .before .before .before .before .args .first) (c .before .before .before .before .before .before .before .before .before .before .before .args .fluxes .now) (c .before .before .before .before .before .before .before .before .before .before .before .args .substeps) _ (c .before .before .before .before .before .before .before .before .before .before .before .pre) (c .before .before .before .before .before .before .before .world-cells .ensures .0) _ (c .before .before .before .before .before .load-rows .ensures) _ (c .before .before .before .before .sweep-rows .ensures)
+    all-swept (start .args .g) (start .args .tracers .now) (start .args .air) (start .args .first) (start .args .fluxes .now) (start .args .substeps) _ (start .pre) (world-cells .ensures .0) _ (load-rows .ensures) _ (sweep-rows .ensures)
 
 pub sweep-tracers-spec : {M : Type 1} → statement M
 sweep-tracers-spec =
