@@ -148,7 +148,7 @@ fn line_of(kind: u32, answer: Answer) -> Line
         return Line {
             kind,
             answer: number(answer),
-            count: 0,
+            count: 0, // none with a refusal
         };
     };
     Line {
