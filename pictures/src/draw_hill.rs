@@ -137,12 +137,11 @@ fn globe(svg: &mut Svg, view: &View, ratios: &[f64]) {
 }
 
 fn latitude_words(latitude: f64) -> String {
-    let side = match latitude {
-        _ if latitude < 0.0 => " S",
-        _ if latitude > 0.0 => " N",
-        _ => "",
-    };
-    format!("{:.0}°{side}", latitude.abs())
+    if latitude == 0.0 {
+        return "0°".to_string();
+    }
+    let side = if latitude < 0.0 { "S" } else { "N" };
+    format!("{:.0}° {side}", latitude.abs())
 }
 
 /// A place in words.
@@ -249,15 +248,17 @@ fn profile_legend(svg: &mut Svg) {
         (x + 44.0, y + 28.5),
         Anchor::Start,
         WORDS,
-        "the proved library, step 900",
+        &format!("the proved library, step {STEPS}"),
     );
 }
 
 /// The picture; `numbers` are the lines under it.
 pub fn draw(run: &Run, numbers: &[String]) -> String {
     let title = "Cosine hill, once round the globe over both poles";
-    let more = "4° × 5° grid, 900 steps, as in Figure 5 of Lin and others (1994). \
-                Every patch is a cell of the grid.";
+    let more = format!(
+        "4° × 5° grid, {STEPS} steps, as in Figure 5 of Lin and others (1994). \
+         Every patch is a cell of the grid."
+    );
     let further = "Each globe is seen from above the exact hill, which moves up the page; \
                    the dashed circle is its edge.";
     let mut svg = Svg::new(
@@ -267,14 +268,26 @@ pub fn draw(run: &Run, numbers: &[String]) -> String {
         &numbers.join(" "),
     );
     svg.text((32.0, 34.0), Anchor::Start, TITLE, title);
-    svg.lines(
-        (32.0, 56.0),
-        SMALL,
-        &[more.to_string(), further.to_string()],
-    );
+    svg.lines((32.0, 56.0), SMALL, &[more, further.to_string()]);
     globes(&mut svg, run);
     scale(&mut svg);
     profile(&mut svg, run);
     svg.lines((32.0, 768.0), WORDS, numbers);
     svg.finish()
+}
+
+#[cfg(test)]
+mod tests {
+    use super::*;
+
+    #[test]
+    fn no_coloured_cell_is_behind_the_globe() {
+        let run = hill::run().unwrap();
+        for (ratios, steps) in run.drawn.iter().zip(DRAWN) {
+            let view = View::after(steps, (0.0, 0.0));
+            for (cell, ratio) in ratios.iter().enumerate() {
+                assert!(colour(*ratio).is_none() || view.corners(cell).is_some());
+            }
+        }
+    }
 }

@@ -82,7 +82,8 @@ fn legend(svg: &mut Svg) {
 /// The picture; `numbers` are the lines under it.
 pub fn draw(run: &Run, numbers: &[String]) -> String {
     let title = "Rectangular wave, five times round a row of 50 cells";
-    let more = "Courant number 0.5, 500 steps, as in Figure 3 of Lin and others (1994)";
+    let more =
+        format!("Courant number 0.5, {STEPS} steps, as in Figure 3 of Lin and others (1994)");
     let mut svg = Svg::new(
         900,
         480 + 19 * numbers.len() as u32,
@@ -91,7 +92,7 @@ pub fn draw(run: &Run, numbers: &[String]) -> String {
     );
     let chart = chart();
     svg.text((32.0, 34.0), Anchor::Start, TITLE, title);
-    svg.text((32.0, 56.0), Anchor::Start, SMALL, more);
+    svg.text((32.0, 56.0), Anchor::Start, SMALL, &more);
     axes(&mut svg, &chart);
     exact(&mut svg, &chart);
     let compared = |mismatch| curve(&chart, &plain::carried(&run.before, STEPS, mismatch));

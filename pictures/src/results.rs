@@ -2,7 +2,8 @@
 
 use crate::hill;
 use crate::plain;
-use crate::wave::{self, STEPS};
+use crate::sphere;
+use crate::wave;
 use crate::world::Record;
 
 /// What the paper says that it keeps of the hill's peak, in per cent.
@@ -72,7 +73,7 @@ fn lines(record: &Record) -> Vec<String> {
 }
 
 fn wave_lines(run: &wave::Run) -> Vec<String> {
-    let carried = |mismatch| plain::carried(&run.before, STEPS, mismatch);
+    let carried = |mismatch| plain::carried(&run.before, wave::STEPS, mismatch);
     let kept = |mismatch| 100.0 * plain::greatest(&carried(mismatch));
     let apart = plain::difference(&run.after, &carried(plain::monotonic));
     let mut lines = lines(&run.record);
@@ -110,15 +111,21 @@ fn hill_lines(run: &hill::Run) -> Vec<String> {
 /// The text of results.txt.
 pub fn all(wave: &wave::Run, hill: &hill::Run) -> String {
     let mut text = String::new();
+    let wave_heading = format!(
+        "Rectangular wave: {} of {} cells, Courant number 0.5, {} steps",
+        wave::WAVE.len(),
+        wave::W,
+        wave::STEPS
+    );
+    let hill_heading = format!(
+        "Cosine hill over the poles: {} x {} degrees, once round in {} steps",
+        sphere::NORTHWARD,
+        sphere::EASTWARD,
+        hill::STEPS
+    );
     let parts = [
-        (
-            "Rectangular wave: 10 of 50 cells, Courant number 0.5, 500 steps",
-            wave_lines(wave),
-        ),
-        (
-            "Cosine hill over the poles: 4 x 5 degrees, once round in 900 steps",
-            hill_lines(hill),
-        ),
+        (wave_heading, wave_lines(wave)),
+        (hill_heading, hill_lines(hill)),
     ];
     for (heading, lines) in parts {
         text.push_str(&format!("{heading}\n"));
