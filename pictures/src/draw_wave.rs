@@ -1,0 +1,109 @@
+//! The picture of the wave.
+
+use crate::plain;
+use crate::svg::{Anchor, Chart, Point, Svg, SMALL, TITLE, WORDS};
+use crate::wave::{Run, STEPS, W, WAVE};
+
+const EXACT: &str = "fill=\"#dedede\" stroke=\"#8c8c8c\" stroke-width=\"1\"";
+const LIBRARY: &str = "stroke=\"#0b5fa5\" stroke-width=\"2.6\" stroke-linejoin=\"round\"";
+const DOT: &str = "fill=\"#0b5fa5\"";
+const HARMONIC: &str = "stroke=\"#c75b12\" stroke-width=\"1.8\" stroke-dasharray=\"7 4\"";
+const UPSTREAM: &str = "stroke=\"#6b6b6b\" stroke-width=\"1.8\" stroke-dasharray=\"2 4\"";
+
+fn chart() -> Chart {
+    Chart {
+        corner: (80.0, 78.0),
+        size: (780.0, 330.0),
+        x: (0.0, W as f64),
+        y: (0.0, 1.1),
+    }
+}
+
+/// A row's ratios at the middles of its cells.
+fn curve(chart: &Chart, row: &[f64]) -> Vec<Point> {
+    chart.places(
+        row.iter()
+            .enumerate()
+            .map(|(i, ratio)| (i as f64 + 0.5, *ratio)),
+    )
+}
+
+fn axes(svg: &mut Svg, chart: &Chart) {
+    let across: Vec<_> = (0..=W)
+        .step_by(5)
+        .map(|x| (x as f64, x.to_string()))
+        .collect();
+    let up: Vec<_> = (0..=5)
+        .map(|n| f64::from(n) / 5.0)
+        .map(|y| (y, format!("{y:.1}")))
+        .collect();
+    chart.axes(svg, &across, &up);
+    chart.names(
+        svg,
+        "cells, from west to east",
+        "gas to air (1 at the start)",
+    );
+}
+
+fn exact(svg: &mut Svg, chart: &Chart) {
+    let (west, east) = (WAVE.start as f64, WAVE.end as f64);
+    let (x, y) = chart.at(west, 1.0);
+    let (right, bottom) = chart.at(east, 0.0);
+    svg.rect((x, y), right - x, bottom - y, EXACT);
+}
+
+fn legend(svg: &mut Svg) {
+    let (x, y) = (102.0, 100.0);
+    let sample = |n: f64| [(x, y + 38.0 * n), (x + 34.0, y + 38.0 * n)];
+    svg.rect((x - 10.0, y - 16.0), 262.0, 158.0, "fill=\"#ffffff\"");
+    svg.rect((x, y - 7.0), 34.0, 14.0, EXACT);
+    svg.line(&sample(1.0), LIBRARY);
+    svg.circle((x + 17.0, y + 38.0), 3.4, DOT);
+    svg.line(&sample(2.0), HARMONIC);
+    svg.line(&sample(3.0), UPSTREAM);
+    let entries = [
+        ("start, and exact result", "the wave is back at its place"),
+        ("the proved library", "constraint (5), whole numbers"),
+        ("constraint (4)", "floating point, to compare"),
+        ("first-order upstream scheme", "floating point, to compare"),
+    ];
+    for (n, (name, more)) in entries.into_iter().enumerate() {
+        let line = y + 38.0 * n as f64;
+        svg.text((x + 44.0, line + 4.0), Anchor::Start, WORDS, name);
+        svg.text(
+            (x + 44.0, line + 19.0),
+            Anchor::Start,
+            "font-size=\"12\" fill=\"#666666\"",
+            more,
+        );
+    }
+}
+
+/// The picture; `numbers` are the lines under it.
+pub fn draw(run: &Run, numbers: &[String]) -> String {
+    let title = "Rectangular wave, five times round a row of 50 cells";
+    let more =
+        format!("Courant number 0.5, {STEPS} steps, as in Figure 3 of Lin and others (1994)");
+    let mut svg = Svg::new(
+        900,
+        480 + 19 * numbers.len() as u32,
+        title,
+        &numbers.join(" "),
+    );
+    let chart = chart();
+    svg.text((32.0, 34.0), Anchor::Start, TITLE, title);
+    svg.text((32.0, 56.0), Anchor::Start, SMALL, &more);
+    axes(&mut svg, &chart);
+    exact(&mut svg, &chart);
+    let compared = |mismatch| curve(&chart, &plain::carried(&run.before, STEPS, mismatch));
+    svg.line(&compared(plain::upstream), UPSTREAM);
+    svg.line(&compared(plain::harmonic), HARMONIC);
+    let library = curve(&chart, &run.after);
+    svg.line(&library, LIBRARY);
+    for point in library {
+        svg.circle(point, 3.4, DOT);
+    }
+    legend(&mut svg);
+    svg.lines((32.0, 478.0), WORDS, numbers);
+    svg.finish()
+}

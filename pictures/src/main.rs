@@ -1,0 +1,45 @@
+//! Runs the two experiments of source 001 on the proved library and draws them.
+//!
+//!     pictures DIRECTORY      writes wave.svg, hill.svg and results.txt there, and prints the results
+//!
+//! It fails if a call is refused, if a gas total changed, or if some step did not bring the air back.
+
+mod draw_hill;
+mod draw_wave;
+mod hill;
+mod plain;
+mod progress;
+mod results;
+mod sphere;
+mod svg;
+mod wave;
+mod world;
+
+use std::error::Error;
+use std::path::Path;
+
+fn make(directory: &Path) -> Result<(), Box<dyn Error>> {
+    let wave = wave::run()?;
+    let hill = hill::run()?;
+    wave.record.check()?;
+    hill.record.check()?;
+    let results = results::all(&wave, &hill);
+    std::fs::create_dir_all(directory)?;
+    let write = |name: &str, text: &str| std::fs::write(directory.join(name), text);
+    write(
+        "wave.svg",
+        &draw_wave::draw(&wave, &results::wave_caption(&wave)),
+    )?;
+    write(
+        "hill.svg",
+        &draw_hill::draw(&hill, &results::hill_caption(&hill)),
+    )?;
+    write("results.txt", &results)?;
+    print!("{results}");
+    Ok(())
+}
+
+fn main() -> Result<(), Box<dyn Error>> {
+    let directory = std::env::args().nth(1).ok_or("usage: pictures DIRECTORY")?;
+    make(Path::new(&directory))
+}

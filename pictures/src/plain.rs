@@ -1,0 +1,58 @@
+//! Schemes of source 001 in floating point, for a row at Courant number 0.5: only to draw and to compare with.
+
+/// The mismatch of a cell from its ratio and those of its neighbours.
+pub type Mismatch = fn(west: f64, own: f64, east: f64) -> f64;
+
+/// No mismatch: the first-order upstream scheme.
+pub fn upstream(_: f64, _: f64, _: f64) -> f64 {
+    0.0
+}
+
+/// Equation (4): the harmonic mean of the two differences, 0 at an extremum.
+pub fn harmonic(west: f64, own: f64, east: f64) -> f64 {
+    let (one, other) = (own - west, east - own);
+    if one * other > 0.0 {
+        2.0 * one * other / (one + other)
+    } else {
+        0.0
+    }
+}
+
+/// Equation (5), which document 01 puts on whole numbers.
+pub fn monotonic(west: f64, own: f64, east: f64) -> f64 {
+    let mean = (east - west) / 2.0;
+    let (least, greatest) = (own.min(west).min(east), own.max(west).max(east));
+    let size = mean
+        .abs()
+        .min(2.0 * (own - least))
+        .min(2.0 * (greatest - own));
+    size.copysign(mean)
+}
+
+/// The ratios after so many steps eastward round the row.
+pub fn carried(before: &[f64], steps: u32, mismatch: Mismatch) -> Vec<f64> {
+    const COURANT: f64 = 0.5;
+    let w = before.len();
+    let mut row = before.to_vec();
+    for _ in 0..steps {
+        let slope = |i: usize| mismatch(row[(i + w - 1) % w], row[i], row[(i + 1) % w]);
+        let given = |i: usize| COURANT * (row[i] + slope(i) / 2.0 * (1.0 - COURANT));
+        let given: Vec<f64> = (0..w).map(given).collect();
+        for i in 0..w {
+            row[i] += given[(i + w - 1) % w] - given[i];
+        }
+    }
+    row
+}
+
+/// The greatest difference between two rows.
+pub fn difference(one: &[f64], other: &[f64]) -> f64 {
+    one.iter()
+        .zip(other)
+        .map(|(a, b)| (a - b).abs())
+        .fold(0.0, f64::max)
+}
+
+pub fn greatest(row: &[f64]) -> f64 {
+    row.iter().copied().fold(f64::NEG_INFINITY, f64::max)
+}

@@ -1,0 +1,146 @@
+//! The numbers of the two runs in words.
+
+use crate::hill;
+use crate::plain;
+use crate::sphere;
+use crate::wave;
+use crate::world::Record;
+
+/// What the paper says that it keeps of the hill's peak, in per cent.
+const PAPER: u32 = 49;
+
+/// A number with a comma at each thousand.
+fn grouped(number: u32) -> String {
+    let digits = number.to_string();
+    let groups: Vec<_> = digits.as_bytes().rchunks(3).rev().collect();
+    let groups: Vec<_> = groups
+        .iter()
+        .map(|group| String::from_utf8_lossy(group))
+        .collect();
+    groups.join(",")
+}
+
+impl Record {
+    /// The peak at the end in per cent of that at the start.
+    fn kept(&self) -> f64 {
+        100.0 * self.peak_after / self.peak_before
+    }
+}
+
+/// The lines under a picture that both have; `more` follows the peak.
+fn caption(record: &Record, more: &str) -> Vec<String> {
+    let (kept, least) = (record.kept(), record.least_gas);
+    let (before, after) = (grouped(record.total_before), grouped(record.total_after));
+    let (back, steps) = (record.air_back, record.steps);
+    vec![
+        format!("Peak kept: {kept:.1} %{more}."),
+        format!("Least value in any cell after any step: {least} units of gas."),
+        format!("Gas total before: {before} units; after: {after} units."),
+        format!("Air back exactly in every cell after {back} of {steps} steps."),
+    ]
+}
+
+pub fn wave_caption(run: &wave::Run) -> Vec<String> {
+    caption(&run.record, "")
+}
+
+pub fn hill_caption(run: &hill::Run) -> Vec<String> {
+    caption(
+        &run.record,
+        &format!(" (the paper: {PAPER} %, for a hill whose radius it does not give)"),
+    )
+}
+
+/// The lines about one run that both have.
+fn lines(record: &Record) -> Vec<String> {
+    let (kept, greatest, least) = (record.kept(), record.greatest, record.least);
+    let (back, steps) = (record.air_back, record.steps);
+    vec![
+        format!("peak kept            {kept:.2} %"),
+        format!("greatest value       {greatest:.6} in any cell after any step"),
+        format!(
+            "least value          {least:.6}, {} units, in any cell after any step",
+            record.least_gas
+        ),
+        format!(
+            "gas total before     {} units",
+            grouped(record.total_before)
+        ),
+        format!("gas total after      {} units", grouped(record.total_after)),
+        format!("air as loaded        in every cell after {back} of {steps} steps"),
+        format!("substeps of a row    at most {}", record.most_substeps),
+    ]
+}
+
+fn wave_lines(run: &wave::Run) -> Vec<String> {
+    let carried = |mismatch| plain::carried(&run.before, wave::STEPS, mismatch);
+    let kept = |mismatch| 100.0 * plain::greatest(&carried(mismatch));
+    let apart = plain::difference(&run.after, &carried(plain::monotonic));
+    let mut lines = lines(&run.record);
+    lines.push(format!(
+        "constraint (5) in floating point differs by at most {apart:.6}"
+    ));
+    lines.push(format!(
+        "in floating point constraint (4) keeps {:.2} %, the first-order upstream scheme {:.2} %",
+        kept(plain::harmonic),
+        kept(plain::upstream)
+    ));
+    lines
+}
+
+fn hill_lines(run: &hill::Run) -> Vec<String> {
+    let mut lines = lines(&run.record);
+    let centre = |ratios| {
+        let (longitude, latitude) = hill::gas_centre(ratios);
+        format!("{longitude:.2} degrees east, {latitude:.2} degrees north")
+    };
+    lines.push(format!(
+        "centre of the gas    {} before",
+        centre(&run.drawn[0])
+    ));
+    lines.push(format!(
+        "                     {} after",
+        centre(&run.drawn[3])
+    ));
+    lines.push(format!(
+        "the paper keeps      {PAPER} % of the peak (source 001, about its Figure 5b)"
+    ));
+    lines
+}
+
+/// The text of results.txt.
+pub fn all(wave: &wave::Run, hill: &hill::Run) -> String {
+    let mut text = String::new();
+    let wave_heading = format!(
+        "Rectangular wave: {} of {} cells, Courant number 0.5, {} steps",
+        wave::WAVE.len(),
+        wave::W,
+        wave::STEPS
+    );
+    let hill_heading = format!(
+        "Cosine hill over the poles: {} x {} degrees, once round in {} steps",
+        sphere::NORTHWARD,
+        sphere::EASTWARD,
+        hill::STEPS
+    );
+    let parts = [
+        (wave_heading, wave_lines(wave)),
+        (hill_heading, hill_lines(hill)),
+    ];
+    for (heading, lines) in parts {
+        text.push_str(&format!("{heading}\n"));
+        for line in lines {
+            text.push_str(&format!("  {line}\n"));
+        }
+    }
+    text
+}
+
+#[cfg(test)]
+mod tests {
+    #[test]
+    fn commas_stand_at_thousands() {
+        let numbers = [0, 999, 1_000, 216_557_218].map(super::grouped);
+        assert_eq!(numbers, ["0", "999", "1,000", "216,557,218"]);
+    }
+}
