@@ -89,7 +89,10 @@ same-length-2 : tie.Need-same-length-2
 same-length-2 c = search needs
 
 returns-2 : tie.Need-returns-2
-returns-2 c = let start = c .before .before .before .before .before .before .before .before .before .before .before .before in carries-load (start .args .g) (start .args .kind) (start .args .c) (start .args .body .now) _ _ _ _ _ (c .before .before .before .before .before .before .before .enum-told .given .1) (c .before .before .before .before .take-load .ensures)
+returns-2 c =
+    let enum-told-here = c .before .before .before .before .before .before .before .enum-told in
+    let take-load = c .before .before .before .before .take-load in
+    let start = c .before .before .before .before .before .before .before .before .before .before .before .before in carries-load (start .args .g) (start .args .kind) (start .args .c) (start .args .body .now) _ _ _ _ _ (enum-told-here .given .1) (take-load .ensures)
 
 same-length-3 : tie.Need-same-length-3
 same-length-3 c = search needs
@@ -98,7 +101,9 @@ same-length-4 : tie.Need-same-length-4
 same-length-4 c = search needs
 
 returns-3 : tie.Need-returns-3
-returns-3 c = let start = c .before .before .before .before .before .before .before .before .before .before .before in carries-call (start .args .g) (start .args .kind) (start .args .c) (start .args .body .now) _ _ _ _ _ (is-call (start .args .c) (c .before .before .before .before .before .before .before .match .keys3)) (c .before .before .before .before .take-call .ensures)
+returns-3 c =
+    let take-call = c .before .before .before .before .take-call in
+    let start = c .before .before .before .before .before .before .before .before .before .before .before in carries-call (start .args .g) (start .args .kind) (start .args .c) (start .args .body .now) _ _ _ _ _ (is-call (start .args .c) (c .before .before .before .before .before .before .before .match .keys3)) (take-call .ensures)
 
 pub carry-command-spec : {M : Type 1} → statement M
 carry-command-spec =

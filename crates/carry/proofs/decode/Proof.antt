@@ -18,7 +18,9 @@ abbrev μ-loop : tie.MeasureT-loop
 μ-loop bytes out₀ i₀ out i = length out₀ - i
 
 loop-holds : tie.Need-loop-holds Inv-loop μ-loop
-loop-holds c = (omega arith, refl, filled-none (c .before .before .args .out .now) (λ (j : ℕ). numberAt (c .before .before .args .bytes .now) (0 + 4 * j) 4))
+loop-holds c =
+    let start = c .before .before in
+    (omega arith, refl, filled-none (start .args .out .now) (λ (j : ℕ). numberAt (start .args .bytes .now) (0 + 4 * j) 4))
 
 mul-number-4 : tie.Need-mul-number-4 Inv-loop μ-loop
 mul-number-4 c = search needs
@@ -40,8 +42,9 @@ loop-less c = search needs
 
 loop-again : tie.Need-loop-again Inv-loop μ-loop
 loop-again c =
+    let start = c .before .before .before .before .before in
     let turn = c .before .before .loop in
-    let bytes = c .before .before .before .before .before .args .bytes .now in
+    let bytes = start .args .bytes .now in
     let is = c .number-4 .ensures ∙ sym (ap (λ (a : ℕ). numberAt bytes a 4) (zero-add (4 * turn .i))) in
     (omega (arith, length-set (turn .out) (turn .i) (c .number-4 .result)), length-set (turn .out) (turn .i) (c .number-4 .result) ∙ turn .inv .1, filled-more (turn .out) (λ (j : ℕ). numberAt bytes (0 + 4 * j) 4) (turn .i) _ is (c .before .loop-test .taken) (turn .inv .2))
 
@@ -50,8 +53,9 @@ same-length c = search needs
 
 returns : tie.Need-returns Inv-loop μ-loop
 returns c =
+    let start = c .before .before .before .before in
     let end = c .before .loop in
-    let bytes = c .before .before .before .before .args .bytes .now in
+    let bytes = start .args .bytes .now in
     filled (end .out) (λ (j : ℕ). numberAt bytes (0 + 4 * j) 4) (end .i) _ (end .inv .2) (omega arith) (end .inv .0) (end .inv .1)
 
 pub decode-spec : {M : Type 1} → statement M

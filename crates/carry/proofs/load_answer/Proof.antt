@@ -38,10 +38,12 @@ load-into-requires c κs =
 
 returns : tie.Need-returns
 returns c =
+    let air-space = c .before .before .before .before .before .before .air-space in
+    let tracer-space = c .before .before .before .before .before .tracer-space in
     let start = c .before .before .before .before .before .before .before .before in
     answers-load (start .args .g) (start .args .body .now) (start .args .cells) (start .args .amounts) _ _ _ _ _
-    (length-take-le (start .args .cells) (c .before .before .before .before .before .before .air-space .result) (omega (arith, c .before .before .before .before .before .before .air-space .ensures, start .pre .fewCells)))
-    (length-take-le (start .args .amounts) (c .before .before .before .before .before .tracer-space .result) (omega (arith, c .before .before .before .before .before .tracer-space .ensures, start .pre .fewAmounts)))
+    (length-take-le (start .args .cells) (air-space .result) (omega (arith, air-space .ensures, start .pre .fewCells)))
+    (length-take-le (start .args .amounts) (tracer-space .result) (omega (arith, tracer-space .ensures, start .pre .fewAmounts)))
     (c .before .before .load-into .ensures)
 
 pub load-answer-spec : {M : Type 1} → statement M

@@ -39,14 +39,16 @@ same-length-2 c = search needs
 
 returns : tie.Need-returns
 returns c =
+    let decode = c .before .before .before .before .before .before .before .before .before .before .decode in
+    let decode2 = c .before .before .before .before .before .decode2 in
     let start = c .before .before .before .before .before .before .before .before .before .before .before .before .before .before .before in
     let body = start .args .body .now in
-    let first = c .before .before .before .before .before .before .before .before .before .before .decode .ensures in
+    let first = decode .ensures in
     let amounts = length (start .args .tracers .now) in
     record {
       airIs = first;
       tracersIs =
-          c .before .before .before .before .before .decode2 .ensures ∙ numbers-from body _ amounts ∙
+          decode2 .ensures ∙ numbers-from body _ amounts ∙
           ap (λ (n : ℕ). numbersAt body (4 * n) amounts) (ap length first ∙ length-tab _ _);
       agrees = c .load .ensures;
     }

@@ -74,9 +74,10 @@ same-length-2 c = search needs
 
 returns-3 : tie.Need-returns-3
 returns-3 c =
+    let c-here = c .before .before .before .before .before .before .c in
     let start = c .before .before .before .before .before .before .before .before .before .before .before in
-    let e = c .before .before .before .before .before .before .c .given .0 .0 in
-    makes-call (start .args .g) (start .args .c) (start .args .body .now) _ _ _ _ _ (emission (e .tracer) (e .cell) (e .amount)) (ap (commandIs (gridOf (start .args .g)) (start .args .body .now)) (c .before .before .before .before .before .before .c .given .1)) (c .before .before .emission .ensures)
+    let e = c-here .given .0 .0 in
+    makes-call (start .args .g) (start .args .c) (start .args .body .now) _ _ _ _ _ (emission (e .tracer) (e .cell) (e .amount)) (ap (commandIs (gridOf (start .args .g)) (start .args .body .now)) (c-here .given .1)) (c .before .before .emission .ensures)
 
 same-length-3 : tie.Need-same-length-3
 same-length-3 c = search needs
@@ -86,9 +87,10 @@ same-length-4 c = search needs
 
 returns-4 : tie.Need-returns-4
 returns-4 c =
+    let c2 = c .before .before .before .before .before .before .c2 in
     let start = c .before .before .before .before .before .before .before .before .before .before .before in
-    let e = c .before .before .before .before .before .before .c2 .given .0 .0 in
-    makes-call (start .args .g) (start .args .c) (start .args .body .now) _ _ _ _ _ (withdrawal (e .tracer) (e .cell) (e .amount)) (ap (commandIs (gridOf (start .args .g)) (start .args .body .now)) (c .before .before .before .before .before .before .c2 .given .1)) (c .before .before .withdrawal .ensures)
+    let e = c2 .given .0 .0 in
+    makes-call (start .args .g) (start .args .c) (start .args .body .now) _ _ _ _ _ (withdrawal (e .tracer) (e .cell) (e .amount)) (ap (commandIs (gridOf (start .args .g)) (start .args .body .now)) (c2 .given .1)) (c .before .before .withdrawal .ensures)
 
 same-length-5 : tie.Need-same-length-5
 same-length-5 c = search needs
@@ -98,9 +100,11 @@ same-length-6 c = search needs
 
 returns-5 : tie.Need-returns-5
 returns-5 c =
+    let c3 = c .before .before .before .before .before .before .before .before .c3 in
+    let make-zonal = c .before .before .before .before .make-zonal in
     let start = c .before .before .before .before .before .before .before .before .before .before .before .before .before in
-    let p = c .before .before .before .before .before .before .before .before .c3 .given .0 .0 in
-    makes-call (start .args .g) (start .args .c) (start .args .body .now) _ _ _ _ _ (zonal (p .layer) (p .row) (fluxesAt (start .args .body .now) 2 (start .args .g .w))) (ap (commandIs (gridOf (start .args .g)) (start .args .body .now)) (c .before .before .before .before .before .before .before .before .c3 .given .1)) (c .before .before .before .before .make-zonal .ensures)
+    let p = c3 .given .0 .0 in
+    makes-call (start .args .g) (start .args .c) (start .args .body .now) _ _ _ _ _ (zonal (p .layer) (p .row) (fluxesAt (start .args .body .now) 2 (start .args .g .w))) (ap (commandIs (gridOf (start .args .g)) (start .args .body .now)) (c3 .given .1)) (make-zonal .ensures)
 
 same-length-7 : tie.Need-same-length-7
 same-length-7 c = search needs
@@ -110,9 +114,11 @@ same-length-8 c = search needs
 
 returns-6 : tie.Need-returns-6
 returns-6 c =
+    let c4 = c .before .before .before .before .before .before .before .before .c4 in
+    let make-meridional = c .before .before .before .before .make-meridional in
     let start = c .before .before .before .before .before .before .before .before .before .before .before .before .before in
-    let p = c .before .before .before .before .before .before .before .before .c4 .given .0 .0 in
-    makes-call (start .args .g) (start .args .c) (start .args .body .now) _ _ _ _ _ (meridional (p .layer) (fluxesAt (start .args .body .now) 1 (start .args .g .w * (start .args .g .r + 1)))) (ap (commandIs (gridOf (start .args .g)) (start .args .body .now)) (c .before .before .before .before .before .before .before .before .c4 .given .1)) (c .before .before .before .before .make-meridional .ensures)
+    let p = c4 .given .0 .0 in
+    makes-call (start .args .g) (start .args .c) (start .args .body .now) _ _ _ _ _ (meridional (p .layer) (fluxesAt (start .args .body .now) 1 (start .args .g .w * (start .args .g .r + 1)))) (ap (commandIs (gridOf (start .args .g)) (start .args .body .now)) (c4 .given .1)) (make-meridional .ensures)
 
 same-length-9 : tie.Need-same-length-9
 same-length-9 c = search needs
@@ -122,8 +128,10 @@ same-length-10 c = search needs
 
 returns-7 : tie.Need-returns-7
 returns-7 c =
+    let enum-told3 = c .before .before .before .before .before .before .before .enum-told3 in
+    let make-remap = c .before .before .before .before .make-remap in
     let start = c .before .before .before .before .before .before .before .before .before .before .before .before in
-    makes-call (start .args .g) (start .args .c) (start .args .body .now) _ _ _ _ _ (remap (numbersAt (start .args .body .now) 0 (2 * (start .args .g .k + 1)))) (ap (commandIs (gridOf (start .args .g)) (start .args .body .now)) (c .before .before .before .before .before .before .before .enum-told3 .given .1)) (c .before .before .before .before .make-remap .ensures)
+    makes-call (start .args .g) (start .args .c) (start .args .body .now) _ _ _ _ _ (remap (numbersAt (start .args .body .now) 0 (2 * (start .args .g .k + 1)))) (ap (commandIs (gridOf (start .args .g)) (start .args .body .now)) (enum-told3 .given .1)) (make-remap .ensures)
 
 same-length-11 : tie.Need-same-length-11
 same-length-11 c = search needs
@@ -133,8 +141,9 @@ same-length-12 c = search needs
 
 returns-8 : tie.Need-returns-8
 returns-8 c =
+    let c5 = c .before .before .before .before .c5 in
     let start = c .before .before .before .before .before .before .before .before .before in
-    makes-call (start .args .g) (start .args .c) (start .args .body .now) _ _ _ _ _ (total (c .before .before .before .before .c5 .given .0 .0 .tracer)) (ap (commandIs (gridOf (start .args .g)) (start .args .body .now)) (c .before .before .before .before .c5 .given .1)) (c .total .ensures)
+    makes-call (start .args .g) (start .args .c) (start .args .body .now) _ _ _ _ _ (total (c5 .given .0 .0 .tracer)) (ap (commandIs (gridOf (start .args .g)) (start .args .body .now)) (c5 .given .1)) (c .total .ensures)
 
 same-length-13 : tie.Need-same-length-13
 same-length-13 c = search needs
@@ -144,9 +153,10 @@ same-length-14 c = search needs
 
 returns-9 : tie.Need-returns-9
 returns-9 c =
+    let c6 = c .before .before .before .before .c6 in
     let start = c .before .before .before .before .before .before .before .before .before in
-    let p = c .before .before .before .before .c6 .given .0 .0 in
-    makes-call (start .args .g) (start .args .c) (start .args .body .now) _ _ _ _ _ (reading (p .tracer) (p .cell)) (ap (commandIs (gridOf (start .args .g)) (start .args .body .now)) (c .before .before .before .before .c6 .given .1)) (c .cell .ensures)
+    let p = c6 .given .0 .0 in
+    makes-call (start .args .g) (start .args .c) (start .args .body .now) _ _ _ _ _ (reading (p .tracer) (p .cell)) (ap (commandIs (gridOf (start .args .g)) (start .args .body .now)) (c6 .given .1)) (c .cell .ensures)
 
 pub make-spec : {M : Type 1} → statement M
 make-spec =

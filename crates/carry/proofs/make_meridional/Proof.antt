@@ -49,13 +49,16 @@ decode-fluxes-requires c κs =
 
 array-share-prefix-fluxes : tie.Need-array-share-prefix-fluxes
 array-share-prefix-fluxes c =
+    let layer-space = c .before .before .before .before .before .before .layer-space in
     let start = c .before .before .before .before .before .before .before .before .before .before .before .before in
-    room-long (c .before .before .before .before .before .before .layer-space .result) _ (start .args .g .w * (start .args .g .r + 1)) (flux-of (start .args .body .now) 1) (omega (arith, c .before .before .before .before .before .before .layer-space .ensures, few-faces (start .args .g) (start .pre .0) (start .pre .1))) (c .before .before .before .decode-fluxes .ensures)
+    room-long (layer-space .result) _ (start .args .g .w * (start .args .g .r + 1)) (flux-of (start .args .body .now) 1) (omega (arith, layer-space .ensures, few-faces (start .args .g) (start .pre .0) (start .pre .1))) (c .before .before .before .decode-fluxes .ensures)
 
 slice-aggregate-meridional : tie.Need-slice-aggregate-meridional
 slice-aggregate-meridional c =
+    let layer-space = c .before .before .before .before .before .before .before .layer-space in
+    let decode-fluxes = c .before .before .before .before .decode-fluxes in
     let start = c .before .before .before .before .before .before .before .before .before .before .before .before .before in
-    room-sized (c .before .before .before .before .before .before .before .layer-space .result) _ (start .args .g .w * (start .args .g .r + 1)) (flux-of (start .args .body .now) 1) (omega (arith, c .before .before .before .before .before .before .before .layer-space .ensures, few-faces (start .args .g) (start .pre .0) (start .pre .1))) (c .before .before .before .before .decode-fluxes .ensures)
+    room-sized (layer-space .result) _ (start .args .g .w * (start .args .g .r + 1)) (flux-of (start .args .body .now) 1) (omega (arith, layer-space .ensures, few-faces (start .args .g) (start .pre .0) (start .pre .1))) (decode-fluxes .ensures)
 
 meridional-requires : tie.Need-meridional-requires
 meridional-requires c κs = search needs
@@ -68,12 +71,14 @@ same-length-2 c = search needs
 
 returns : tie.Need-returns
 returns c =
+    let layer-space = c .before .before .before .before .before .before .before .before .before .before .before .before .layer-space in
+    let decode-fluxes = c .before .before .before .before .before .before .before .before .before .decode-fluxes in
     let start = c .before .before .before .before .before .before .before .before .before .before .before .before .before .before .before .before .before .before in
     let faces = start .args .g .w * (start .args .g .r + 1) in
     let sweep = c .before .before .before .before in
     agrees-same _ _ (meridional (start .args .p .layer) (fluxesAt (start .args .body .now) 1 faces)) _ _ _
     (ap (meridional (start .args .p .layer))
-    (room-back (c .before .before .before .before .before .before .before .before .before .before .before .before .layer-space .result) _ faces (flux-of (start .args .body .now) 1) (omega (arith, c .before .before .before .before .before .before .before .before .before .before .before .before .layer-space .ensures, few-faces (start .args .g) (start .pre .0) (start .pre .1))) (c .before .before .before .before .before .before .before .before .before .decode-fluxes .ensures) ∙
+    (room-back (layer-space .result) _ faces (flux-of (start .args .body .now) 1) (omega (arith, layer-space .ensures, few-faces (start .args .g) (start .pre .0) (start .pre .1))) (decode-fluxes .ensures) ∙
     fluxes-from (start .args .body .now) 1 faces))
     (sweep .meridional .ensures)
 

@@ -36,13 +36,16 @@ decode-requires c κs =
 
 array-share-prefix-table : tie.Need-array-share-prefix-table
 array-share-prefix-table c =
+    let table-space = c .before .before .before .before .before .table-space in
     let start = c .before .before .before .before .before .before .before .before .before .before in
-    room-long (c .before .before .before .before .before .table-space .result) _ (2 * (start .args .g .k + 1)) (number-of (start .args .body .now)) (omega (arith, c .before .before .before .before .before .table-space .ensures, start .pre .0 .highK)) (c .before .before .before .decode .ensures)
+    room-long (table-space .result) _ (2 * (start .args .g .k + 1)) (number-of (start .args .body .now)) (omega (arith, table-space .ensures, start .pre .0 .highK)) (c .before .before .before .decode .ensures)
 
 slice-aggregate-remap : tie.Need-slice-aggregate-remap
 slice-aggregate-remap c =
+    let table-space = c .before .before .before .before .before .before .table-space in
+    let decode = c .before .before .before .before .decode in
     let start = c .before .before .before .before .before .before .before .before .before .before .before in
-    room-sized (c .before .before .before .before .before .before .table-space .result) _ (2 * (start .args .g .k + 1)) (number-of (start .args .body .now)) (omega (arith, c .before .before .before .before .before .before .table-space .ensures, start .pre .0 .highK)) (c .before .before .before .before .decode .ensures)
+    room-sized (table-space .result) _ (2 * (start .args .g .k + 1)) (number-of (start .args .body .now)) (omega (arith, table-space .ensures, start .pre .0 .highK)) (decode .ensures)
 
 remap-requires : tie.Need-remap-requires
 remap-requires c κs = search needs
@@ -55,12 +58,15 @@ same-length-2 c = search needs
 
 returns : tie.Need-returns
 returns c =
+    let table-space = c .before .before .before .before .before .before .before .before .before .before .before .table-space in
+    let decode = c .before .before .before .before .before .before .before .before .before .decode in
+    let remap-here = c .before .before .before .before .remap in
     let start = c .before .before .before .before .before .before .before .before .before .before .before .before .before .before .before .before in
     let numbers = 2 * (start .args .g .k + 1) in
     agrees-same _ _ (remap (numbersAt (start .args .body .now) 0 numbers)) _ _ _
     (ap remap
-    (room-back (c .before .before .before .before .before .before .before .before .before .before .before .table-space .result) _ numbers (number-of (start .args .body .now)) (omega (arith, c .before .before .before .before .before .before .before .before .before .before .before .table-space .ensures, start .pre .0 .highK)) (c .before .before .before .before .before .before .before .before .before .decode .ensures)))
-    (c .before .before .before .before .remap .ensures)
+    (room-back (table-space .result) _ numbers (number-of (start .args .body .now)) (omega (arith, table-space .ensures, start .pre .0 .highK)) (decode .ensures)))
+    (remap-here .ensures)
 
 pub make-remap-spec : {M : Type 1} → statement M
 make-remap-spec =

@@ -29,7 +29,9 @@ array-borrow-prefix-fluxes : tie.Need-array-borrow-prefix-fluxes
 array-borrow-prefix-fluxes c = search needs
 
 slice-aggregate-decode-fluxes : tie.Need-slice-aggregate-decode-fluxes
-slice-aggregate-decode-fluxes c = sym (length-take-le _ _ (omega (arith, c .before .before .row-space .ensures, c .before .before .before .before .before .before .before .pre .0 .highW)))
+slice-aggregate-decode-fluxes c =
+    let start = c .before .before .before .before .before .before .before in
+    sym (length-take-le _ _ (omega (arith, c .before .before .row-space .ensures, start .pre .0 .highW)))
 
 decode-fluxes-requires : tie.Need-decode-fluxes-requires
 decode-fluxes-requires c κs =
@@ -38,13 +40,16 @@ decode-fluxes-requires c κs =
 
 array-share-prefix-fluxes : tie.Need-array-share-prefix-fluxes
 array-share-prefix-fluxes c =
+    let row-space = c .before .before .before .before .before .before .row-space in
     let start = c .before .before .before .before .before .before .before .before .before .before .before in
-    room-long (c .before .before .before .before .before .before .row-space .result) _ (start .args .g .w) (flux-of (start .args .body .now) 2) (omega (arith, c .before .before .before .before .before .before .row-space .ensures, start .pre .0 .highW)) (c .before .before .before .decode-fluxes .ensures)
+    room-long (row-space .result) _ (start .args .g .w) (flux-of (start .args .body .now) 2) (omega (arith, row-space .ensures, start .pre .0 .highW)) (c .before .before .before .decode-fluxes .ensures)
 
 slice-aggregate-zonal : tie.Need-slice-aggregate-zonal
 slice-aggregate-zonal c =
+    let row-space = c .before .before .before .before .before .before .before .row-space in
+    let decode-fluxes = c .before .before .before .before .decode-fluxes in
     let start = c .before .before .before .before .before .before .before .before .before .before .before .before in
-    room-sized (c .before .before .before .before .before .before .before .row-space .result) _ (start .args .g .w) (flux-of (start .args .body .now) 2) (omega (arith, c .before .before .before .before .before .before .before .row-space .ensures, start .pre .0 .highW)) (c .before .before .before .before .decode-fluxes .ensures)
+    room-sized (row-space .result) _ (start .args .g .w) (flux-of (start .args .body .now) 2) (omega (arith, row-space .ensures, start .pre .0 .highW)) (decode-fluxes .ensures)
 
 zonal-requires : tie.Need-zonal-requires
 zonal-requires c κs = search needs
@@ -57,11 +62,13 @@ same-length-2 c = search needs
 
 returns : tie.Need-returns
 returns c =
+    let row-space = c .before .before .before .before .before .before .before .before .before .before .before .before .row-space in
+    let decode-fluxes = c .before .before .before .before .before .before .before .before .before .decode-fluxes in
     let start = c .before .before .before .before .before .before .before .before .before .before .before .before .before .before .before .before .before in
     let sweep = c .before .before .before .before in
     agrees-same _ _ (zonal (start .args .p .layer) (start .args .p .row) (fluxesAt (start .args .body .now) 2 (start .args .g .w))) _ _ _
     (ap (zonal (start .args .p .layer) (start .args .p .row))
-    (room-back (c .before .before .before .before .before .before .before .before .before .before .before .before .row-space .result) _ (start .args .g .w) (flux-of (start .args .body .now) 2) (omega (arith, c .before .before .before .before .before .before .before .before .before .before .before .before .row-space .ensures, start .pre .0 .highW)) (c .before .before .before .before .before .before .before .before .before .decode-fluxes .ensures) ∙
+    (room-back (row-space .result) _ (start .args .g .w) (flux-of (start .args .body .now) 2) (omega (arith, row-space .ensures, start .pre .0 .highW)) (decode-fluxes .ensures) ∙
     fluxes-from (start .args .body .now) 2 (start .args .g .w)))
     (sweep .zonal .ensures)
 

@@ -42,21 +42,28 @@ number-requires c κs = search needs
 
 returns : tie.Need-returns
 returns c =
+    let cells-of = c .before .before .before .before .before .cells-of in
     let start = c .before .before .before .before .before .before .before .before .before in
     let answer = c .before .before .before .load-answer in
-    λ s. load-refused (start .args .g) _ (c .before .before .before .before .before .cells-of .ensures .0) _ _ (start .pre .taken) (start .args .kind) (start .args .body .now) (answer .result) _ s (c .before .before .line-of .ensures) (answer .ensures) (λ e. omega (arith, e, c .before .number .ensures, c .if1 .left))
+    λ s. load-refused (start .args .g) _ (cells-of .ensures .0) _ _ (start .pre .taken) (start .args .kind) (start .args .body .now) (answer .result) _ s (c .before .before .line-of .ensures) (answer .ensures) (λ e. omega (arith, e, c .before .number .ensures, c .if1 .left))
 
 slice-relend-prefix-load-into : tie.Need-slice-relend-prefix-load-into
 slice-relend-prefix-load-into c = search needs
 
 slice-aggregate-load-into : tie.Need-slice-aggregate-load-into
-slice-aggregate-load-into c = let start = c .before .before .before .before .before .before .before .before .before .before in sym (length-take-le _ _ (air-room (start .args .g) Load (start .args .body .now) (start .args .air .now) (start .args .tracers .now) (start .pre) _ (c .before .before .before .before .before .before .cells-of .ensures .1)))
+slice-aggregate-load-into c =
+    let cells-of = c .before .before .before .before .before .before .cells-of in
+    let start = c .before .before .before .before .before .before .before .before .before .before in sym (length-take-le _ _ (air-room (start .args .g) Load (start .args .body .now) (start .args .air .now) (start .args .tracers .now) (start .pre) _ (cells-of .ensures .1)))
 
 slice-relend-prefix-load-into-2 : tie.Need-slice-relend-prefix-load-into-2
-slice-relend-prefix-load-into-2 c = let start = c .before .before .before .before .before .before .before .before .before .before in tracers-room (start .args .g) Load (start .args .body .now) (start .args .air .now) (start .args .tracers .now) (start .pre) _ (c .before .before .before .before .before .before .cells-of .ensures .1)
+slice-relend-prefix-load-into-2 c =
+    let cells-of = c .before .before .before .before .before .before .cells-of in
+    let start = c .before .before .before .before .before .before .before .before .before .before in tracers-room (start .args .g) Load (start .args .body .now) (start .args .air .now) (start .args .tracers .now) (start .pre) _ (cells-of .ensures .1)
 
 slice-aggregate-load-into-2 : tie.Need-slice-aggregate-load-into-2
-slice-aggregate-load-into-2 c = let start = c .before .before .before .before .before .before .before .before .before .before .before in sym (length-take-le _ _ (tracers-room (start .args .g) Load (start .args .body .now) (start .args .air .now) (start .args .tracers .now) (start .pre) _ (c .before .before .before .before .before .before .before .cells-of .ensures .1)))
+slice-aggregate-load-into-2 c =
+    let cells-of = c .before .before .before .before .before .before .before .cells-of in
+    let start = c .before .before .before .before .before .before .before .before .before .before .before in sym (length-take-le _ _ (tracers-room (start .args .g) Load (start .args .body .now) (start .args .air .now) (start .args .tracers .now) (start .pre) _ (cells-of .ensures .1)))
 
 load-into-requires : tie.Need-load-into-requires
 load-into-requires c κs =
@@ -76,15 +83,18 @@ same-length-2 c = search needs
 
 returns-2 : tie.Need-returns-2
 returns-2 c =
+    let line-of = c .before .before .before .before .before .before .before .before .before .line-of in
+    let number = c .before .before .before .before .before .before .before .before .number in
+    let load-into = c .before .before .before .before .load-into in
     let start = c .before .before .before .before .before .before .before .before .before .before .before .before .before .before .before .before in
     let cells = c .before .before .before .before .before .before .before .before .before .before .before .before .cells-of in
     let answer = c .before .before .before .before .before .before .before .before .before .before .load-answer in
-    let into = c .before .before .before .before .load-into .ensures in
+    let into = load-into .ensures in
     let airs = length-take-le (cells .result) (start .args .air .now) (air-room (start .args .g) Load (start .args .body .now) (start .args .air .now) (start .args .tracers .now) (start .pre) _ (cells .ensures .1)) in
     let amounts = length-take-le (start .args .g .n * cells .result) (start .args .tracers .now) (tracers-room (start .args .g) Load (start .args .body .now) (start .args .air .now) (start .args .tracers .now) (start .pre) _ (cells .ensures .1)) in
     let newAir = into .airIs ∙ ap (numbersAt (start .args .body .now) 0) airs in
     let newTracers = into .tracersIs ∙ ap₂ (λ (a n : ℕ). numbersAt (start .args .body .now) (4 * a) n) airs amounts in
-    λ s. load-leaves (start .args .g) (cells .result) (cells .ensures .0) _ _ _ _ (ap length newAir ∙ length-tab _ _) (ap length newTracers ∙ length-tab _ _) (start .pre .taken) (start .args .kind) (start .args .body .now) (answer .result) _ s (c .before .before .before .before .before .before .before .before .before .line-of .ensures) (answer .ensures) (sym (c .before .before .before .before .before .before .before .before .number .ensures) ∙ c .before .before .before .before .before .before .before .if1 .taken) newAir newTracers
+    λ s. load-leaves (start .args .g) (cells .result) (cells .ensures .0) _ _ _ _ (ap length newAir ∙ length-tab _ _) (ap length newTracers ∙ length-tab _ _) (start .pre .taken) (start .args .kind) (start .args .body .now) (answer .result) _ s (line-of .ensures) (answer .ensures) (sym (number .ensures) ∙ c .before .before .before .before .before .before .before .if1 .taken) newAir newTracers
 
 pub take-load-spec : {M : Type 1} → statement M
 take-load-spec =

@@ -21,7 +21,9 @@ grid-of-requires : tie.Need-grid-of-requires
 grid-of-requires c κs = search needs
 
 body-length-requires : tie.Need-body-length-requires
-body-length-requires c κs = stage-small (c .before .before .before .settled .result) _ (c .grid-of .ensures) (c .before .before .before .settled .ensures .taken)
+body-length-requires c κs =
+    let settled = c .before .before .before .settled in
+    stage-small (settled .result) _ (c .grid-of .ensures) (settled .ensures .taken)
 
 returns : tie.Need-returns
 returns c =

@@ -10,7 +10,9 @@ use Rattle.records.proofs.read.Statement.{statement}
 use Rattle.records.proofs.read.Tie as tie
 
 returns : tie.Need-returns
-returns c = finds-nothing (c .before .before .args .stage) (c .before .before .args .input .now) (c .if1 .taken)
+returns c =
+    let start = c .before .before in
+    finds-nothing (start .args .stage) (start .args .input .now) (c .if1 .taken)
 
 shared-slice-read-kind-of : tie.Need-shared-slice-read-kind-of
 shared-slice-read-kind-of c = search needs
@@ -34,7 +36,9 @@ grid-of-requires : tie.Need-grid-of-requires
 grid-of-requires c κs = search needs
 
 body-length-requires : tie.Need-body-length-requires
-body-length-requires c κs = stage-small (c .before .before .before .settled .result) _ (c .grid-of .ensures) (c .before .before .before .settled .ensures .taken)
+body-length-requires c κs =
+    let settled = c .before .before .before .settled in
+    stage-small (settled .result) _ (c .grid-of .ensures) (settled .ensures .taken)
 
 sub-if3 : tie.Need-sub-if3
 sub-if3 c = search needs

@@ -30,7 +30,8 @@ returns c = settled-same _ Start (cc) refl
 
 returns-2 : tie.Need-returns-2
 returns-2 c =
-    settled-same _ (Gridded (c .before .before .before .stage .given .0 .0)) (c .before .before .before .stage .given .1)
+    let stage = c .before .before .before .stage in
+    settled-same _ (Gridded (stage .given .0 .0)) (stage .given .1)
     (sym (c .before .grid-refusal .ensures) ∙ c .if1 .taken)
 
 returns-3 : tie.Need-returns-3
@@ -40,7 +41,8 @@ returns-3 c =
 
 returns-4 : tie.Need-returns-4
 returns-4 c =
-    settled-same _ (Loaded (c .before .before .before .stage2 .given .0 .0)) (c .before .before .before .stage2 .given .1)
+    let stage2 = c .before .before .before .stage2 in
+    settled-same _ (Loaded (stage2 .given .0 .0)) (stage2 .given .1)
     (sym (c .before .grid-refusal2 .ensures) ∙ c .if2 .taken)
 
 returns-5 : tie.Need-returns-5
