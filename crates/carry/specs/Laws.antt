@@ -1,4 +1,4 @@
--- Laws that the proofs of the carrying functions cite: a call that was made, a grid's record, a load's lists.
+-- Laws that the proofs of the carrying functions cite: a grid's record, a load's lists, a command by its case.
 -- Assumes nothing.
 use Prim.Native.Nat.{ℕ, zero, suc, _+_, _*_, _-_, _≤_}
 use mathlib.Core.List.{List, []}
@@ -20,32 +20,10 @@ use Rattle.records.specs.declared.Stage.the-variants.{Gridded}
 use Rattle.records.specs.Stage.{stateOf, held, SmallGrid}
 use Rattle.records.specs.Laws.{takes, taken-small, tracer-cells}
 use Rattle.records.specs.Found.{commandIs, kindOfCommand}
+use Rattle.calls.specs.Makes.{MakeNeed, LoadsInto}
 use Rattle.carry.specs.declared.Outcome as code
 use Rattle.carry.specs.declared.Outcome.the-variants.{Nothing, Next, Last}
-use Rattle.carry.specs.Outcome.{outcomeIs, MakeNeed, Makes, TakesGrid, LoadsInto, bodyWorld, AnswersLoad, TakeNeed, TakesLoad, TakesCall, CarryNeed, CarriesCommand, Leaves, worldAfter}
-use Rattle.carry.specs.Room.{agrees-same}
-
--- ---- a call that was made is the one that the command asks for
-module _ (g : declared.Grid) (c : Command) (body : List ℕ) (x : Answer) (air tracers airLeft tracersLeft : List ℕ) where
-  pub makes-call : (made : Call) → commandIs (gridOf g) body c ≡ program.make made → Agrees (step (worldOf g air tracers) made) x airLeft tracersLeft → Makes g c body x air tracers airLeft tracersLeft
-  makes-call made e agrees call asked =
-      agrees-same (worldOf g air tracers) made call x airLeft tracersLeft (let same : made ≡ call = cc in same) agrees
-
-  -- a grid and a load are no calls
-  pub makes-grid : (wanted : declared.Grid) → c ≡ Grid wanted → Makes g c body x air tracers airLeft tracersLeft
-  makes-grid wanted e call asked =
-      let f : program.setGrid (gridOf wanted) ≡ program.make call = sym (ap (commandIs (gridOf g) body) e) ∙ asked in
-      absurd (let z : _≡_ {A = ℕ} 0 1 = cc in omega arith)
-
-  pub makes-load : c ≡ Load → Makes g c body x air tracers airLeft tracersLeft
-  makes-load e call asked =
-      let f : commandIs (gridOf g) body Load ≡ program.make call = sym (ap (commandIs (gridOf g) body) e) ∙ asked in
-      absurd (let z : _≡_ {A = ℕ} 0 1 = cc in omega arith)
-
--- a command's body is as long as its kind asks
-pub whole-of : (g : declared.Grid) (c d : Command) (body : List ℕ) → MakeNeed g c body → c ≡ d → program.bodyLength (gridOf g) (kindOfCommand d) ≤ length body
-whole-of g c d body need e =
-    subst (λ (x : Command). program.bodyLength (gridOf g) (kindOfCommand x) ≤ length body) e (need .whole)
+use Rattle.carry.specs.Outcome.{outcomeIs, TakesGrid, bodyWorld, AnswersLoad, TakeNeed, TakesLoad, TakesCall, CarryNeed, CarriesCommand, Leaves, worldAfter}
 
 -- ---- a grid's record: taken, or refused as the program's last line
 pub grid-taken : (byte : ℕ) (wanted : declared.Grid) (n : ℕ) → n ≡ program.gridRefusal (gridOf wanted) → n ≡ 0 → TakesGrid byte wanted (Next (record { kind = byte; answer = n; count = 0 }) (Gridded wanted))

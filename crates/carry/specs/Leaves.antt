@@ -26,7 +26,7 @@ use Rattle.records.specs.Stage.{stateOf, held}
 use Rattle.records.specs.Found.{commandIs}
 use Rattle.lines.specs.declared.Line as lines
 use Rattle.carry.specs.declared.Outcome.the-variants.{Nothing, Next, Last}
-use Rattle.carry.specs.Outcome.{lineIs, outcomeIs, worldAfter, Leaves, bodyWorld, AnswersLoad, LoadsInto}
+use Rattle.carry.specs.Outcome.{lineIs, outcomeIs, worldAfter, Leaves, bodyWorld, AnswersLoad}
 
 -- ---- a list written over the first entries
 written-none : (l : List ℕ) → l ≡ written l 0 []

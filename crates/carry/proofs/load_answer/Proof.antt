@@ -3,7 +3,7 @@
 use mathlib.Core.Path.{sym}
 use native.Mathlib.Omega.{arith}
 use lib.Seq.{length-take-le}
-use Rattle.carry.specs.Room.{take-short}
+use Rattle.calls.specs.Room.{take-short}
 use Rattle.carry.specs.Laws.{answers-load}
 use borrow.Author.Needs.{needs}
 use Rattle.carry.proofs.load_answer.Statement.{statement}

@@ -8,7 +8,7 @@ use lib.Seq.{length-take-le}
 use Rattle.model.specs.Laws.Basic.{length-tab}
 use Rattle.program.specs.Bytes.{numbersAt}
 use Rattle.records.specs.declared.Command.the-variants.{Load}
-use Rattle.carry.specs.Room.{take-short}
+use Rattle.calls.specs.Room.{take-short}
 use Rattle.carry.specs.Laws.{small, amounts-few, air-room, tracers-room, load-whole}
 use Rattle.carry.specs.Leaves.{load-leaves, load-refused}
 use borrow.Author.Needs.{needs}

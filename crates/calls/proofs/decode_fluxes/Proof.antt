@@ -1,4 +1,4 @@
--- `carry::decode_fluxes` meets its contract: each entry is the flux of its own four bytes.
+-- `calls::decode_fluxes` meets its contract: each entry is the flux of its own four bytes.
 -- Assumes nothing.
 use Prim.Native.Nat.{ℕ, _+_, _*_, _-_, _≤_}
 use mathlib.Core.Path.{_≡_, refl, sym, _∙_, ap}
@@ -8,10 +8,10 @@ use native.Mathlib.Omega.{arith}
 use mir.Syntax.{w32}
 use mir.Val.{toZ, ofZ}
 use Rattle.program.specs.Bytes.{numberAt, signed, fluxesAt}
-use Rattle.carry.specs.Fill.{filled-none, filled-more, filled}
+use Rattle.calls.specs.Fill.{filled-none, filled-more, filled}
 use borrow.Author.Needs.{needs}
-use Rattle.carry.proofs.decode_fluxes.Statement.{statement}
-use Rattle.carry.proofs.decode_fluxes.Tie as tie
+use Rattle.calls.proofs.decode_fluxes.Statement.{statement}
+use Rattle.calls.proofs.decode_fluxes.Tie as tie
 
 abbrev Inv-loop : tie.InvT-loop
 Inv-loop bytes out₀ i₀ out i = (i ≤ length out) × (length out ≡ length out₀) × (take i out ≡ fluxesAt bytes 0 i)

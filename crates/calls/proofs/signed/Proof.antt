@@ -1,4 +1,4 @@
--- `carry::signed` meets its contract: below 2^31 the number itself, else -1 less what is missing to 2^32 - 1.
+-- `calls::signed` meets its contract: below 2^31 the number itself, else -1 less what is missing to 2^32 - 1.
 -- Assumes nothing.
 use Prim.Native.Nat.{_-_}
 use mathlib.Core.Path.{_≡_, sym, _∙_}
@@ -7,10 +7,10 @@ use lib.IntN.{negsuc}
 use mir.Syntax.{w32}
 use mir.Val.{SFits}
 use mir.Facts.{toZ-ofZ, toZ-pos}
-use Rattle.carry.specs.Signed.{signed-low, signed-high, less-one}
+use Rattle.calls.specs.Signed.{signed-low, signed-high, less-one}
 use borrow.Author.Needs.{needs}
-use Rattle.carry.proofs.signed.Statement.{statement}
-use Rattle.carry.proofs.signed.Tie as tie
+use Rattle.calls.proofs.signed.Statement.{statement}
+use Rattle.calls.proofs.signed.Tie as tie
 
 cast-result : tie.Need-cast-result
 cast-result c = search needs

@@ -1,4 +1,4 @@
--- `carry::make_meridional` meets its contract: the fluxes decoded from the body are those that the call is made with.
+-- `calls::make_meridional` meets its contract: the fluxes decoded from the body are those that the call is made with.
 -- Assumes nothing.
 use Prim.Native.Nat.{_+_, _*_}
 use mathlib.Core.Path.{sym, _∙_, ap}
@@ -7,10 +7,10 @@ use lib.Seq.{length-take-le}
 use Rattle.model.specs.Step.{meridional}
 use Rattle.program.specs.Bytes.{fluxesAt}
 use Rattle.records.specs.Laws.{few-faces}
-use Rattle.carry.specs.Room.{take-short, rest-long, flux-of, room-back, room-long, room-sized, fluxes-from, agrees-same}
+use Rattle.calls.specs.Room.{take-short, rest-long, flux-of, room-back, room-long, room-sized, fluxes-from, agrees-same}
 use borrow.Author.Needs.{needs}
-use Rattle.carry.proofs.make_meridional.Statement.{statement}
-use Rattle.carry.proofs.make_meridional.Tie as tie
+use Rattle.calls.proofs.make_meridional.Statement.{statement}
+use Rattle.calls.proofs.make_meridional.Tie as tie
 
 cast-faces : tie.Need-cast-faces
 cast-faces c = search needs

@@ -1,14 +1,14 @@
--- `carry::make_zonal` meets its contract: the fluxes decoded from the body are those that the call is made with.
+-- `calls::make_zonal` meets its contract: the fluxes decoded from the body are those that the call is made with.
 -- Assumes nothing.
 use mathlib.Core.Path.{sym, _∙_, ap}
 use native.Mathlib.Omega.{arith}
 use lib.Seq.{length-take-le}
 use Rattle.model.specs.Step.{zonal}
 use Rattle.program.specs.Bytes.{fluxesAt}
-use Rattle.carry.specs.Room.{take-short, rest-long, flux-of, room-back, room-long, room-sized, fluxes-from, agrees-same}
+use Rattle.calls.specs.Room.{take-short, rest-long, flux-of, room-back, room-long, room-sized, fluxes-from, agrees-same}
 use borrow.Author.Needs.{needs}
-use Rattle.carry.proofs.make_zonal.Statement.{statement}
-use Rattle.carry.proofs.make_zonal.Tie as tie
+use Rattle.calls.proofs.make_zonal.Statement.{statement}
+use Rattle.calls.proofs.make_zonal.Tie as tie
 
 cast-w : tie.Need-cast-w
 cast-w c = search needs

@@ -1,4 +1,4 @@
--- `carry::make` meets its contract: each command's call, with the lists that its body holds.
+-- `calls::make` meets its contract: each command's call, with the lists that its body holds.
 -- Assumes nothing.
 use Prim.Native.Nat.{_+_, _*_}
 use mathlib.Core.Path.{ap}
@@ -7,10 +7,10 @@ use Rattle.units.specs.Grid.{gridOf}
 use Rattle.program.specs.Bytes.{numbersAt, fluxesAt}
 use Rattle.records.specs.declared.Command.the-variants.{Zonal, Meridional, Remap}
 use Rattle.records.specs.Found.{commandIs}
-use Rattle.carry.specs.Laws.{makes-call, makes-grid, makes-load, whole-of}
+use Rattle.calls.specs.Laws.{makes-call, makes-grid, makes-load, whole-of}
 use borrow.Author.Needs.{needs}
-use Rattle.carry.proofs.make.Statement.{statement}
-use Rattle.carry.proofs.make.Tie as tie
+use Rattle.calls.proofs.make.Statement.{statement}
+use Rattle.calls.proofs.make.Tie as tie
 
 enum-told : tie.Need-enum-told
 enum-told c = search needs

@@ -1,4 +1,4 @@
--- `carry::decode` meets its contract: each entry is the number of its own four bytes.
+-- `calls::decode` meets its contract: each entry is the number of its own four bytes.
 -- Assumes nothing.
 use Prim.Native.Nat.{ℕ, _+_, _*_, _-_, _≤_}
 use mathlib.Core.Path.{_≡_, refl, sym, _∙_, ap}
@@ -6,10 +6,10 @@ use native.Mathlib.Nat.{zero-add}
 use lib.ListN.{length, take, length-set}
 use native.Mathlib.Omega.{arith}
 use Rattle.program.specs.Bytes.{numberAt, numbersAt}
-use Rattle.carry.specs.Fill.{filled-none, filled-more, filled}
+use Rattle.calls.specs.Fill.{filled-none, filled-more, filled}
 use borrow.Author.Needs.{needs}
-use Rattle.carry.proofs.decode.Statement.{statement}
-use Rattle.carry.proofs.decode.Tie as tie
+use Rattle.calls.proofs.decode.Statement.{statement}
+use Rattle.calls.proofs.decode.Tie as tie
 
 abbrev Inv-loop : tie.InvT-loop
 Inv-loop bytes out₀ i₀ out i = (i ≤ length out) × (length out ≡ length out₀) × (take i out ≡ numbersAt bytes 0 i)

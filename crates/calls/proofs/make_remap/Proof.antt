@@ -1,4 +1,4 @@
--- `carry::make_remap` meets its contract: the table decoded from the body is that which the call is made with.
+-- `calls::make_remap` meets its contract: the table decoded from the body is that which the call is made with.
 -- Assumes nothing.
 use Prim.Native.Nat.{_+_, _*_}
 use mathlib.Core.Path.{sym, ap}
@@ -6,10 +6,10 @@ use native.Mathlib.Omega.{arith}
 use lib.Seq.{length-take-le}
 use Rattle.model.specs.Step.{remap}
 use Rattle.program.specs.Bytes.{numbersAt}
-use Rattle.carry.specs.Room.{take-short, number-of, room-back, room-long, room-sized, agrees-same}
+use Rattle.calls.specs.Room.{take-short, number-of, room-back, room-long, room-sized, agrees-same}
 use borrow.Author.Needs.{needs}
-use Rattle.carry.proofs.make_remap.Statement.{statement}
-use Rattle.carry.proofs.make_remap.Tie as tie
+use Rattle.calls.proofs.make_remap.Statement.{statement}
+use Rattle.calls.proofs.make_remap.Tie as tie
 
 cast-numbers : tie.Need-cast-numbers
 cast-numbers c = search needs

@@ -1,14 +1,14 @@
--- `carry::load_into` meets its contract: both lists are the body's numbers, one after the other.
+-- `calls::load_into` meets its contract: both lists are the body's numbers, one after the other.
 -- Assumes nothing.
 use Prim.Native.Nat.{ℕ, _*_}
 use mathlib.Core.Path.{_∙_, ap}
 use lib.ListN.{length}
 use Rattle.model.specs.Laws.Basic.{length-tab}
 use Rattle.program.specs.Bytes.{numbersAt}
-use Rattle.carry.specs.Room.{numbers-from}
+use Rattle.calls.specs.Room.{numbers-from}
 use borrow.Author.Needs.{needs}
-use Rattle.carry.proofs.load_into.Statement.{statement}
-use Rattle.carry.proofs.load_into.Tie as tie
+use Rattle.calls.proofs.load_into.Statement.{statement}
+use Rattle.calls.proofs.load_into.Tie as tie
 
 decode-requires : tie.Need-decode-requires
 decode-requires c κs = search needs
