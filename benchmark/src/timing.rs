@@ -1,0 +1,105 @@
+//! Timing: the versions take turns on the same calls from the same world in the same memory, and every result is compared.
+
+use crate::versions::{Version, COUNT, VERSIONS};
+use reference::{Call, World};
+use std::hint::black_box;
+use std::time::Instant;
+
+/// Calls made one after the other, from a world.
+pub struct Work {
+    pub start: World,
+    pub calls: Vec<Call>,
+}
+
+/// The seconds of each version, a row for each round.
+pub type Rounds = Vec<[f64; COUNT]>;
+
+/// What is left after a work: the answers and the world.
+#[derive(PartialEq)]
+pub struct Left {
+    pub answers: Vec<u64>,
+    pub world: World,
+}
+
+fn restore(world: &mut World, start: &World) {
+    world.grid = start.grid;
+    world.air.clone_from(&start.air);
+    world.tracers.clone_from(&start.tracers);
+}
+
+/// Seconds of the calls by one version; the world stands at the work's start before and is left as the calls leave it.
+pub fn time(version: &Version, work: &Work, left: &mut Left) -> f64 {
+    restore(&mut left.world, &work.start);
+    left.answers.clear();
+    left.answers.reserve(work.calls.len());
+    let begin = Instant::now();
+    for call in &work.calls {
+        left.answers.push((version.call)(black_box(&mut left.world), black_box(call)));
+    }
+    begin.elapsed().as_secs_f64()
+}
+
+pub fn nothing_left(start: &World) -> Left {
+    Left { answers: Vec::new(), world: start.clone() }
+}
+
+/// Makes every call by every version and compares answer, count and every number after each.
+pub fn agree(work: &Work) {
+    let mut worlds: [World; COUNT] = std::array::from_fn(|_| work.start.clone());
+    for (number, call) in work.calls.iter().enumerate() {
+        let answers: [u64; COUNT] = std::array::from_fn(|v| (VERSIONS[v].call)(&mut worlds[v], call));
+        for v in 1..COUNT {
+            let same = answers[v] == answers[0] && worlds[v] == worlds[0];
+            assert!(same, "{} differs from the library at call {number}: {call:?}", VERSIONS[v].name);
+        }
+    }
+}
+
+/// One round: each version once, the first one another in each round.
+pub fn round(number: usize, work: &Work, left: &mut Left, first: &mut Option<Left>) -> [f64; COUNT] {
+    let mut seconds = [0.0; COUNT];
+    for turn in 0..COUNT {
+        let v = (number + turn) % COUNT;
+        seconds[v] = time(&VERSIONS[v], work, left);
+        match first {
+            Some(first) => assert!(*left == *first, "{} differs from the others", VERSIONS[v].name),
+            None => *first = Some(Left { answers: left.answers.clone(), world: left.world.clone() }),
+        }
+    }
+    seconds
+}
+
+/// All rounds of a work, after the versions were compared call by call.
+pub fn rounds(work: &Work, count: usize) -> Rounds {
+    agree(work);
+    let (mut left, mut first) = (nothing_left(&work.start), None);
+    round(0, work, &mut left, &mut first);
+    let accepted = left.answers.iter().all(|answer| answer >> 32 == 0);
+    assert!(accepted, "a timed call is refused: {:?}", left.answers);
+    (0..count).map(|number| round(number, work, &mut left, &mut first)).collect()
+}
+
+/// The median, and the 10th and the 90th of a hundred.
+#[derive(Clone, Copy)]
+pub struct Spread {
+    pub median: f64,
+    pub low: f64,
+    pub high: f64,
+}
+
+pub fn spread(mut numbers: Vec<f64>) -> Spread {
+    numbers.sort_by(f64::total_cmp);
+    let at = |hundredth: usize| numbers[(numbers.len() - 1) * hundredth / 100];
+    Spread { median: at(50), low: at(10), high: at(90) }
+}
+
+impl std::fmt::Display for Spread {
+    fn fmt(&self, f: &mut std::fmt::Formatter) -> std::fmt::Result {
+        write!(f, "{:.2} ({:.2}..{:.2})", self.median, self.low, self.high)
+    }
+}
+
+/// The library's time as a part of another version's, round by round.
+pub fn ratio_to(rounds: &Rounds, version: usize) -> Spread {
+    spread(rounds.iter().map(|seconds| seconds[0] / seconds[version]).collect())
+}
