@@ -1,15 +1,18 @@
 //! The library's time for each cell and tracer as W, R, K and N grow, and the tests' bandwidth and share.
 
-use crate::timing::{nothing_left, spread, time, Left, Spread, Work};
+use crate::timing::{nothing_left, now, spread, time, Left, Spread, Work};
 use crate::versions::{read, VERSIONS};
 use crate::works::{self, FULL};
 use reference::{Call, Grid, World};
 use std::hint::black_box;
-use std::time::Instant;
 
 /// The sizes that one of the grid's numbers takes.
-pub const SIZES: [(&str, [u32; 4]); 4] =
-    [("W", [9, 18, 36, 72]), ("R", [6, 11, 22, 44]), ("K", [4, 8, 16, 32]), ("N", [1, 2, 4, 8])];
+pub const SIZES: [(&str, [u32; 4]); 4] = [
+    ("W", [9, 18, 36, 72]),
+    ("R", [6, 11, 22, 44]),
+    ("K", [4, 8, 16, 32]),
+    ("N", [1, 2, 4, 8]),
+];
 
 fn with(grid: Grid, name: &str, size: u32) -> Grid {
     match name {
@@ -29,10 +32,30 @@ pub struct Grown {
 }
 
 pub const GROWN: [Grown; 4] = [
-    Grown { name: "load", grid: FULL, grows_with: "WRKN", calls: |_, _| vec![Call::Load] },
-    Grown { name: "zonal", grid: Grid { r: 1, k: 1, ..FULL }, grows_with: "WN", calls: works::zonal },
-    Grown { name: "meridional", grid: Grid { k: 1, ..FULL }, grows_with: "WRN", calls: works::meridional },
-    Grown { name: "remap", grid: FULL, grows_with: "WRKN", calls: works::remap },
+    Grown {
+        name: "load",
+        grid: FULL,
+        grows_with: "WRKN",
+        calls: |_, _| vec![Call::Load],
+    },
+    Grown {
+        name: "zonal",
+        grid: Grid { r: 1, k: 1, ..FULL },
+        grows_with: "WN",
+        calls: works::zonal,
+    },
+    Grown {
+        name: "meridional",
+        grid: Grid { k: 1, ..FULL },
+        grows_with: "WRN",
+        calls: works::meridional,
+    },
+    Grown {
+        name: "remap",
+        grid: FULL,
+        grows_with: "WRKN",
+        calls: works::remap,
+    },
 ];
 
 /// Seconds of the library for each number (air and tracers) of the world.
@@ -62,12 +85,12 @@ pub fn bandwidth(grid: Grid, version: usize, rounds: usize) -> Spread {
     let mut left = nothing_left(&work.start);
     let share = |_| {
         let seconds = time(&VERSIONS[version], &work, &mut left);
-        let begin = Instant::now();
+        let begin = now();
         for _ in &work.calls {
             black_box(read(black_box(&left.world.air)));
             black_box(read(black_box(&left.world.tracers)));
         }
-        begin.elapsed().as_secs_f64() / seconds
+        (now() - begin) / seconds
     };
     spread((0..rounds).map(share).collect())
 }
@@ -75,8 +98,13 @@ pub fn bandwidth(grid: Grid, version: usize, rounds: usize) -> Spread {
 /// The share of the tests in a call: the time of as many loads as a part of the calls'.
 pub fn share(kind: &works::Kind, version: usize, rounds: usize) -> Spread {
     let work = works::work(7, FULL, kind.calls, 0);
-    let loads = Work { start: work.start.clone(), calls: vec![Call::Load; work.calls.len()] };
+    let loads = Work {
+        start: work.start.clone(),
+        calls: vec![Call::Load; work.calls.len()],
+    };
     let mut left = nothing_left(&work.start);
-    let share = |_| time(&VERSIONS[version], &loads, &mut left) / time(&VERSIONS[version], &work, &mut left);
+    let share = |_| {
+        time(&VERSIONS[version], &loads, &mut left) / time(&VERSIONS[version], &work, &mut left)
+    };
     spread((0..rounds).map(share).collect())
 }

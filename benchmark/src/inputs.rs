@@ -30,9 +30,12 @@ fn amount(random: &mut Random, kind: u32, grid: &Grid, cell: u32) -> u32 {
 
 pub fn world(random: &mut Random, grid: Grid) -> World {
     let layer = 2 + grid.r * grid.w;
-    let noisy = |random: &mut Random, air: f64| (air * (0.97 + random.below(600) as f64 / 10_000.0)) as u32;
+    let noisy =
+        |random: &mut Random, air: f64| (air * (0.97 + random.below(600) as f64 / 10_000.0)) as u32;
     let places = || (0..grid.k).flat_map(|k| (0..layer).map(move |c| (k, c)));
-    let air = places().map(|(k, c)| noisy(random, base_air(&grid, k, c))).collect();
+    let air = places()
+        .map(|(k, c)| noisy(random, base_air(&grid, k, c)))
+        .collect();
     let tracers = (0..grid.n)
         .flat_map(|t| places().map(move |(_, c)| (t, c)))
         .map(|(t, c)| amount(random, t, &grid, c))
@@ -77,8 +80,15 @@ pub fn meridional(random: &mut Random, world: &World, layer: u32) -> Call {
 pub fn opposite(call: &Call) -> Call {
     let back = |fluxes: &[i32]| fluxes.iter().map(|f| -f).collect();
     match call {
-        Call::Zonal { layer, row, fluxes } => Call::Zonal { layer: *layer, row: *row, fluxes: back(fluxes) },
-        Call::Meridional { layer, fluxes } => Call::Meridional { layer: *layer, fluxes: back(fluxes) },
+        Call::Zonal { layer, row, fluxes } => Call::Zonal {
+            layer: *layer,
+            row: *row,
+            fluxes: back(fluxes),
+        },
+        Call::Meridional { layer, fluxes } => Call::Meridional {
+            layer: *layer,
+            fluxes: back(fluxes),
+        },
         other => other.clone(),
     }
 }

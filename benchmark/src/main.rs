@@ -12,6 +12,7 @@ mod works;
 #[allow(dead_code)]
 mod worlds;
 
+use day::Measure;
 use reference::Grid;
 use timing::{agree, ratio_to, rounds, spread, Rounds, Work};
 use versions::{COUNT, VERSIONS};
@@ -28,14 +29,27 @@ struct Amount {
 fn amount(arguments: &[String]) -> Amount {
     let has = |name: &str| arguments.iter().any(|argument| argument == name);
     let known = ["--quick", "--times"];
-    if let Some(other) = arguments.iter().find(|argument| !known.contains(&argument.as_str())) {
+    if let Some(other) = arguments
+        .iter()
+        .find(|argument| !known.contains(&argument.as_str()))
+    {
         panic!("{other} is not one of {known:?}");
     }
     let times = has("--times");
     if has("--quick") {
-        Amount { lists: 200, rounds: 15, days: 3, times }
+        Amount {
+            lists: 200,
+            rounds: 15,
+            days: 3,
+            times,
+        }
     } else {
-        Amount { lists: 2_000, rounds: 101, days: 21, times }
+        Amount {
+            lists: 2_000,
+            rounds: 61,
+            days: 15,
+            times,
+        }
     }
 }
 
@@ -49,16 +63,25 @@ fn agreement(lists: u64) {
         let mut start = worlds::world(&mut random, grid);
         for _ in 0..12 {
             let call = worlds::call(&mut random, &start);
-            let work = Work { start, calls: vec![call] };
+            let work = Work {
+                start,
+                calls: vec![call],
+            };
             agree(&work);
             start = work.start;
             let answer = (VERSIONS[0].call)(&mut start, &work.calls[0]);
             reached[(answer >> 32) as usize] += 1;
         }
     }
-    println!("All versions agree on {} calls of {lists} seeded lists (answer, count, every number).", 12 * lists);
+    println!(
+        "All versions agree on {} calls of {lists} seeded lists (answer, count, every number).",
+        12 * lists
+    );
     println!("Calls by answer 0 to 12: {reached:?}");
-    assert!(reached.iter().all(|&number| number > 0), "an answer was not reached");
+    assert!(
+        reached.iter().all(|&number| number > 0),
+        "an answer was not reached"
+    );
 }
 
 /// The table's header: a first column, and a column for each other version.
@@ -66,14 +89,29 @@ fn header(first: &str, times: bool) {
     let names: Vec<&str> = VERSIONS[1..].iter().map(|version| version.name).collect();
     let more = if times { " library, µs |" } else { "" };
     println!("| {first} | {} |{more}", names.join(" | "));
-    println!("|{}{}", "---|".repeat(COUNT), if times { "---|" } else { "" });
+    println!(
+        "|{}{}",
+        "---|".repeat(COUNT),
+        if times { "---|" } else { "" }
+    );
+}
+
+/// A line of a table: the ratios, and the library's seconds where they are asked for.
+fn row(name: &str, ratios: &[String], seconds: f64, times: bool) {
+    let more = if times {
+        format!(" {:.3} |", seconds * 1e6)
+    } else {
+        String::new()
+    };
+    println!("| {name} | {} |{more}", ratios.join(" | "));
 }
 
 fn ratios(name: &str, rounds: &Rounds, calls: usize, times: bool) {
-    let all: Vec<String> = (1..COUNT).map(|v| ratio_to(rounds, v).to_string()).collect();
+    let all: Vec<String> = (1..COUNT)
+        .map(|v| ratio_to(rounds, v).to_string())
+        .collect();
     let median = spread(rounds.iter().map(|seconds| seconds[0]).collect()).median;
-    let more = if times { format!(" {:.3} |", median * 1e6 / calls as f64) } else { String::new() };
-    println!("| {name} | {} |{more}", all.join(" | "));
+    row(name, &all, median / calls as f64, times);
 }
 
 fn each_call(title: &str, grid: Grid, numbers: usize, amount: &Amount) {
@@ -82,41 +120,80 @@ fn each_call(title: &str, grid: Grid, numbers: usize, amount: &Amount) {
     for kind in &works::KINDS {
         eprintln!("{title}: {}", kind.name);
         let work = works::work(3, grid, kind.calls, numbers);
-        ratios(kind.name, &rounds(&work, amount.rounds), work.calls.len(), amount.times);
+        ratios(
+            kind.name,
+            &rounds(&work, amount.rounds),
+            work.calls.len(),
+            amount.times,
+        );
     }
 }
 
 fn a_day(amount: &Amount) {
-    let day = day::run(amount.days, |number| eprintln!("day {} of {}", number + 1, amount.days));
+    let day = day::run(amount.days, |number| {
+        eprintln!("day {number} of {}", amount.days)
+    });
     println!("\n## A day: {} calls on the full grid\n", day.calls);
-    let reached = day.substeps.iter().enumerate().filter(|(_, rows)| **rows > 0);
-    let counts: Vec<String> = reached.map(|(n, rows)| format!("{rows} with {n}")).collect();
+    let reached = day
+        .substeps
+        .iter()
+        .enumerate()
+        .filter(|(_, rows)| **rows > 0);
+    let counts: Vec<String> = reached
+        .map(|(n, rows)| format!("{rows} with {n}"))
+        .collect();
     println!("Rows by their substep count: {}.\n", counts.join(", "));
     header("Part", amount.times);
-    ratios("the day", &day.whole, 1, amount.times);
-    ratios("its tests (as many loads)", &day.loads, 1, amount.times);
-    ratios("the rest", &day.sweeps, 1, amount.times);
+    let lines = [
+        ("the day", Measure::Whole),
+        ("its tests (as many loads)", Measure::Tests),
+        ("the rest", Measure::Rest),
+    ];
+    for (name, measure) in lines {
+        let all: Vec<String> = (1..COUNT)
+            .map(|v| day.ratio(measure, v).to_string())
+            .collect();
+        row(name, &all, day.median(measure, 0), amount.times);
+    }
     println!("\nShare of the whole-world tests in the day:");
     for (v, version) in VERSIONS.iter().enumerate() {
-        println!("- {}: {}", version.name, day.share(v));
+        println!("- {}: {:.2}", version.name, day.share(v));
     }
 }
 
-fn tests(amount: &Amount) {
-    println!("\n## The whole-world tests\n\nTheir share in a call on the full grid (as many loads as a part of the calls):\n");
+fn share_of_tests(amount: &Amount) {
+    println!("\n## The whole-world tests\n");
+    println!("Their share in a call on the full grid (as many loads as a part of the calls):\n");
     println!("| Call | library | {} |\n|---|---|---|", VERSIONS[1].name);
-    for kind in works::KINDS.iter().filter(|kind| ["zonal", "meridional", "remap"].contains(&kind.name)) {
+    let moves = |kind: &&works::Kind| ["zonal", "meridional", "remap"].contains(&kind.name);
+    for kind in works::KINDS.iter().filter(moves) {
         eprintln!("share of the tests in {}", kind.name);
         let shares = [0, 1].map(|v| growth::share(kind, v, amount.rounds));
         println!("| {} | {} | {} |", kind.name, shares[0], shares[1]);
     }
+}
+
+fn bandwidth_of_tests(amount: &Amount) {
     println!("\nTheir bandwidth as a part of a plain read's (a sum in 32 bits by gcc -O3 -march=native):\n");
-    println!("| Grid | library | {} | {} | {} |\n|---|---|---|---|---|", VERSIONS[1].name, VERSIONS[2].name, VERSIONS[3].name);
-    let grids = [Grid { r: 11, k: 4, ..works::FULL }, Grid { k: 8, ..works::FULL }, works::FULL];
-    for grid in grids {
+    let names = VERSIONS.map(|version| version.name);
+    println!("| Grid | {} |\n|---|---|---|---|---|", names.join(" | "));
+    let (part, quarter) = (
+        Grid {
+            r: 11,
+            k: 4,
+            ..works::FULL
+        },
+        Grid {
+            k: 8,
+            ..works::FULL
+        },
+    );
+    for grid in [part, quarter, works::FULL] {
         eprintln!("bandwidth of the tests, {grid:?}");
-        let shares: Vec<String> = (0..COUNT).map(|v| growth::bandwidth(grid, v, amount.rounds).to_string()).collect();
-        println!("| {} × {} × {} × {} | {} |", grid.w, grid.r, grid.k, grid.n, shares.join(" | "));
+        let share = |v| growth::bandwidth(grid, v, amount.rounds).to_string();
+        let shares: Vec<String> = (0..COUNT).map(share).collect();
+        let Grid { w, r, k, n } = grid;
+        println!("| {w} × {r} × {k} × {n} | {} |", shares.join(" | "));
     }
 }
 
@@ -133,7 +210,9 @@ fn linear(amount: &Amount) {
         };
         let columns: Vec<_> = growth::GROWN.iter().map(of_kind).collect();
         for (i, size) in sizes.iter().enumerate() {
-            let text = |column: &Option<[timing::Spread; 4]>| column.map_or("–".into(), |all| all[i].to_string());
+            let text = |column: &Option<[timing::Spread; 4]>| {
+                column.map_or("–".into(), |all| all[i].to_string())
+            };
             let row: Vec<String> = columns.iter().map(text).collect();
             println!("| {name} = {size} | {} |", row.join(" | "));
         }
@@ -145,9 +224,15 @@ fn main() {
     let amount = amount(&arguments);
     println!("# Ratios, each the median of its rounds and in brackets the 10th and the 90th of a hundred\n");
     agreement(amount.lists);
-    each_call("Each call on 8 × 3 × 2 × 2", works::SMALL, 20_000, &amount);
-    each_call("Each call on 72 × 44 × 32 × 8", works::FULL, 0, &amount);
+    each_call("Each call on 8 × 3 × 2 × 2", works::SMALL, 100_000, &amount);
+    each_call(
+        "Each call on 72 × 44 × 32 × 8",
+        works::FULL,
+        5_000_000,
+        &amount,
+    );
     a_day(&amount);
-    tests(&amount);
+    share_of_tests(&amount);
+    bandwidth_of_tests(&amount);
     linear(&amount);
 }

@@ -56,7 +56,10 @@ fn common_places(g: Grid, air: &[u32], tracers: &[u32], lent: Lent) -> Result<Te
     if air.len() != cells || tracers.len() != g.n as usize * cells || !lent_fits(&g, lent) {
         return Err(2);
     }
-    if air.iter().fold(false, |bad, &m| bad | (m == 0) | (m > 65_535)) {
+    if air
+        .iter()
+        .fold(false, |bad, &m| bad | (m == 0) | (m > 65_535))
+    {
         return Err(3);
     }
     let mut totals = [0; 8];
@@ -66,7 +69,12 @@ fn common_places(g: Grid, air: &[u32], tracers: &[u32], lent: Lent) -> Result<Te
             return Err(4);
         }
     }
-    Ok(Tested { w, layer, cells, totals })
+    Ok(Tested {
+        w,
+        layer,
+        cells,
+        totals,
+    })
 }
 
 pub fn load(g: Grid, air: &[u32], tracers: &[u32]) -> Outcome {
@@ -83,7 +91,13 @@ pub fn total(g: Grid, air: &[u32], tracers: &[u32], tracer: u32) -> Outcome {
 }
 
 /// Places 1 to 5 of a call that names a tracer and a cell: where the amount stands, and the tracer's total.
-fn named(g: Grid, air: &[u32], tracers: &[u32], tracer: u32, cell: u32) -> Result<(usize, u64), u32> {
+fn named(
+    g: Grid,
+    air: &[u32],
+    tracers: &[u32],
+    tracer: u32,
+    cell: u32,
+) -> Result<(usize, u64), u32> {
     let world = common_places(g, air, tracers, Lent::Nothing)?;
     if tracer >= g.n || cell as usize >= world.cells {
         return Err(5);
@@ -97,7 +111,14 @@ pub fn cell(g: Grid, air: &[u32], tracers: &[u32], tracer: u32, cell: u32) -> Ou
     Ok(tracers[place])
 }
 
-pub fn emission(g: Grid, air: &[u32], tracers: &mut [u32], tracer: u32, cell: u32, amount: u32) -> Outcome {
+pub fn emission(
+    g: Grid,
+    air: &[u32],
+    tracers: &mut [u32],
+    tracer: u32,
+    cell: u32,
+    amount: u32,
+) -> Outcome {
     let (place, total) = named(g, air, tracers, tracer, cell)?;
     if total + u64::from(amount) > MOST_TOTAL {
         return Err(6);
@@ -106,7 +127,14 @@ pub fn emission(g: Grid, air: &[u32], tracers: &mut [u32], tracer: u32, cell: u3
     Ok(0)
 }
 
-pub fn withdrawal(g: Grid, air: &[u32], tracers: &mut [u32], tracer: u32, cell: u32, amount: u32) -> Outcome {
+pub fn withdrawal(
+    g: Grid,
+    air: &[u32],
+    tracers: &mut [u32],
+    tracer: u32,
+    cell: u32,
+    amount: u32,
+) -> Outcome {
     let (place, _) = named(g, air, tracers, tracer, cell)?;
     tracers[place] = tracers[place].checked_sub(amount).ok_or(7u32)?;
     Ok(0)
@@ -120,7 +148,9 @@ fn mismatch(qa: i64, q: i64, qb: i64) -> i64 {
     let least = qa.min(q).min(qb);
     let greatest = qa.max(q).max(qb);
     let difference = qb - qa;
-    let size = (difference.abs() / 2).min(2 * (q - least)).min(2 * (greatest - q));
+    let size = (difference.abs() / 2)
+        .min(2 * (q - least))
+        .min(2 * (greatest - q));
     if difference < 0 {
         -size
     } else {
@@ -143,11 +173,19 @@ fn fluxes_fit(fluxes: &[i32], limit: u32) -> bool {
 }
 
 fn west_of(i: usize, w: usize) -> usize {
-    if i == 0 { w - 1 } else { i - 1 }
+    if i == 0 {
+        w - 1
+    } else {
+        i - 1
+    }
 }
 
 fn east_of(i: usize, w: usize) -> usize {
-    if i + 1 == w { 0 } else { i + 1 }
+    if i + 1 == w {
+        0
+    } else {
+        i + 1
+    }
 }
 
 /// Part s of n of each flux.
@@ -211,7 +249,14 @@ fn step_gas(gas: &mut [u32], air: &[u32], f: &[i32]) {
     }
 }
 
-pub fn zonal(g: Grid, air: &mut [u32], tracers: &mut [u32], layer: u32, row: u32, fluxes: &[i32]) -> Outcome {
+pub fn zonal(
+    g: Grid,
+    air: &mut [u32],
+    tracers: &mut [u32],
+    layer: u32,
+    row: u32,
+    fluxes: &[i32],
+) -> Outcome {
     let world = common_places(g, air, tracers, Lent::RowFluxes(fluxes.len()))?;
     if layer >= g.k || row >= g.r {
         return Err(5);
@@ -302,7 +347,13 @@ fn step_layer_gas(gas: &mut [u32], air: &[u32], f: &[i32], w: usize) {
     gas[1 + rows] = after(gas[1 + rows], piece[rows..rows + w].iter().sum(), 0);
 }
 
-pub fn meridional(g: Grid, air: &mut [u32], tracers: &mut [u32], layer: u32, fluxes: &[i32]) -> Outcome {
+pub fn meridional(
+    g: Grid,
+    air: &mut [u32],
+    tracers: &mut [u32],
+    layer: u32,
+    fluxes: &[i32],
+) -> Outcome {
     let world = common_places(g, air, tracers, Lent::LayerFluxes(fluxes.len()))?;
     if layer >= g.k {
         return Err(5);
@@ -324,7 +375,9 @@ pub fn meridional(g: Grid, air: &mut [u32], tracers: &mut [u32], layer: u32, flu
 fn table_fits(table: &[u32]) -> bool {
     table.starts_with(&[0, 0])
         && table.ends_with(&[0, 65_536])
-        && table.chunks_exact(2).all(|pair| pair[0] <= 2_097_120 && pair[1] <= 65_536)
+        && table
+            .chunks_exact(2)
+            .all(|pair| pair[0] <= 2_097_120 && pair[1] <= 65_536)
 }
 
 /// A column's old air and the table's edges in it.
@@ -334,7 +387,10 @@ struct Column {
 }
 
 fn column_at(air: &[u32], table: &[u32], c: usize, layer: usize) -> Column {
-    let mut column = Column { air: [0; MOST_K], edges: [0; MOST_K + 1] };
+    let mut column = Column {
+        air: [0; MOST_K],
+        edges: [0; MOST_K + 1],
+    };
     for (m, &lent) in column.air.iter_mut().zip(air[c..].iter().step_by(layer)) {
         *m = lent;
     }

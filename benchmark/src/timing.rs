@@ -3,7 +3,6 @@
 use crate::versions::{Version, COUNT, VERSIONS};
 use reference::{Call, World};
 use std::hint::black_box;
-use std::time::Instant;
 
 /// Calls made one after the other, from a world.
 pub struct Work {
@@ -27,43 +26,92 @@ fn restore(world: &mut World, start: &World) {
     world.tracers.clone_from(&start.tracers);
 }
 
+/// A time of the C library: seconds and billionths.
+#[repr(C)]
+struct Moment {
+    seconds: i64,
+    billionths: i64,
+}
+
+extern "C" {
+    fn clock_gettime(clock: i32, moment: *mut Moment) -> i32;
+}
+
+/// Linux's number of the clock that runs only while this thread does, so that other programs' turns are not counted.
+const THREAD_CLOCK: i32 = 3;
+
+/// This thread's seconds so far.
+pub fn now() -> f64 {
+    let mut moment = Moment {
+        seconds: 0,
+        billionths: 0,
+    };
+    // SAFETY: `Moment` has the layout of a 64-bit Linux's timespec, and is this function's own.
+    let failed = unsafe { clock_gettime(THREAD_CLOCK, &mut moment) };
+    assert!(failed == 0, "this thread's clock cannot be read");
+    moment.seconds as f64 + moment.billionths as f64 * 1e-9
+}
+
 /// Seconds of the calls by one version; the world stands at the work's start before and is left as the calls leave it.
 pub fn time(version: &Version, work: &Work, left: &mut Left) -> f64 {
     restore(&mut left.world, &work.start);
     left.answers.clear();
     left.answers.reserve(work.calls.len());
-    let begin = Instant::now();
+    let begin = now();
     for call in &work.calls {
-        left.answers.push((version.call)(black_box(&mut left.world), black_box(call)));
+        left.answers
+            .push((version.call)(black_box(&mut left.world), black_box(call)));
     }
-    begin.elapsed().as_secs_f64()
+    now() - begin
 }
 
 pub fn nothing_left(start: &World) -> Left {
-    Left { answers: Vec::new(), world: start.clone() }
+    Left {
+        answers: Vec::new(),
+        world: start.clone(),
+    }
 }
 
 /// Makes every call by every version and compares answer, count and every number after each.
 pub fn agree(work: &Work) {
     let mut worlds: [World; COUNT] = std::array::from_fn(|_| work.start.clone());
     for (number, call) in work.calls.iter().enumerate() {
-        let answers: [u64; COUNT] = std::array::from_fn(|v| (VERSIONS[v].call)(&mut worlds[v], call));
+        let answers: [u64; COUNT] =
+            std::array::from_fn(|v| (VERSIONS[v].call)(&mut worlds[v], call));
         for v in 1..COUNT {
             let same = answers[v] == answers[0] && worlds[v] == worlds[0];
-            assert!(same, "{} differs from the library at call {number}: {call:?}", VERSIONS[v].name);
+            assert!(
+                same,
+                "{} differs from the library at call {number}: {call:?}",
+                VERSIONS[v].name
+            );
         }
     }
 }
 
 /// One round: each version once, the first one another in each round.
-pub fn round(number: usize, work: &Work, left: &mut Left, first: &mut Option<Left>) -> [f64; COUNT] {
+pub fn round(
+    number: usize,
+    work: &Work,
+    left: &mut Left,
+    first: &mut Option<Left>,
+) -> [f64; COUNT] {
     let mut seconds = [0.0; COUNT];
     for turn in 0..COUNT {
         let v = (number + turn) % COUNT;
         seconds[v] = time(&VERSIONS[v], work, left);
         match first {
-            Some(first) => assert!(*left == *first, "{} differs from the others", VERSIONS[v].name),
-            None => *first = Some(Left { answers: left.answers.clone(), world: left.world.clone() }),
+            Some(first) => assert!(
+                *left == *first,
+                "{} differs from the others",
+                VERSIONS[v].name
+            ),
+            None => {
+                *first = Some(Left {
+                    answers: left.answers.clone(),
+                    world: left.world.clone(),
+                })
+            }
         }
     }
     seconds
@@ -76,7 +124,9 @@ pub fn rounds(work: &Work, count: usize) -> Rounds {
     round(0, work, &mut left, &mut first);
     let accepted = left.answers.iter().all(|answer| answer >> 32 == 0);
     assert!(accepted, "a timed call is refused: {:?}", left.answers);
-    (0..count).map(|number| round(number, work, &mut left, &mut first)).collect()
+    (0..count)
+        .map(|number| round(number, work, &mut left, &mut first))
+        .collect()
 }
 
 /// The median, and the 10th and the 90th of a hundred.
@@ -90,7 +140,11 @@ pub struct Spread {
 pub fn spread(mut numbers: Vec<f64>) -> Spread {
     numbers.sort_by(f64::total_cmp);
     let at = |hundredth: usize| numbers[(numbers.len() - 1) * hundredth / 100];
-    Spread { median: at(50), low: at(10), high: at(90) }
+    Spread {
+        median: at(50),
+        low: at(10),
+        high: at(90),
+    }
 }
 
 impl std::fmt::Display for Spread {
@@ -101,5 +155,10 @@ impl std::fmt::Display for Spread {
 
 /// The library's time as a part of another version's, round by round.
 pub fn ratio_to(rounds: &Rounds, version: usize) -> Spread {
-    spread(rounds.iter().map(|seconds| seconds[0] / seconds[version]).collect())
+    spread(
+        rounds
+            .iter()
+            .map(|seconds| seconds[0] / seconds[version])
+            .collect(),
+    )
 }

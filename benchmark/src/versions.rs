@@ -12,6 +12,7 @@ pub struct Version {
 }
 
 /// The calls with the arguments of bindings/puldeho.h, under a prefix.
+#[rustfmt::skip]
 macro_rules! c_calls {
     ($module:ident, $prefix:literal) => {
         mod $module {
@@ -46,18 +47,10 @@ macro_rules! c_calls {
                         Call::Load => load(w, r, k, n, air, al, gas, gl),
                         Call::Total { tracer } => total(w, r, k, n, air, al, gas, gl, *tracer),
                         Call::Cell { tracer, cell: at } => cell(w, r, k, n, air, al, gas, gl, *tracer, *at),
-                        Call::Emission { tracer, cell, amount } => {
-                            emission(w, r, k, n, air, al, gas, gl, *tracer, *cell, *amount)
-                        }
-                        Call::Withdrawal { tracer, cell, amount } => {
-                            withdrawal(w, r, k, n, air, al, gas, gl, *tracer, *cell, *amount)
-                        }
-                        Call::Zonal { layer, row, fluxes } => {
-                            zonal(w, r, k, n, air, al, gas, gl, *layer, *row, fluxes.as_ptr(), fluxes.len())
-                        }
-                        Call::Meridional { layer, fluxes } => {
-                            meridional(w, r, k, n, air, al, gas, gl, *layer, fluxes.as_ptr(), fluxes.len())
-                        }
+                        Call::Emission { tracer, cell, amount } => emission(w, r, k, n, air, al, gas, gl, *tracer, *cell, *amount),
+                        Call::Withdrawal { tracer, cell, amount } => withdrawal(w, r, k, n, air, al, gas, gl, *tracer, *cell, *amount),
+                        Call::Zonal { layer, row, fluxes } => zonal(w, r, k, n, air, al, gas, gl, *layer, *row, fluxes.as_ptr(), fluxes.len()),
+                        Call::Meridional { layer, fluxes } => meridional(w, r, k, n, air, al, gas, gl, *layer, fluxes.as_ptr(), fluxes.len()),
                         Call::Remap { table } => remap(w, r, k, n, air, al, gas, gl, table.as_ptr(), table.len()),
                     }
                 }
@@ -77,9 +70,19 @@ fn rust(world: &mut World, call: &Call) -> u64 {
         Call::Load => plain::load(grid, air, tracers),
         Call::Total { tracer } => plain::total(grid, air, tracers, *tracer),
         Call::Cell { tracer, cell } => plain::cell(grid, air, tracers, *tracer, *cell),
-        Call::Emission { tracer, cell, amount } => plain::emission(grid, air, tracers, *tracer, *cell, *amount),
-        Call::Withdrawal { tracer, cell, amount } => plain::withdrawal(grid, air, tracers, *tracer, *cell, *amount),
-        Call::Zonal { layer, row, fluxes } => plain::zonal(grid, air, tracers, *layer, *row, fluxes),
+        Call::Emission {
+            tracer,
+            cell,
+            amount,
+        } => plain::emission(grid, air, tracers, *tracer, *cell, *amount),
+        Call::Withdrawal {
+            tracer,
+            cell,
+            amount,
+        } => plain::withdrawal(grid, air, tracers, *tracer, *cell, *amount),
+        Call::Zonal { layer, row, fluxes } => {
+            plain::zonal(grid, air, tracers, *layer, *row, fluxes)
+        }
         Call::Meridional { layer, fluxes } => plain::meridional(grid, air, tracers, *layer, fluxes),
         Call::Remap { table } => plain::remap(grid, air, tracers, table),
     };
@@ -93,10 +96,22 @@ pub const COUNT: usize = 4;
 
 /// The library first; ratios are of its times to the others'.
 pub const VERSIONS: [Version; COUNT] = [
-    Version { name: "library", call: library::call },
-    Version { name: "gcc -O3 -march=native", call: gcc_native::call },
-    Version { name: "gcc -O3", call: gcc_plain::call },
-    Version { name: "Rust -O", call: rust },
+    Version {
+        name: "library",
+        call: library::call,
+    },
+    Version {
+        name: "gcc -O3 -march=native",
+        call: gcc_native::call,
+    },
+    Version {
+        name: "gcc -O3",
+        call: gcc_plain::call,
+    },
+    Version {
+        name: "Rust -O",
+        call: rust,
+    },
 ];
 
 extern "C" {

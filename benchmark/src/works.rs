@@ -5,8 +5,18 @@ use crate::timing::Work;
 use crate::worlds::Random;
 use reference::{Call, Grid, World};
 
-pub const SMALL: Grid = Grid { w: 8, r: 3, k: 2, n: 2 };
-pub const FULL: Grid = Grid { w: 72, r: 44, k: 32, n: 8 };
+pub const SMALL: Grid = Grid {
+    w: 8,
+    r: 3,
+    k: 2,
+    n: 2,
+};
+pub const FULL: Grid = Grid {
+    w: 72,
+    r: 44,
+    k: 32,
+    n: 8,
+};
 
 /// The calls of one kind, and its name.
 pub struct Kind {
@@ -15,14 +25,55 @@ pub struct Kind {
 }
 
 pub const KINDS: [Kind; 8] = [
-    Kind { name: "load", calls: |_, _| vec![Call::Load] },
-    Kind { name: "emission", calls: |_, world| vec![Call::Emission { tracer: 0, cell: middle(world), amount: 1 }] },
-    Kind { name: "withdrawal", calls: |_, world| vec![Call::Withdrawal { tracer: 0, cell: middle(world), amount: 1 }] },
-    Kind { name: "total", calls: |_, _| vec![Call::Total { tracer: 0 }] },
-    Kind { name: "cell", calls: |_, world| vec![Call::Cell { tracer: 0, cell: middle(world) }] },
-    Kind { name: "zonal", calls: zonal },
-    Kind { name: "meridional", calls: meridional },
-    Kind { name: "remap", calls: remap },
+    Kind {
+        name: "load",
+        calls: |_, _| vec![Call::Load],
+    },
+    Kind {
+        name: "emission",
+        calls: |_, world| {
+            vec![Call::Emission {
+                tracer: 0,
+                cell: middle(world),
+                amount: 1,
+            }]
+        },
+    },
+    Kind {
+        name: "withdrawal",
+        calls: |_, world| {
+            vec![Call::Withdrawal {
+                tracer: 0,
+                cell: middle(world),
+                amount: 1,
+            }]
+        },
+    },
+    Kind {
+        name: "total",
+        calls: |_, _| vec![Call::Total { tracer: 0 }],
+    },
+    Kind {
+        name: "cell",
+        calls: |_, world| {
+            vec![Call::Cell {
+                tracer: 0,
+                cell: middle(world),
+            }]
+        },
+    },
+    Kind {
+        name: "zonal",
+        calls: zonal,
+    },
+    Kind {
+        name: "meridional",
+        calls: meridional,
+    },
+    Kind {
+        name: "remap",
+        calls: remap,
+    },
 ];
 
 fn middle(world: &World) -> u32 {
@@ -51,16 +102,23 @@ pub fn meridional(random: &mut Random, world: &World) -> Vec<Call> {
 
 /// Two tables in turn, so that edges lie inside the layers that the other one made.
 pub fn remap(random: &mut Random, world: &World) -> Vec<Call> {
-    (0..2).map(|_| inputs::table(random, world.grid.k)).collect()
+    (0..2)
+        .map(|_| inputs::table(random, world.grid.k))
+        .collect()
 }
 
 /// The calls of a kind on a world of the grid, repeated until about `numbers` numbers are read.
-pub fn work(seed: u64, grid: Grid, calls: fn(&mut Random, &World) -> Vec<Call>, numbers: usize) -> Work {
+pub fn work(
+    seed: u64,
+    grid: Grid,
+    calls: fn(&mut Random, &World) -> Vec<Call>,
+    numbers: usize,
+) -> Work {
     let mut random = Random::new(seed);
     let start = inputs::world(&mut random, grid);
     let calls = calls(&mut random, &start);
     let once = (start.air.len() + start.tracers.len()) * calls.len();
-    let times = (numbers / once).clamp(1, 100);
+    let times = (numbers / once).clamp(1, 500);
     let calls = std::iter::repeat_n(calls, times).flatten().collect();
     Work { start, calls }
 }
