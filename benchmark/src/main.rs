@@ -201,7 +201,8 @@ fn linear(amount: &Amount) {
     println!("\n## Time for each number as the grid grows\n");
     println!("The library's time for each number of air and tracers, as a part of that at the first size.");
     println!("Load and remap in 72 × 44 × 32 × 8, meridional in 72 × 44 × 1 × 8, zonal in 72 × 1 × 1 × 8, but for the size that grows.\n");
-    println!("| Size | load | zonal | meridional | remap |\n|---|---|---|---|---|");
+    let names: Vec<&str> = growth::GROWN.iter().map(|kind| kind.name).collect();
+    println!("| Size | {} |\n|---|---|---|---|---|", names.join(" | "));
     for (name, sizes) in growth::SIZES {
         eprintln!("growth of {name}");
         let of_kind = |kind: &growth::Grown| {

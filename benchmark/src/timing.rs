@@ -89,7 +89,20 @@ pub fn agree(work: &Work) {
     }
 }
 
-/// One round: each version once, the first one another in each round.
+/// Does the work with the stack `steps` small frames deeper, since a version's speed depends a little on where its arrays lie.
+#[inline(never)]
+fn deeper(steps: usize, work: &mut dyn FnMut() -> f64) -> f64 {
+    let frame = black_box([0u8; 96]);
+    let seconds = if steps == 0 {
+        work()
+    } else {
+        deeper(steps - 1, work)
+    };
+    black_box(&frame);
+    seconds
+}
+
+/// One round: each version once, the first one another in each round, the stack at another depth.
 pub fn round(
     number: usize,
     work: &Work,
@@ -99,7 +112,7 @@ pub fn round(
     let mut seconds = [0.0; COUNT];
     for turn in 0..COUNT {
         let v = (number + turn) % COUNT;
-        seconds[v] = time(&VERSIONS[v], work, left);
+        seconds[v] = deeper(number * 7 % 32, &mut || time(&VERSIONS[v], work, left));
         match first {
             Some(first) => assert!(
                 *left == *first,
