@@ -59,9 +59,9 @@ pub const GROWN: [Grown; 4] = [
 ];
 
 /// Seconds of the library for each number (air and tracers) of the world.
-fn unit(work: &Work, left: &mut Left) -> f64 {
+fn unit(round: usize, work: &Work, left: &mut Left) -> f64 {
     let numbers = (work.start.air.len() + work.start.tracers.len()) * work.calls.len();
-    time(&VERSIONS[0], work, left) / numbers as f64
+    time(VERSIONS[0].call(round), work, left) / numbers as f64
 }
 
 /// For each size, the time for each number as a part of that at the first size.
@@ -70,8 +70,8 @@ pub fn grow(kind: &Grown, name: &str, sizes: [u32; 4], rounds: usize) -> [Spread
     let works = sizes.map(work);
     let mut lefts: Vec<Left> = works.iter().map(|work| nothing_left(&work.start)).collect();
     let mut units: [Vec<f64>; 4] = Default::default();
-    for _ in 0..rounds {
-        let seconds: [f64; 4] = std::array::from_fn(|i| unit(&works[i], &mut lefts[i]));
+    for round in 0..rounds {
+        let seconds: [f64; 4] = std::array::from_fn(|i| unit(round, &works[i], &mut lefts[i]));
         for (unit, second) in units.iter_mut().zip(seconds) {
             unit.push(second / seconds[0]);
         }
@@ -83,8 +83,8 @@ pub fn grow(kind: &Grown, name: &str, sizes: [u32; 4], rounds: usize) -> [Spread
 pub fn bandwidth(grid: Grid, version: usize, rounds: usize) -> Spread {
     let work = works::work(6, grid, |_, _| vec![Call::Load], 100_000);
     let mut left = nothing_left(&work.start);
-    let share = |_| {
-        let seconds = time(&VERSIONS[version], &work, &mut left);
+    let share = |round| {
+        let seconds = time(VERSIONS[version].call(round), &work, &mut left);
         let begin = now();
         for _ in &work.calls {
             black_box(read(black_box(&left.world.air)));
@@ -103,8 +103,9 @@ pub fn share(kind: &works::Kind, version: usize, rounds: usize) -> Spread {
         calls: vec![Call::Load; work.calls.len()],
     };
     let mut left = nothing_left(&work.start);
-    let share = |_| {
-        time(&VERSIONS[version], &loads, &mut left) / time(&VERSIONS[version], &work, &mut left)
+    let share = |round| {
+        let make = VERSIONS[version].call(round);
+        time(make, &loads, &mut left) / time(make, &work, &mut left)
     };
     spread((0..rounds).map(share).collect())
 }

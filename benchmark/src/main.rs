@@ -39,15 +39,15 @@ fn amount(arguments: &[String]) -> Amount {
     if has("--quick") {
         Amount {
             lists: 200,
-            rounds: 15,
-            days: 3,
+            rounds: 16,
+            days: 4,
             times,
         }
     } else {
         Amount {
             lists: 2_000,
-            rounds: 61,
-            days: 15,
+            rounds: 64,
+            days: 16,
             times,
         }
     }
@@ -69,7 +69,7 @@ fn agreement(lists: u64) {
             };
             agree(&work);
             start = work.start;
-            let answer = (VERSIONS[0].call)(&mut start, &work.calls[0]);
+            let answer = VERSIONS[0].call(0)(&mut start, &work.calls[0]);
             reached[(answer >> 32) as usize] += 1;
         }
     }
@@ -175,7 +175,7 @@ fn share_of_tests(amount: &Amount) {
 
 fn bandwidth_of_tests(amount: &Amount) {
     println!("\nTheir bandwidth as a part of a plain read's (a sum in 32 bits by gcc -O3 -march=native):\n");
-    let names = VERSIONS.map(|version| version.name);
+    let names: Vec<&str> = VERSIONS.iter().map(|version| version.name).collect();
     println!("| Grid | {} |\n|---|---|---|---|---|", names.join(" | "));
     let (part, quarter) = (
         Grid {

@@ -1,6 +1,6 @@
 //! Timing: the versions take turns on the same calls from the same world in the same memory, and every result is compared.
 
-use crate::versions::{Version, COUNT, VERSIONS};
+use crate::versions::{MakeCall, COUNT, VERSIONS};
 use reference::{Call, World};
 use std::hint::black_box;
 
@@ -52,15 +52,15 @@ pub fn now() -> f64 {
     moment.seconds as f64 + moment.billionths as f64 * 1e-9
 }
 
-/// Seconds of the calls by one version; the world stands at the work's start before and is left as the calls leave it.
-pub fn time(version: &Version, work: &Work, left: &mut Left) -> f64 {
+/// Seconds of the calls as `make` makes them; the world stands at the work's start before and is left as the calls leave it.
+pub fn time(make: MakeCall, work: &Work, left: &mut Left) -> f64 {
     restore(&mut left.world, &work.start);
     left.answers.clear();
     left.answers.reserve(work.calls.len());
     let begin = now();
     for call in &work.calls {
         left.answers
-            .push((version.call)(black_box(&mut left.world), black_box(call)));
+            .push(make(black_box(&mut left.world), black_box(call)));
     }
     now() - begin
 }
@@ -77,7 +77,7 @@ pub fn agree(work: &Work) {
     let mut worlds: [World; COUNT] = std::array::from_fn(|_| work.start.clone());
     for (number, call) in work.calls.iter().enumerate() {
         let answers: [u64; COUNT] =
-            std::array::from_fn(|v| (VERSIONS[v].call)(&mut worlds[v], call));
+            std::array::from_fn(|v| VERSIONS[v].call(number)(&mut worlds[v], call));
         for v in 1..COUNT {
             let same = answers[v] == answers[0] && worlds[v] == worlds[0];
             assert!(
@@ -102,7 +102,7 @@ fn deeper(steps: usize, work: &mut dyn FnMut() -> f64) -> f64 {
     seconds
 }
 
-/// One round: each version once, the first one another in each round, the stack at another depth.
+/// One round: each version once, the first one another in each round, code and stack at other places.
 pub fn round(
     number: usize,
     work: &Work,
@@ -112,7 +112,8 @@ pub fn round(
     let mut seconds = [0.0; COUNT];
     for turn in 0..COUNT {
         let v = (number + turn) % COUNT;
-        seconds[v] = deeper(number * 7 % 32, &mut || time(&VERSIONS[v], work, left));
+        let make = VERSIONS[v].call(number + number / COUNT);
+        seconds[v] = deeper(number * 7 % 32, &mut || time(make, work, left));
         match first {
             Some(first) => assert!(
                 *left == *first,

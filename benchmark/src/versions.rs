@@ -6,9 +6,19 @@ use reference::{Call, World};
 /// Makes a call and returns answer · 2^32 + count.
 pub type MakeCall = fn(&mut World, &Call) -> u64;
 
+/// How many places in memory the code of a version is linked at.
+pub const PLACES: usize = 4;
+
 pub struct Version {
     pub name: &'static str,
-    pub call: MakeCall,
+    calls: [MakeCall; PLACES],
+}
+
+impl Version {
+    /// The call, from another place of the code in each round.
+    pub fn call(&self, round: usize) -> MakeCall {
+        self.calls[round % PLACES]
+    }
 }
 
 /// The calls with the arguments of bindings/puldeho.h, under a prefix.
@@ -59,9 +69,18 @@ macro_rules! c_calls {
     };
 }
 
-c_calls!(library, "puldeho");
-c_calls!(gcc_native, "plain_native");
-c_calls!(gcc_plain, "plain_o3");
+c_calls!(library0, "library0");
+c_calls!(library1, "library1");
+c_calls!(library2, "library2");
+c_calls!(library3, "library3");
+c_calls!(native0, "native0");
+c_calls!(native1, "native1");
+c_calls!(native2, "native2");
+c_calls!(native3, "native3");
+c_calls!(o3_0, "o3_0");
+c_calls!(o3_1, "o3_1");
+c_calls!(o3_2, "o3_2");
+c_calls!(o3_3, "o3_3");
 
 fn rust(world: &mut World, call: &Call) -> u64 {
     let World { grid, air, tracers } = world;
@@ -94,32 +113,37 @@ fn rust(world: &mut World, call: &Call) -> u64 {
 
 pub const COUNT: usize = 4;
 
-/// The library first; ratios are of its times to the others'.
+/// The library first; ratios are of its times to the others'. Plain Rust lies where the link puts it.
 pub const VERSIONS: [Version; COUNT] = [
     Version {
         name: "library",
-        call: library::call,
+        calls: [
+            library0::call,
+            library1::call,
+            library2::call,
+            library3::call,
+        ],
     },
     Version {
         name: "gcc -O3 -march=native",
-        call: gcc_native::call,
+        calls: [native0::call, native1::call, native2::call, native3::call],
     },
     Version {
         name: "gcc -O3",
-        call: gcc_plain::call,
+        calls: [o3_0::call, o3_1::call, o3_2::call, o3_3::call],
     },
     Version {
         name: "Rust -O",
-        call: rust,
+        calls: [rust; PLACES],
     },
 ];
 
 extern "C" {
-    fn plain_native_read(numbers: *const u32, length: usize) -> u32;
+    fn native0_read(numbers: *const u32, length: usize) -> u32;
 }
 
 /// A plain read of all numbers: their sum in 32 bits, by gcc -O3 -march=native.
 pub fn read(numbers: &[u32]) -> u32 {
     // SAFETY: the pointer goes with its list's length, and nothing is written.
-    unsafe { plain_native_read(numbers.as_ptr(), numbers.len()) }
+    unsafe { native0_read(numbers.as_ptr(), numbers.len()) }
 }
