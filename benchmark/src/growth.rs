@@ -58,20 +58,26 @@ pub const GROWN: [Grown; 4] = [
     },
 ];
 
-/// Seconds of the library for each number (air and tracers) of the world.
-fn unit(round: usize, work: &Work, left: &mut Left) -> f64 {
-    let numbers = (work.start.air.len() + work.start.tracers.len()) * work.calls.len();
+/// Seconds of the library for each cell and tracer; a load's air counts as one more tracer, since it only reads.
+fn unit(round: usize, kind: &Grown, work: &Work, left: &mut Left) -> f64 {
+    let air = if kind.name == "load" {
+        work.start.air.len()
+    } else {
+        0
+    };
+    let numbers = (air + work.start.tracers.len()) * work.calls.len();
     time(VERSIONS[0].call(round), work, left) / numbers as f64
 }
 
-/// For each size, the time for each number as a part of that at the first size.
+/// For each size, the time for each cell and tracer as a part of that at the first size.
 pub fn grow(kind: &Grown, name: &str, sizes: [u32; 4], rounds: usize) -> [Spread; 4] {
     let work = |size| works::work(5, with(kind.grid, name, size), kind.calls, 50_000);
     let works = sizes.map(work);
     let mut lefts: Vec<Left> = works.iter().map(|work| nothing_left(&work.start)).collect();
     let mut units: [Vec<f64>; 4] = Default::default();
     for round in 0..rounds {
-        let seconds: [f64; 4] = std::array::from_fn(|i| unit(round, &works[i], &mut lefts[i]));
+        let seconds: [f64; 4] =
+            std::array::from_fn(|i| unit(round, kind, &works[i], &mut lefts[i]));
         for (unit, second) in units.iter_mut().zip(seconds) {
             unit.push(second / seconds[0]);
         }

@@ -198,8 +198,8 @@ fn bandwidth_of_tests(amount: &Amount) {
 }
 
 fn linear(amount: &Amount) {
-    println!("\n## Time for each number as the grid grows\n");
-    println!("The library's time for each number of air and tracers, as a part of that at the first size.");
+    println!("\n## Time for each cell and tracer as the grid grows\n");
+    println!("The library's time for each cell and tracer (of a load, for each number that it reads), as a part of that at the first size.");
     println!("Load and remap in 72 × 44 × 32 × 8, meridional in 72 × 44 × 1 × 8, zonal in 72 × 1 × 1 × 8, but for the size that grows.\n");
     let names: Vec<&str> = growth::GROWN.iter().map(|kind| kind.name).collect();
     println!("| Size | {} |\n|---|---|---|---|---|", names.join(" | "));
