@@ -1,0 +1,449 @@
+/*
+ * Plain C of the eight calls, written from document 01 for the benchmark: the same arguments, checks and results as
+ * bindings/puldeho.h. Compiled by gcc with PREFIX set to the name that stands before each call.
+ */
+#include <stddef.h>
+#include <stdint.h>
+#include <string.h>
+
+#define JOIN_NAMES(prefix, call) prefix##_##call
+#define JOIN(prefix, call) JOIN_NAMES(prefix, call)
+#define CALL(call) JOIN(PREFIX, call)
+
+enum { MOST_W = 72, MOST_K = 32, MOST_N = 8, MOST_LAYER = 3170, MOST_FACES = 3240, MOST_AIR = 65535, SCALE = 65536 };
+#define MOST_TOTAL 268435455u
+
+enum lent { NOTHING, ROW_FLUXES, LAYER_FLUXES, TABLE };
+
+typedef struct {
+    size_t w, r, k, n;
+    size_t layer; /* cells of a layer */
+    size_t cells; /* cells of all layers */
+    uint64_t totals[MOST_N];
+} world;
+
+static uint64_t refused(uint64_t number) { return number << 32; }
+
+static int grid_fits(uint32_t w, uint32_t r, uint32_t k, uint32_t n)
+{
+    return w >= 4 && w <= 72 && r >= 1 && r <= 44 && k >= 1 && k <= 32 && n >= 1 && n <= 8;
+}
+
+static int lent_fits(const world *g, enum lent lent, size_t length)
+{
+    switch (lent) {
+    case ROW_FLUXES: return length == g->w;
+    case LAYER_FLUXES: return length == g->w * (g->r + 1);
+    case TABLE: return length == 2 * (g->k + 1);
+    default: return 1;
+    }
+}
+
+static int air_fits(const uint32_t *air, size_t cells)
+{
+    uint32_t bad = 0;
+    for (size_t i = 0; i < cells; i++)
+        bad |= air[i] == 0 || air[i] > MOST_AIR;
+    return !bad;
+}
+
+static uint64_t total_of(const uint32_t *gas, size_t cells)
+{
+    uint64_t total = 0;
+    for (size_t i = 0; i < cells; i++)
+        total += gas[i];
+    return total;
+}
+
+/* Places 1 to 4: 0, or the refusal's number. Where 0, the sizes and the totals are filled in. */
+static uint32_t common_places(world *g, uint32_t w, uint32_t r, uint32_t k, uint32_t n, const uint32_t *air,
+                              size_t air_length, const uint32_t *tracers, size_t tracers_length, enum lent lent,
+                              size_t lent_length)
+{
+    if (!grid_fits(w, r, k, n))
+        return 1;
+    g->w = w, g->r = r, g->k = k, g->n = n;
+    g->layer = 2 + g->r * g->w;
+    g->cells = g->k * g->layer;
+    if (air_length != g->cells || tracers_length != g->n * g->cells || !lent_fits(g, lent, lent_length))
+        return 2;
+    if (!air_fits(air, g->cells))
+        return 3;
+    for (size_t t = 0; t < g->n; t++) {
+        g->totals[t] = total_of(tracers + t * g->cells, g->cells);
+        if (g->totals[t] > MOST_TOTAL)
+            return 4;
+    }
+    return 0;
+}
+
+#define COMMON_PLACES(g, lent, lent_length)                                                                           \
+    do {                                                                                                              \
+        uint32_t place = common_places(g, w, r, k, n, air, air_length, tracers, tracers_length, lent, lent_length);   \
+        if (place != 0)                                                                                               \
+            return refused(place);                                                                                    \
+    } while (0)
+
+uint64_t CALL(load)(uint32_t w, uint32_t r, uint32_t k, uint32_t n, const uint32_t *air, size_t air_length,
+                    const uint32_t *tracers, size_t tracers_length)
+{
+    world g;
+    COMMON_PLACES(&g, NOTHING, 0);
+    return 0;
+}
+
+uint64_t CALL(total)(uint32_t w, uint32_t r, uint32_t k, uint32_t n, const uint32_t *air, size_t air_length,
+                     const uint32_t *tracers, size_t tracers_length, uint32_t tracer)
+{
+    world g;
+    COMMON_PLACES(&g, NOTHING, 0);
+    return tracer < g.n ? g.totals[tracer] : refused(5);
+}
+
+uint64_t CALL(cell)(uint32_t w, uint32_t r, uint32_t k, uint32_t n, const uint32_t *air, size_t air_length,
+                    const uint32_t *tracers, size_t tracers_length, uint32_t tracer, uint32_t cell)
+{
+    world g;
+    COMMON_PLACES(&g, NOTHING, 0);
+    if (tracer >= g.n || cell >= g.cells)
+        return refused(5);
+    return tracers[tracer * g.cells + cell];
+}
+
+uint64_t CALL(emission)(uint32_t w, uint32_t r, uint32_t k, uint32_t n, const uint32_t *air, size_t air_length,
+                        uint32_t *tracers, size_t tracers_length, uint32_t tracer, uint32_t cell, uint32_t amount)
+{
+    world g;
+    COMMON_PLACES(&g, NOTHING, 0);
+    if (tracer >= g.n || cell >= g.cells)
+        return refused(5);
+    if (g.totals[tracer] + amount > MOST_TOTAL)
+        return refused(6);
+    tracers[tracer * g.cells + cell] += amount;
+    return 0;
+}
+
+uint64_t CALL(withdrawal)(uint32_t w, uint32_t r, uint32_t k, uint32_t n, const uint32_t *air, size_t air_length,
+                          uint32_t *tracers, size_t tracers_length, uint32_t tracer, uint32_t cell, uint32_t amount)
+{
+    world g;
+    COMMON_PLACES(&g, NOTHING, 0);
+    if (tracer >= g.n || cell >= g.cells)
+        return refused(5);
+    uint32_t *place = &tracers[tracer * g.cells + cell];
+    if (amount > *place)
+        return refused(7);
+    *place -= amount;
+    return 0;
+}
+
+/* The scheme. A mismatch and a piece are signed; a numerator is never negative. */
+
+static int64_t least(int64_t a, int64_t b) { return a < b ? a : b; }
+static int64_t greatest(int64_t a, int64_t b) { return a > b ? a : b; }
+
+static int64_t ratio(uint32_t m, uint32_t t) { return (int64_t)((uint64_t)SCALE * t / m); }
+
+static int64_t mismatch(int64_t qa, int64_t q, int64_t qb)
+{
+    int64_t difference = qb - qa;
+    int64_t size = (difference < 0 ? -difference : difference) / 2;
+    size = least(size, 2 * (q - least(q, least(qa, qb))));
+    size = least(size, 2 * (greatest(q, greatest(qa, qb)) - q));
+    return difference < 0 ? -size : size;
+}
+
+static int64_t high_piece(int64_t d, uint32_t have, uint32_t t, int64_t m)
+{
+    uint64_t numerator = (uint64_t)(2 * SCALE * m * t + d * m * (have - m));
+    return (int64_t)(numerator / (2 * (uint64_t)SCALE * have));
+}
+
+static int64_t low_piece(int64_t d, uint32_t have, uint32_t t, int64_t m) { return high_piece(-d, have, t, m); }
+
+static int fluxes_fit(const int32_t *fluxes, size_t length, int64_t limit)
+{
+    for (size_t i = 0; i < length; i++)
+        if (fluxes[i] > limit || fluxes[i] < -limit)
+            return 0;
+    return 1;
+}
+
+/* The zonal sweep. */
+
+static size_t west_of(size_t i, size_t w) { return i == 0 ? w - 1 : i - 1; }
+static size_t east_of(size_t i, size_t w) { return i + 1 == w ? 0 : i + 1; }
+
+/* Part s of n of each flux. */
+static void parts_of(int32_t *part, const int32_t *fluxes, size_t w, int64_t n, int64_t s)
+{
+    for (size_t i = 0; i < w; i++) {
+        int64_t size = fluxes[i] < 0 ? -(int64_t)fluxes[i] : fluxes[i];
+        int32_t p = (int32_t)(s * size / n - (s - 1) * size / n);
+        part[i] = fluxes[i] < 0 ? -p : p;
+    }
+}
+
+/* One substep of a row's air; 0 where it is not allowed. */
+static int step_air(uint32_t *air, const int32_t *f, size_t w)
+{
+    uint32_t next[MOST_W];
+    for (size_t i = 0; i < w; i++) {
+        size_t west = west_of(i, w);
+        int32_t have = (int32_t)air[i];
+        int32_t out = (f[i] > 0 ? f[i] : 0) + (f[west] < 0 ? -f[west] : 0);
+        int32_t after = have + f[west] - f[i];
+        if (out > have || after < 1 || after > MOST_AIR)
+            return 0;
+        next[i] = (uint32_t)after;
+    }
+    memcpy(air, next, w * sizeof *air);
+    return 1;
+}
+
+static int serves(const uint32_t *air, const int32_t *fluxes, size_t w, int64_t n)
+{
+    uint32_t row[MOST_W];
+    int32_t f[MOST_W];
+    memcpy(row, air, w * sizeof *air);
+    for (int64_t s = 1; s <= n; s++) {
+        parts_of(f, fluxes, w, n, s);
+        if (!step_air(row, f, w))
+            return 0;
+    }
+    return 1;
+}
+
+/* One substep of a tracer's row. */
+static void step_gas(uint32_t *gas, const uint32_t *air, const int32_t *f, size_t w)
+{
+    int64_t q[MOST_W], d[MOST_W], piece[MOST_W];
+    for (size_t i = 0; i < w; i++)
+        q[i] = ratio(air[i], gas[i]);
+    for (size_t i = 0; i < w; i++)
+        d[i] = mismatch(q[west_of(i, w)], q[i], q[east_of(i, w)]);
+    for (size_t i = 0; i < w; i++) {
+        size_t east = east_of(i, w);
+        if (f[i] > 0)
+            piece[i] = high_piece(d[i], air[i], gas[i], f[i]);
+        else if (f[i] < 0)
+            piece[i] = -low_piece(d[east], air[east], gas[east], -f[i]);
+        else
+            piece[i] = 0;
+    }
+    for (size_t i = 0; i < w; i++)
+        gas[i] = (uint32_t)(gas[i] + piece[west_of(i, w)] - piece[i]);
+}
+
+uint64_t CALL(zonal)(uint32_t w, uint32_t r, uint32_t k, uint32_t n, uint32_t *air, size_t air_length,
+                     uint32_t *tracers, size_t tracers_length, uint32_t layer, uint32_t row, const int32_t *fluxes,
+                     size_t fluxes_length)
+{
+    world g;
+    COMMON_PLACES(&g, ROW_FLUXES, fluxes_length);
+    if (layer >= k || row >= r)
+        return refused(5);
+    if (!fluxes_fit(fluxes, w, 1048560))
+        return refused(8);
+    size_t first = layer * g.layer + 1 + row * g.w;
+    uint32_t count = 1;
+    while (!serves(air + first, fluxes, w, count))
+        if (++count > 16)
+            return refused(9);
+    int32_t f[MOST_W];
+    for (uint32_t s = 1; s <= count; s++) {
+        parts_of(f, fluxes, w, count, s);
+        for (size_t t = 0; t < n; t++)
+            step_gas(tracers + t * g.cells + first, air + first, f, w);
+        step_air(air + first, f, w);
+    }
+    return count;
+}
+
+/* The meridional sweep. Face i lies between the cells south_of(i) and north_of(i); `rows` cells lie between the caps. */
+
+static size_t south_of(size_t i, size_t w) { return i < w ? 0 : 1 + i - w; }
+static size_t north_of(size_t i, size_t rows) { return i < rows ? 1 + i : 1 + rows; }
+
+/* The layer's air after the substep; 0 where it is not allowed. */
+static int layer_after(uint32_t *next, const uint32_t *air, const int32_t *f, size_t w, size_t rows)
+{
+    int64_t out[MOST_LAYER] = {0}, after[MOST_LAYER];
+    for (size_t c = 0; c < rows + 2; c++)
+        after[c] = air[c];
+    for (size_t i = 0; i < w + rows; i++) {
+        size_t south = south_of(i, w), north = north_of(i, rows);
+        out[south] += f[i] > 0 ? f[i] : 0;
+        out[north] += f[i] < 0 ? -(int64_t)f[i] : 0;
+        after[south] -= f[i];
+        after[north] += f[i];
+    }
+    for (size_t c = 0; c < rows + 2; c++) {
+        if (out[c] > air[c] || after[c] < 1 || after[c] > MOST_AIR)
+            return 0;
+        next[c] = (uint32_t)after[c];
+    }
+    return 1;
+}
+
+static void layer_pieces(int64_t *piece, const uint32_t *gas, const uint32_t *air, const int32_t *f, size_t w,
+                         size_t rows)
+{
+    int64_t q[MOST_LAYER], d[MOST_LAYER];
+    for (size_t c = 0; c < rows + 2; c++)
+        q[c] = ratio(air[c], gas[c]);
+    d[0] = d[rows + 1] = 0;
+    for (size_t j = 0; j < rows; j++)
+        d[1 + j] = mismatch(q[south_of(j, w)], q[1 + j], q[north_of(w + j, rows)]);
+    for (size_t i = 0; i < w + rows; i++) {
+        size_t south = south_of(i, w), north = north_of(i, rows);
+        if (f[i] > 0)
+            piece[i] = high_piece(d[south], air[south], gas[south], f[i]);
+        else if (f[i] < 0)
+            piece[i] = -low_piece(d[north], air[north], gas[north], -f[i]);
+        else
+            piece[i] = 0;
+    }
+}
+
+static void step_layer_gas(uint32_t *gas, const uint32_t *air, const int32_t *f, size_t w, size_t rows)
+{
+    int64_t piece[MOST_FACES], south = 0, north = 0;
+    layer_pieces(piece, gas, air, f, w, rows);
+    for (size_t i = 0; i < w; i++) {
+        south += piece[i];
+        north += piece[rows + i];
+    }
+    gas[0] = (uint32_t)(gas[0] - south);
+    for (size_t j = 0; j < rows; j++)
+        gas[1 + j] = (uint32_t)(gas[1 + j] + piece[j] - piece[w + j]);
+    gas[1 + rows] = (uint32_t)(gas[1 + rows] + north);
+}
+
+uint64_t CALL(meridional)(uint32_t w, uint32_t r, uint32_t k, uint32_t n, uint32_t *air, size_t air_length,
+                          uint32_t *tracers, size_t tracers_length, uint32_t layer, const int32_t *fluxes,
+                          size_t fluxes_length)
+{
+    world g;
+    uint32_t next[MOST_LAYER];
+    COMMON_PLACES(&g, LAYER_FLUXES, fluxes_length);
+    if (layer >= k)
+        return refused(5);
+    if (!fluxes_fit(fluxes, fluxes_length, 65535))
+        return refused(8);
+    size_t first = layer * g.layer, rows = g.r * g.w;
+    if (!layer_after(next, air + first, fluxes, w, rows))
+        return refused(10);
+    for (size_t t = 0; t < n; t++)
+        step_layer_gas(tracers + t * g.cells + first, air + first, fluxes, w, rows);
+    memcpy(air + first, next, g.layer * sizeof *air);
+    return 1;
+}
+
+/* The remap. */
+
+static int table_fits(const uint32_t *table, size_t k)
+{
+    if (table[0] != 0 || table[1] != 0 || table[2 * k] != 0 || table[2 * k + 1] != SCALE)
+        return 0;
+    for (size_t j = 0; j <= k; j++)
+        if (table[2 * j] > 2097120 || table[2 * j + 1] > SCALE)
+            return 0;
+    return 1;
+}
+
+/* The edges of the column whose top cell is `air`. */
+static void edges_of(int64_t *edge, const uint32_t *air, const uint32_t *table, size_t layer, size_t k)
+{
+    uint64_t p = 0;
+    for (size_t i = 0; i < k; i++)
+        p += air[i * layer];
+    for (size_t j = 0; j <= k; j++)
+        edge[j] = (int64_t)(table[2 * j] + table[2 * j + 1] * p / SCALE);
+}
+
+/* The pairs of layers that share air in a column; 0 where the edges do not serve. */
+static uint32_t pairs_of(const uint32_t *air, const uint32_t *table, size_t layer, size_t k)
+{
+    int64_t edge[MOST_K + 1], lower = air[0];
+    uint32_t count = 0;
+    size_t i = 0;
+    edges_of(edge, air, table, layer, k);
+    for (size_t j = 0; j < k; j++)
+        if (edge[j + 1] <= edge[j] || edge[j + 1] - edge[j] > MOST_AIR)
+            return 0;
+    for (size_t j = 0; j < k; j++) {
+        while (lower <= edge[j])
+            lower += air[++i * layer];
+        count++;
+        while (lower < edge[j + 1]) {
+            lower += air[++i * layer];
+            count++;
+        }
+    }
+    return count;
+}
+
+/* A tracer's column, remapped. */
+static void remap_gas(uint32_t *gas, const uint32_t *air, const int64_t *edge, int cap, size_t layer, size_t k)
+{
+    uint32_t t[MOST_K];
+    int64_t q[MOST_K], d[MOST_K] = {0}, above = 0, whole = 0, last = 0;
+    for (size_t i = 0; i < k; i++)
+        t[i] = gas[i * layer];
+    for (size_t i = 0; i < k; i++)
+        q[i] = ratio(air[i], t[i]);
+    for (size_t i = 1; i + 1 < k && !cap; i++)
+        d[i] = mismatch(q[i - 1], q[i], q[i + 1]);
+    for (size_t i = 0, j = 0; j < k; j++) {
+        while (above + air[i] < edge[j + 1]) {
+            above += air[i];
+            whole += t[i++];
+        }
+        int64_t next = whole + low_piece(d[i], air[i], t[i], edge[j + 1] - above);
+        gas[j * layer] = (uint32_t)(next - last);
+        last = next;
+    }
+}
+
+/* All of a column: `air` and `tracers` are its top cells. */
+static void remap_column(const world *g, uint32_t *air, uint32_t *tracers, const uint32_t *table, int cap)
+{
+    int64_t edge[MOST_K + 1];
+    uint32_t old[MOST_K];
+    edges_of(edge, air, table, g->layer, g->k);
+    for (size_t i = 0; i < g->k; i++)
+        old[i] = air[i * g->layer];
+    for (size_t t = 0; t < g->n; t++)
+        remap_gas(tracers + t * g->cells, old, edge, cap, g->layer, g->k);
+    for (size_t j = 0; j < g->k; j++)
+        air[j * g->layer] = (uint32_t)(edge[j + 1] - edge[j]);
+}
+
+uint64_t CALL(remap)(uint32_t w, uint32_t r, uint32_t k, uint32_t n, uint32_t *air, size_t air_length,
+                     uint32_t *tracers, size_t tracers_length, const uint32_t *table, size_t table_length)
+{
+    world g;
+    uint64_t count = 0;
+    COMMON_PLACES(&g, TABLE, table_length);
+    if (!table_fits(table, k))
+        return refused(11);
+    for (size_t c = 0; c < g.layer; c++) {
+        uint32_t pairs = pairs_of(air + c, table, g.layer, k);
+        if (pairs == 0)
+            return refused(12);
+        count += pairs;
+    }
+    for (size_t c = 0; c < g.layer; c++)
+        remap_column(&g, air + c, tracers + c, table, c == 0 || c + 1 == g.layer);
+    return count;
+}
+
+/* A plain read of memory, for the read bandwidth: the sum in 32 bits. */
+uint32_t CALL(read)(const uint32_t *numbers, size_t length)
+{
+    uint32_t sum = 0;
+    for (size_t i = 0; i < length; i++)
+        sum += numbers[i];
+    return sum;
+}

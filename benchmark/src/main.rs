@@ -1,0 +1,239 @@
+//! The proved library beside plain C and plain Rust of the same calls, on the same inputs.
+//! benchmark [--quick] [--times]: tables on standard output, progress on standard error.
+
+mod day;
+mod growth;
+mod inputs;
+mod plain;
+mod timing;
+mod versions;
+mod works;
+#[path = "../../compare/src/worlds.rs"]
+#[allow(dead_code)]
+mod worlds;
+
+use day::Measure;
+use reference::Grid;
+use timing::{agree, ratio_to, rounds, spread, Rounds, Work};
+use versions::{COUNT, VERSIONS};
+use worlds::Random;
+
+/// How much is run.
+struct Amount {
+    lists: u64,
+    rounds: usize,
+    days: usize,
+    times: bool,
+}
+
+fn amount(arguments: &[String]) -> Amount {
+    let has = |name: &str| arguments.iter().any(|argument| argument == name);
+    let known = ["--quick", "--times"];
+    if let Some(other) = arguments
+        .iter()
+        .find(|argument| !known.contains(&argument.as_str()))
+    {
+        panic!("{other} is not one of {known:?}");
+    }
+    let times = has("--times");
+    if has("--quick") {
+        Amount {
+            lists: 200,
+            rounds: 16,
+            days: 4,
+            times,
+        }
+    } else {
+        Amount {
+            lists: 2_000,
+            rounds: 64,
+            days: 16,
+            times,
+        }
+    }
+}
+
+/// Compares the versions on seeded lists of calls, limits and refusals among them.
+fn agreement(lists: u64) {
+    eprintln!("{lists} lists of calls, compared after every call");
+    let mut reached = [0u64; 13];
+    for seed in 0..lists {
+        let mut random = Random::new(seed);
+        let grid = worlds::grid(&mut random, (seed % 40 / 13) as u32);
+        let mut start = worlds::world(&mut random, grid);
+        for _ in 0..12 {
+            let call = worlds::call(&mut random, &start);
+            let work = Work {
+                start,
+                calls: vec![call],
+            };
+            agree(&work);
+            start = work.start;
+            let answer = VERSIONS[0].call(0)(&mut start, &work.calls[0]);
+            reached[(answer >> 32) as usize] += 1;
+        }
+    }
+    println!(
+        "All versions agree on {} calls of {lists} seeded lists (answer, count, every number).",
+        12 * lists
+    );
+    println!("Calls by answer 0 to 12: {reached:?}");
+    assert!(
+        reached.iter().all(|&number| number > 0),
+        "an answer was not reached"
+    );
+}
+
+/// The table's header: a first column, and a column for each other version.
+fn header(first: &str, times: bool) {
+    let names: Vec<&str> = VERSIONS[1..].iter().map(|version| version.name).collect();
+    let more = if times { " library, µs |" } else { "" };
+    println!("| {first} | {} |{more}", names.join(" | "));
+    println!(
+        "|{}{}",
+        "---|".repeat(COUNT),
+        if times { "---|" } else { "" }
+    );
+}
+
+/// A line of a table: the ratios, and the library's seconds where they are asked for.
+fn row(name: &str, ratios: &[String], seconds: f64, times: bool) {
+    let more = if times {
+        format!(" {:.3} |", seconds * 1e6)
+    } else {
+        String::new()
+    };
+    println!("| {name} | {} |{more}", ratios.join(" | "));
+}
+
+fn ratios(name: &str, rounds: &Rounds, calls: usize, times: bool) {
+    let all: Vec<String> = (1..COUNT)
+        .map(|v| ratio_to(rounds, v).to_string())
+        .collect();
+    let median = spread(rounds.iter().map(|seconds| seconds[0]).collect()).median;
+    row(name, &all, median / calls as f64, times);
+}
+
+fn each_call(title: &str, grid: Grid, numbers: usize, amount: &Amount) {
+    println!("\n## {title}\n\nThe library's time as a part of the other version's.\n");
+    header("Call", amount.times);
+    for kind in &works::KINDS {
+        eprintln!("{title}: {}", kind.name);
+        let work = works::work(3, grid, kind.calls, numbers);
+        ratios(
+            kind.name,
+            &rounds(&work, amount.rounds),
+            work.calls.len(),
+            amount.times,
+        );
+    }
+}
+
+fn a_day(amount: &Amount) {
+    let day = day::run(amount.days, |number| {
+        eprintln!("day {number} of {}", amount.days)
+    });
+    println!("\n## A day: {} calls on the full grid\n", day.calls);
+    let reached = day
+        .substeps
+        .iter()
+        .enumerate()
+        .filter(|(_, rows)| **rows > 0);
+    let counts: Vec<String> = reached
+        .map(|(n, rows)| format!("{rows} with {n}"))
+        .collect();
+    println!("Rows by their substep count: {}.\n", counts.join(", "));
+    header("Part", amount.times);
+    let lines = [
+        ("the day", Measure::Whole),
+        ("its tests (as many loads)", Measure::Tests),
+        ("the rest", Measure::Rest),
+    ];
+    for (name, measure) in lines {
+        let all: Vec<String> = (1..COUNT)
+            .map(|v| day.ratio(measure, v).to_string())
+            .collect();
+        row(name, &all, day.median(measure, 0), amount.times);
+    }
+    println!("\nShare of the whole-world tests in the day:");
+    for (v, version) in VERSIONS.iter().enumerate() {
+        println!("- {}: {:.2}", version.name, day.share(v));
+    }
+}
+
+fn share_of_tests(amount: &Amount) {
+    println!("\n## The whole-world tests\n");
+    println!("Their share in a call on the full grid (as many loads as a part of the calls):\n");
+    println!("| Call | library | {} |\n|---|---|---|", VERSIONS[1].name);
+    let moves = |kind: &&works::Kind| ["zonal", "meridional", "remap"].contains(&kind.name);
+    for kind in works::KINDS.iter().filter(moves) {
+        eprintln!("share of the tests in {}", kind.name);
+        let shares = [0, 1].map(|v| growth::share(kind, v, amount.rounds));
+        println!("| {} | {} | {} |", kind.name, shares[0], shares[1]);
+    }
+}
+
+fn bandwidth_of_tests(amount: &Amount) {
+    println!("\nTheir bandwidth as a part of a plain read's (a sum in 32 bits by gcc -O3 -march=native):\n");
+    let names: Vec<&str> = VERSIONS.iter().map(|version| version.name).collect();
+    println!("| Grid | {} |\n|---|---|---|---|---|", names.join(" | "));
+    let (part, quarter) = (
+        Grid {
+            r: 11,
+            k: 4,
+            ..works::FULL
+        },
+        Grid {
+            k: 8,
+            ..works::FULL
+        },
+    );
+    for grid in [part, quarter, works::FULL] {
+        eprintln!("bandwidth of the tests, {grid:?}");
+        let share = |v| growth::bandwidth(grid, v, amount.rounds).to_string();
+        let shares: Vec<String> = (0..COUNT).map(share).collect();
+        let Grid { w, r, k, n } = grid;
+        println!("| {w} × {r} × {k} × {n} | {} |", shares.join(" | "));
+    }
+}
+
+fn linear(amount: &Amount) {
+    println!("\n## Time for each cell and tracer as the grid grows\n");
+    println!("The library's time for each cell and tracer (of a load, for each number that it reads), as a part of that at the first size.");
+    println!("Load and remap in 72 × 44 × 32 × 8, meridional in 72 × 44 × 1 × 8, zonal in 72 × 1 × 1 × 8, but for the size that grows.\n");
+    let names: Vec<&str> = growth::GROWN.iter().map(|kind| kind.name).collect();
+    println!("| Size | {} |\n|---|---|---|---|---|", names.join(" | "));
+    for (name, sizes) in growth::SIZES {
+        eprintln!("growth of {name}");
+        let of_kind = |kind: &growth::Grown| {
+            let grows = kind.grows_with.contains(name);
+            grows.then(|| growth::grow(kind, name, sizes, amount.rounds.min(41)))
+        };
+        let columns: Vec<_> = growth::GROWN.iter().map(of_kind).collect();
+        for (i, size) in sizes.iter().enumerate() {
+            let text = |column: &Option<[timing::Spread; 4]>| {
+                column.map_or("–".into(), |all| all[i].to_string())
+            };
+            let row: Vec<String> = columns.iter().map(text).collect();
+            println!("| {name} = {size} | {} |", row.join(" | "));
+        }
+    }
+}
+
+fn main() {
+    let arguments: Vec<String> = std::env::args().skip(1).collect();
+    let amount = amount(&arguments);
+    println!("# Ratios, each the median of its rounds and in brackets the 10th and the 90th of a hundred\n");
+    agreement(amount.lists);
+    each_call("Each call on 8 × 3 × 2 × 2", works::SMALL, 100_000, &amount);
+    each_call(
+        "Each call on 72 × 44 × 32 × 8",
+        works::FULL,
+        5_000_000,
+        &amount,
+    );
+    a_day(&amount);
+    share_of_tests(&amount);
+    bandwidth_of_tests(&amount);
+    linear(&amount);
+}

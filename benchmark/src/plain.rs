@@ -1,0 +1,474 @@
+//! The eight calls in plain Rust, written from document 01 for the benchmark: safe code on slices, with the same checks.
+//! A call gives its count, or the number of the first refusal that applies.
+
+use reference::Grid;
+
+const MOST_W: usize = 72;
+const MOST_K: usize = 32;
+const MOST_LAYER: usize = 3170;
+const MOST_FACES: usize = 3240;
+const MOST_AIR: i64 = 65_535;
+const MOST_TOTAL: u64 = 268_435_455;
+const SCALE: i64 = 65_536;
+
+type Outcome = Result<u32, u32>;
+
+/// The sizes of a grid that passed place 1, and every tracer's total.
+struct Tested {
+    w: usize,
+    layer: usize,
+    cells: usize,
+    totals: [u64; 8],
+}
+
+enum Lent {
+    Nothing,
+    RowFluxes(usize),
+    LayerFluxes(usize),
+    Table(usize),
+}
+
+fn lent_fits(g: &Grid, lent: Lent) -> bool {
+    match lent {
+        Lent::Nothing => true,
+        Lent::RowFluxes(length) => length == g.w as usize,
+        Lent::LayerFluxes(length) => length == (g.w * (g.r + 1)) as usize,
+        Lent::Table(length) => length == 2 * (g.k as usize + 1),
+    }
+}
+
+fn total_of(gas: &[u32]) -> u64 {
+    gas.iter().map(|&t| u64::from(t)).sum()
+}
+
+/// Places 1 to 4.
+fn common_places(g: Grid, air: &[u32], tracers: &[u32], lent: Lent) -> Result<Tested, u32> {
+    let fits = (4..=72).contains(&g.w)
+        && (1..=44).contains(&g.r)
+        && (1..=32).contains(&g.k)
+        && (1..=8).contains(&g.n);
+    if !fits {
+        return Err(1);
+    }
+    let w = g.w as usize;
+    let layer = 2 + g.r as usize * w;
+    let cells = g.k as usize * layer;
+    if air.len() != cells || tracers.len() != g.n as usize * cells || !lent_fits(&g, lent) {
+        return Err(2);
+    }
+    if air
+        .iter()
+        .fold(false, |bad, &m| bad | (m == 0) | (m > 65_535))
+    {
+        return Err(3);
+    }
+    let mut totals = [0; 8];
+    for (total, gas) in totals.iter_mut().zip(tracers.chunks_exact(cells)) {
+        *total = total_of(gas);
+        if *total > MOST_TOTAL {
+            return Err(4);
+        }
+    }
+    Ok(Tested {
+        w,
+        layer,
+        cells,
+        totals,
+    })
+}
+
+pub fn load(g: Grid, air: &[u32], tracers: &[u32]) -> Outcome {
+    common_places(g, air, tracers, Lent::Nothing)?;
+    Ok(0)
+}
+
+pub fn total(g: Grid, air: &[u32], tracers: &[u32], tracer: u32) -> Outcome {
+    let world = common_places(g, air, tracers, Lent::Nothing)?;
+    if tracer >= g.n {
+        return Err(5);
+    }
+    Ok(world.totals[tracer as usize] as u32)
+}
+
+/// Places 1 to 5 of a call that names a tracer and a cell: where the amount stands, and the tracer's total.
+fn named(
+    g: Grid,
+    air: &[u32],
+    tracers: &[u32],
+    tracer: u32,
+    cell: u32,
+) -> Result<(usize, u64), u32> {
+    let world = common_places(g, air, tracers, Lent::Nothing)?;
+    if tracer >= g.n || cell as usize >= world.cells {
+        return Err(5);
+    }
+    let tracer = tracer as usize;
+    Ok((tracer * world.cells + cell as usize, world.totals[tracer]))
+}
+
+pub fn cell(g: Grid, air: &[u32], tracers: &[u32], tracer: u32, cell: u32) -> Outcome {
+    let (place, _) = named(g, air, tracers, tracer, cell)?;
+    Ok(tracers[place])
+}
+
+pub fn emission(
+    g: Grid,
+    air: &[u32],
+    tracers: &mut [u32],
+    tracer: u32,
+    cell: u32,
+    amount: u32,
+) -> Outcome {
+    let (place, total) = named(g, air, tracers, tracer, cell)?;
+    if total + u64::from(amount) > MOST_TOTAL {
+        return Err(6);
+    }
+    tracers[place] += amount;
+    Ok(0)
+}
+
+pub fn withdrawal(
+    g: Grid,
+    air: &[u32],
+    tracers: &mut [u32],
+    tracer: u32,
+    cell: u32,
+    amount: u32,
+) -> Outcome {
+    let (place, _) = named(g, air, tracers, tracer, cell)?;
+    tracers[place] = tracers[place].checked_sub(amount).ok_or(7u32)?;
+    Ok(0)
+}
+
+fn ratio(m: u32, t: u32) -> i64 {
+    ((u64::from(t) << 16) / u64::from(m)) as i64
+}
+
+fn mismatch(qa: i64, q: i64, qb: i64) -> i64 {
+    let least = qa.min(q).min(qb);
+    let greatest = qa.max(q).max(qb);
+    let difference = qb - qa;
+    let size = (difference.abs() / 2)
+        .min(2 * (q - least))
+        .min(2 * (greatest - q));
+    if difference < 0 {
+        -size
+    } else {
+        size
+    }
+}
+
+/// A numerator is never negative.
+fn high_piece(d: i64, have: u32, t: u32, m: i64) -> i64 {
+    let numerator = 2 * SCALE * m * i64::from(t) + d * m * (i64::from(have) - m);
+    (numerator as u64 / (2 * SCALE as u64 * u64::from(have))) as i64
+}
+
+fn low_piece(d: i64, have: u32, t: u32, m: i64) -> i64 {
+    high_piece(-d, have, t, m)
+}
+
+fn fluxes_fit(fluxes: &[i32], limit: u32) -> bool {
+    fluxes.iter().all(|f| f.unsigned_abs() <= limit)
+}
+
+fn west_of(i: usize, w: usize) -> usize {
+    if i == 0 {
+        w - 1
+    } else {
+        i - 1
+    }
+}
+
+fn east_of(i: usize, w: usize) -> usize {
+    if i + 1 == w {
+        0
+    } else {
+        i + 1
+    }
+}
+
+/// Part s of n of each flux.
+fn parts_of(part: &mut [i32], fluxes: &[i32], n: u64, s: u64) {
+    for (part, &f) in part.iter_mut().zip(fluxes) {
+        let size = u64::from(f.unsigned_abs());
+        let p = (s * size / n - (s - 1) * size / n) as i32;
+        *part = if f < 0 { -p } else { p };
+    }
+}
+
+/// One substep of a row's air; false where it is not allowed.
+fn step_air(air: &mut [u32], f: &[i32]) -> bool {
+    let w = air.len();
+    let mut next = [0; MOST_W];
+    for i in 0..w {
+        let west = f[west_of(i, w)];
+        let have = i64::from(air[i]);
+        let out = i64::from(f[i].max(0)) + i64::from((-west).max(0));
+        let after = have + i64::from(west) - i64::from(f[i]);
+        if out > have || !(1..=MOST_AIR).contains(&after) {
+            return false;
+        }
+        next[i] = after as u32;
+    }
+    air.copy_from_slice(&next[..w]);
+    true
+}
+
+fn serves(air: &[u32], fluxes: &[i32], n: u64) -> bool {
+    let w = air.len();
+    let (mut row, mut part) = ([0; MOST_W], [0; MOST_W]);
+    let (row, part) = (&mut row[..w], &mut part[..w]);
+    row.copy_from_slice(air);
+    (1..=n).all(|s| {
+        parts_of(part, fluxes, n, s);
+        step_air(row, part)
+    })
+}
+
+/// One substep of a tracer's row.
+fn step_gas(gas: &mut [u32], air: &[u32], f: &[i32]) {
+    let w = gas.len();
+    let (mut q, mut d, mut piece) = ([0; MOST_W], [0; MOST_W], [0; MOST_W]);
+    for ((q, &m), &t) in q.iter_mut().zip(air).zip(gas.iter()) {
+        *q = ratio(m, t);
+    }
+    for i in 0..w {
+        d[i] = mismatch(q[west_of(i, w)], q[i], q[east_of(i, w)]);
+    }
+    for i in 0..w {
+        let (east, flux) = (east_of(i, w), i64::from(f[i]));
+        piece[i] = match flux {
+            0 => 0,
+            1.. => high_piece(d[i], air[i], gas[i], flux),
+            _ => -low_piece(d[east], air[east], gas[east], -flux),
+        };
+    }
+    for i in 0..w {
+        gas[i] = (i64::from(gas[i]) + piece[west_of(i, w)] - piece[i]) as u32;
+    }
+}
+
+pub fn zonal(
+    g: Grid,
+    air: &mut [u32],
+    tracers: &mut [u32],
+    layer: u32,
+    row: u32,
+    fluxes: &[i32],
+) -> Outcome {
+    let world = common_places(g, air, tracers, Lent::RowFluxes(fluxes.len()))?;
+    if layer >= g.k || row >= g.r {
+        return Err(5);
+    }
+    if !fluxes_fit(fluxes, 1_048_560) {
+        return Err(8);
+    }
+    let first = layer as usize * world.layer + 1 + row as usize * world.w;
+    let cells = first..first + world.w;
+    let air = &mut air[cells.clone()];
+    let n = (1..=16).find(|&n| serves(air, fluxes, n)).ok_or(9u32)?;
+    let mut part = [0; MOST_W];
+    let part = &mut part[..world.w];
+    for s in 1..=n {
+        parts_of(part, fluxes, n, s);
+        for gas in tracers.chunks_exact_mut(world.cells) {
+            step_gas(&mut gas[cells.clone()], air, part);
+        }
+        step_air(air, part);
+    }
+    Ok(n as u32)
+}
+
+/// The cells south and north of a face, where `rows` cells lie between the caps.
+fn beside(face: usize, w: usize, rows: usize) -> (usize, usize) {
+    let south = if face < w { 0 } else { 1 + face - w };
+    let north = if face < rows { 1 + face } else { 1 + rows };
+    (south, north)
+}
+
+/// A layer's air after the substep, if it is allowed.
+fn layer_after(air: &[u32], f: &[i32], w: usize) -> Option<[u32; MOST_LAYER]> {
+    let rows = air.len() - 2;
+    let (mut out, mut after) = ([0; MOST_LAYER], [0; MOST_LAYER]);
+    for (after, &m) in after.iter_mut().zip(air) {
+        *after = i64::from(m);
+    }
+    for (i, &flux) in f.iter().enumerate() {
+        let (south, north) = beside(i, w, rows);
+        let flux = i64::from(flux);
+        out[south] += flux.max(0);
+        out[north] += (-flux).max(0);
+        after[south] -= flux;
+        after[north] += flux;
+    }
+    let mut next = [0; MOST_LAYER];
+    for (c, &m) in air.iter().enumerate() {
+        if out[c] > i64::from(m) || !(1..=MOST_AIR).contains(&after[c]) {
+            return None;
+        }
+        next[c] = after[c] as u32;
+    }
+    Some(next)
+}
+
+fn layer_pieces(gas: &[u32], air: &[u32], f: &[i32], w: usize) -> [i64; MOST_FACES] {
+    let rows = air.len() - 2;
+    let (mut q, mut d) = ([0; MOST_LAYER], [0; MOST_LAYER]);
+    for ((q, &m), &t) in q.iter_mut().zip(air).zip(gas) {
+        *q = ratio(m, t);
+    }
+    for j in 0..rows {
+        let (south, _) = beside(j, w, rows);
+        let (_, north) = beside(w + j, w, rows);
+        d[1 + j] = mismatch(q[south], q[1 + j], q[north]);
+    }
+    let mut piece = [0; MOST_FACES];
+    for (i, &flux) in f.iter().enumerate() {
+        let (south, north) = beside(i, w, rows);
+        let flux = i64::from(flux);
+        piece[i] = match flux {
+            0 => 0,
+            1.. => high_piece(d[south], air[south], gas[south], flux),
+            _ => -low_piece(d[north], air[north], gas[north], -flux),
+        };
+    }
+    piece
+}
+
+fn step_layer_gas(gas: &mut [u32], air: &[u32], f: &[i32], w: usize) {
+    let rows = air.len() - 2;
+    let piece = layer_pieces(gas, air, f, w);
+    let after = |t: u32, enters: i64, leaves: i64| (i64::from(t) + enters - leaves) as u32;
+    gas[0] = after(gas[0], 0, piece[..w].iter().sum());
+    for j in 0..rows {
+        gas[1 + j] = after(gas[1 + j], piece[j], piece[w + j]);
+    }
+    gas[1 + rows] = after(gas[1 + rows], piece[rows..rows + w].iter().sum(), 0);
+}
+
+pub fn meridional(
+    g: Grid,
+    air: &mut [u32],
+    tracers: &mut [u32],
+    layer: u32,
+    fluxes: &[i32],
+) -> Outcome {
+    let world = common_places(g, air, tracers, Lent::LayerFluxes(fluxes.len()))?;
+    if layer >= g.k {
+        return Err(5);
+    }
+    if !fluxes_fit(fluxes, 65_535) {
+        return Err(8);
+    }
+    let first = layer as usize * world.layer;
+    let cells = first..first + world.layer;
+    let air = &mut air[cells.clone()];
+    let next = layer_after(air, fluxes, world.w).ok_or(10u32)?;
+    for gas in tracers.chunks_exact_mut(world.cells) {
+        step_layer_gas(&mut gas[cells.clone()], air, fluxes, world.w);
+    }
+    air.copy_from_slice(&next[..world.layer]);
+    Ok(1)
+}
+
+fn table_fits(table: &[u32]) -> bool {
+    table.starts_with(&[0, 0])
+        && table.ends_with(&[0, 65_536])
+        && table
+            .chunks_exact(2)
+            .all(|pair| pair[0] <= 2_097_120 && pair[1] <= 65_536)
+}
+
+/// A column's old air and the table's edges in it.
+struct Column {
+    air: [u32; MOST_K],
+    edges: [i64; MOST_K + 1],
+}
+
+fn column_at(air: &[u32], table: &[u32], c: usize, layer: usize) -> Column {
+    let mut column = Column {
+        air: [0; MOST_K],
+        edges: [0; MOST_K + 1],
+    };
+    for (m, &lent) in column.air.iter_mut().zip(air[c..].iter().step_by(layer)) {
+        *m = lent;
+    }
+    let p: i64 = column.air.iter().map(|&m| i64::from(m)).sum();
+    for (edge, pair) in column.edges.iter_mut().zip(table.chunks_exact(2)) {
+        *edge = i64::from(pair[0]) + i64::from(pair[1]) * p / SCALE;
+    }
+    column
+}
+
+/// The pairs of layers that share air, if the edges serve.
+fn pairs_of(column: &Column, k: usize) -> Option<u32> {
+    let edges = &column.edges[..=k];
+    let serve = |pair: &[i64]| (1..=MOST_AIR).contains(&(pair[1] - pair[0]));
+    if !edges.windows(2).all(serve) {
+        return None;
+    }
+    let (mut i, mut lower, mut count) = (0, i64::from(column.air[0]), 0);
+    for pair in edges.windows(2) {
+        while lower <= pair[0] {
+            i += 1;
+            lower += i64::from(column.air[i]);
+        }
+        count += 1;
+        while lower < pair[1] {
+            i += 1;
+            lower += i64::from(column.air[i]);
+            count += 1;
+        }
+    }
+    Some(count)
+}
+
+/// A tracer's column, remapped.
+fn remap_gas(gas: &mut [u32], column: &Column, cap: bool, c: usize, layer: usize, k: usize) {
+    let (air, edges) = (&column.air[..k], &column.edges[..=k]);
+    let (mut t, mut q, mut d) = ([0; MOST_K], [0; MOST_K], [0; MOST_K]);
+    for (i, &m) in air.iter().enumerate() {
+        t[i] = gas[c + i * layer];
+        q[i] = ratio(m, t[i]);
+    }
+    if !cap {
+        for i in 1..k.max(2) - 1 {
+            d[i] = mismatch(q[i - 1], q[i], q[i + 1]);
+        }
+    }
+    let (mut i, mut above, mut whole, mut last) = (0, 0, 0, 0);
+    for (j, &edge) in edges[1..].iter().enumerate() {
+        while above + i64::from(air[i]) < edge {
+            above += i64::from(air[i]);
+            whole += i64::from(t[i]);
+            i += 1;
+        }
+        let next = whole + low_piece(d[i], air[i], t[i], edge - above);
+        gas[c + j * layer] = (next - last) as u32;
+        last = next;
+    }
+}
+
+pub fn remap(g: Grid, air: &mut [u32], tracers: &mut [u32], table: &[u32]) -> Outcome {
+    let world = common_places(g, air, tracers, Lent::Table(table.len()))?;
+    if !table_fits(table) {
+        return Err(11);
+    }
+    let (layer, k) = (world.layer, g.k as usize);
+    let mut count = 0;
+    for c in 0..layer {
+        count += pairs_of(&column_at(air, table, c, layer), k).ok_or(12u32)?;
+    }
+    for c in 0..layer {
+        let column = column_at(air, table, c, layer);
+        let cap = c == 0 || c + 1 == layer;
+        for gas in tracers.chunks_exact_mut(world.cells) {
+            remap_gas(gas, &column, cap, c, layer, k);
+        }
+        for (j, pair) in column.edges[..=k].windows(2).enumerate() {
+            air[c + j * layer] = (pair[1] - pair[0]) as u32;
+        }
+    }
+    Ok(count)
+}

@@ -1,0 +1,178 @@
+//! Timing: the versions take turns on the same calls from the same world in the same memory, and every result is compared.
+
+use crate::versions::{MakeCall, COUNT, VERSIONS};
+use reference::{Call, World};
+use std::hint::black_box;
+
+/// Calls made one after the other, from a world.
+pub struct Work {
+    pub start: World,
+    pub calls: Vec<Call>,
+}
+
+/// The seconds of each version, a row for each round.
+pub type Rounds = Vec<[f64; COUNT]>;
+
+/// What is left after a work: the answers and the world.
+#[derive(PartialEq)]
+pub struct Left {
+    pub answers: Vec<u64>,
+    pub world: World,
+}
+
+fn restore(world: &mut World, start: &World) {
+    world.grid = start.grid;
+    world.air.clone_from(&start.air);
+    world.tracers.clone_from(&start.tracers);
+}
+
+/// A time of the C library: seconds and billionths.
+#[repr(C)]
+struct Moment {
+    seconds: i64,
+    billionths: i64,
+}
+
+extern "C" {
+    fn clock_gettime(clock: i32, moment: *mut Moment) -> i32;
+}
+
+/// Linux's number of the clock that runs only while this thread does, so that other programs' turns are not counted.
+const THREAD_CLOCK: i32 = 3;
+
+/// This thread's seconds so far.
+pub fn now() -> f64 {
+    let mut moment = Moment {
+        seconds: 0,
+        billionths: 0,
+    };
+    // SAFETY: `Moment` has the layout of a 64-bit Linux's timespec, and is this function's own.
+    let failed = unsafe { clock_gettime(THREAD_CLOCK, &mut moment) };
+    assert!(failed == 0, "this thread's clock cannot be read");
+    moment.seconds as f64 + moment.billionths as f64 * 1e-9
+}
+
+/// Seconds of the calls as `make` makes them; the world stands at the work's start before and is left as the calls leave it.
+pub fn time(make: MakeCall, work: &Work, left: &mut Left) -> f64 {
+    restore(&mut left.world, &work.start);
+    left.answers.clear();
+    left.answers.reserve(work.calls.len());
+    let begin = now();
+    for call in &work.calls {
+        left.answers
+            .push(make(black_box(&mut left.world), black_box(call)));
+    }
+    now() - begin
+}
+
+pub fn nothing_left(start: &World) -> Left {
+    Left {
+        answers: Vec::new(),
+        world: start.clone(),
+    }
+}
+
+/// Makes every call by every version and compares answer, count and every number after each.
+pub fn agree(work: &Work) {
+    let mut worlds: [World; COUNT] = std::array::from_fn(|_| work.start.clone());
+    for (number, call) in work.calls.iter().enumerate() {
+        let answers: [u64; COUNT] =
+            std::array::from_fn(|v| VERSIONS[v].call(number)(&mut worlds[v], call));
+        for v in 1..COUNT {
+            let same = answers[v] == answers[0] && worlds[v] == worlds[0];
+            assert!(
+                same,
+                "{} differs from the library at call {number}: {call:?}",
+                VERSIONS[v].name
+            );
+        }
+    }
+}
+
+/// Does the work with the stack `steps` small frames deeper, since a version's speed depends a little on where its arrays lie.
+#[inline(never)]
+fn deeper(steps: usize, work: &mut dyn FnMut() -> f64) -> f64 {
+    let frame = black_box([0u8; 96]);
+    let seconds = if steps == 0 {
+        work()
+    } else {
+        deeper(steps - 1, work)
+    };
+    black_box(&frame);
+    seconds
+}
+
+/// One round: each version once, the first one another in each round, code and stack at other places.
+pub fn round(
+    number: usize,
+    work: &Work,
+    left: &mut Left,
+    first: &mut Option<Left>,
+) -> [f64; COUNT] {
+    let mut seconds = [0.0; COUNT];
+    for turn in 0..COUNT {
+        let v = (number + turn) % COUNT;
+        let make = VERSIONS[v].call(number + number / COUNT);
+        seconds[v] = deeper(number * 7 % 32, &mut || time(make, work, left));
+        match first {
+            Some(first) => assert!(
+                *left == *first,
+                "{} differs from the others",
+                VERSIONS[v].name
+            ),
+            None => {
+                *first = Some(Left {
+                    answers: left.answers.clone(),
+                    world: left.world.clone(),
+                })
+            }
+        }
+    }
+    seconds
+}
+
+/// All rounds of a work, after the versions were compared call by call.
+pub fn rounds(work: &Work, count: usize) -> Rounds {
+    agree(work);
+    let (mut left, mut first) = (nothing_left(&work.start), None);
+    round(0, work, &mut left, &mut first);
+    let accepted = left.answers.iter().all(|answer| answer >> 32 == 0);
+    assert!(accepted, "a timed call is refused: {:?}", left.answers);
+    (0..count)
+        .map(|number| round(number, work, &mut left, &mut first))
+        .collect()
+}
+
+/// The median, and the 10th and the 90th of a hundred.
+#[derive(Clone, Copy)]
+pub struct Spread {
+    pub median: f64,
+    pub low: f64,
+    pub high: f64,
+}
+
+pub fn spread(mut numbers: Vec<f64>) -> Spread {
+    numbers.sort_by(f64::total_cmp);
+    let at = |hundredth: usize| numbers[(numbers.len() - 1) * hundredth / 100];
+    Spread {
+        median: at(50),
+        low: at(10),
+        high: at(90),
+    }
+}
+
+impl std::fmt::Display for Spread {
+    fn fmt(&self, f: &mut std::fmt::Formatter) -> std::fmt::Result {
+        write!(f, "{:.2} ({:.2}..{:.2})", self.median, self.low, self.high)
+    }
+}
+
+/// The library's time as a part of another version's, round by round.
+pub fn ratio_to(rounds: &Rounds, version: usize) -> Spread {
+    spread(
+        rounds
+            .iter()
+            .map(|seconds| seconds[0] / seconds[version])
+            .collect(),
+    )
+}

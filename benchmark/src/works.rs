@@ -1,0 +1,124 @@
+//! The works that are timed: each call on a grid, in lists long enough for the clock.
+
+use crate::inputs;
+use crate::timing::Work;
+use crate::worlds::Random;
+use reference::{Call, Grid, World};
+
+pub const SMALL: Grid = Grid {
+    w: 8,
+    r: 3,
+    k: 2,
+    n: 2,
+};
+pub const FULL: Grid = Grid {
+    w: 72,
+    r: 44,
+    k: 32,
+    n: 8,
+};
+
+/// The calls of one kind, and its name.
+pub struct Kind {
+    pub name: &'static str,
+    pub calls: fn(&mut Random, &World) -> Vec<Call>,
+}
+
+pub const KINDS: [Kind; 8] = [
+    Kind {
+        name: "load",
+        calls: |_, _| vec![Call::Load],
+    },
+    Kind {
+        name: "emission",
+        calls: |_, world| {
+            vec![Call::Emission {
+                tracer: 0,
+                cell: middle(world),
+                amount: 1,
+            }]
+        },
+    },
+    Kind {
+        name: "withdrawal",
+        calls: |_, world| {
+            vec![Call::Withdrawal {
+                tracer: 0,
+                cell: middle(world),
+                amount: 1,
+            }]
+        },
+    },
+    Kind {
+        name: "total",
+        calls: |_, _| vec![Call::Total { tracer: 0 }],
+    },
+    Kind {
+        name: "cell",
+        calls: |_, world| {
+            vec![Call::Cell {
+                tracer: 0,
+                cell: middle(world),
+            }]
+        },
+    },
+    Kind {
+        name: "zonal",
+        calls: zonal,
+    },
+    Kind {
+        name: "meridional",
+        calls: meridional,
+    },
+    Kind {
+        name: "remap",
+        calls: remap,
+    },
+];
+
+fn middle(world: &World) -> u32 {
+    world.air.len() as u32 / 2
+}
+
+/// Six rows with weak, middle and strong winds, and each back.
+pub fn zonal(random: &mut Random, world: &World) -> Vec<Call> {
+    let grid = world.grid;
+    (0..6)
+        .flat_map(|i| {
+            let share = [0.2, 0.6, 1.2, 1.6, 2.0, 0.4][i as usize];
+            let there = inputs::zonal(random, world, i % grid.k, (7 * i) % grid.r, share);
+            let back = inputs::opposite(&there);
+            [there, back]
+        })
+        .collect()
+}
+
+/// One layer, and back.
+pub fn meridional(random: &mut Random, world: &World) -> Vec<Call> {
+    let there = inputs::meridional(random, world, world.grid.k / 2);
+    let back = inputs::opposite(&there);
+    vec![there, back]
+}
+
+/// Two tables in turn, so that edges lie inside the layers that the other one made.
+pub fn remap(random: &mut Random, world: &World) -> Vec<Call> {
+    (0..2)
+        .map(|_| inputs::table(random, world.grid.k))
+        .collect()
+}
+
+/// The calls of a kind on a world of the grid, repeated until about `numbers` numbers are read.
+pub fn work(
+    seed: u64,
+    grid: Grid,
+    calls: fn(&mut Random, &World) -> Vec<Call>,
+    numbers: usize,
+) -> Work {
+    let mut random = Random::new(seed);
+    let start = inputs::world(&mut random, grid);
+    let calls = calls(&mut random, &start);
+    let once = (start.air.len() + start.tracers.len()) * calls.len();
+    let times = (numbers / once).clamp(1, 500);
+    let calls = std::iter::repeat_n(calls, times).flatten().collect();
+    Work { start, calls }
+}
