@@ -63,13 +63,13 @@ fn take_grid(kind: u32, wanted: Grid) -> Outcome
 }
 
 // Room for the air and the tracers of a grid that the program takes.
-fn air_space() -> [u32; 2048]
+pub fn air_space() -> [u32; 2048]
     ensures { λ r. ⌜ length r ≡ 2048 ⌝ }
 {
     [0; 2048]
 }
 
-fn tracer_space() -> [u32; 4096]
+pub fn tracer_space() -> [u32; 4096]
     ensures { λ r. ⌜ length r ≡ 4096 ⌝ }
 {
     [0; 4096]

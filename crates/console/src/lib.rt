@@ -3,7 +3,9 @@
 ghost use mathlib.Core.Path.{_≡_};
 ghost use lib.ListN.{length};
 use carry::Outcome;
+use carry::air_space;
 use carry::carry_out;
+use carry::tracer_space;
 use libc::STDIN_FILENO;
 use libc::STDOUT_FILENO;
 use lines::Line;
@@ -16,14 +18,6 @@ fn record_space() -> [u8; 24577]
     ensures { λ r. ⌜ length r ≡ 24577 ⌝ }
 {
     [0; 24577]
-}
-
-fn air_space() -> [u32; 2048] {
-    [0; 2048]
-}
-
-fn tracer_space() -> [u32; 4096] {
-    [0; 4096]
 }
 
 // Prints a line, and answers whether all of it was written.
