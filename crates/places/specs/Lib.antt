@@ -1,3 +1,4 @@
+pub mod Bits
 pub mod Totals
 pub mod Tested
 pub mod Fluxes

@@ -1,14 +1,21 @@
 -- What `totals` needs and gives: the sums of the first n tracers over all cells.
 -- Assumes nothing.
-use Prim.Native.Nat.{ℕ, suc, _+_, _*_, _-_, _≤_, _<_}
+use Prim.Native.Nat.{ℕ, suc, _+_, _*_, _-_, _%_, _≤_, _<_}
 use mathlib.Core.List.{List}
-use mathlib.Core.Path.{_≡_}
-use native.Mathlib.Nat.{add-sub-cancel-left, mul-le-mul, mul-le-mul-right}
+use mathlib.Core.Path.{_≡_, sym, _∙_, ap}
+use native.Mathlib.Nat.{add-sub-cancel-left, mod-eq-of-lt, mul-le-mul, mul-le-mul-right}
 use native.Mathlib.Omega.{arith}
+use lib.Bits.{bitOr}
 use lib.ListN.{length, set}
 use Rattle.model.specs.Basic.{at, part, sum}
-use Rattle.model.specs.Laws.Basic.{length-part}
+use Rattle.model.specs.Laws.Basic.{length-part, at-part, sum-split, sum-ext}
 use Rattle.model.specs.Laws.Entries.{entries-more}
+use Rattle.places.specs.Bits.{or-above}
+
+-- a sum of amounts below 2^32
+pub record IsTotal (gas : List ℕ) (r : ℕ) : Type 0 where
+  pub is : r ≡ sum (length gas) (at gas)
+  pub small : r ≤ length gas * 4294967295
 
 pub record TracersFit (tracers : List ℕ) (cells n : ℕ) : Type 0 where
   pub fewCells : cells ≤ 101440
@@ -41,3 +48,18 @@ tracer-room {tracers} {cells} {n} fit t h =
 -- the total of a part that is lent as `&s[a..e]` with e = a + n
 pub part-total : (l : List ℕ) (a n x : ℕ) → a + n ≤ length l → x ≡ sum (length (part l a (a + n - a))) (at (part l a (a + n - a))) → x ≡ sum n (at (part l a n))
 part-total l a n x h e = rw (add-sub-cancel-left a n, length-part l a n h) at e
+
+-- ---- a block's sum in 32 bits: the bits of all amounts, and the sum of their last 20 bits
+pub block-more : (all low x s : ℕ) → (all < 1048576 → low ≡ s) → bitOr all x < 1048576 → low + x % 1048576 ≡ s + x
+block-more all low x s below h =
+    let e : x % 1048576 ≡ x = mod-eq-of-lt (omega (arith, or-above all x .1)) in
+    omega (arith, e, below (omega (arith, or-above all x .0)))
+
+-- ---- the sum up to the end of a block
+pub sum-block : (l : List ℕ) (a e x : ℕ) → a ≤ e → e ≤ length l → x ≡ sum (length (part l a (e - a))) (at (part l a (e - a))) → sum e (at l) ≡ sum a (at l) + x
+sum-block l a e x h k is =
+    let n : e ≡ a + (e - a) = omega arith in
+    let size : length (part l a (e - a)) ≡ e - a = length-part l a (e - a) (omega arith) in
+    ap (λ (m : ℕ). sum m (at l)) n ∙ sum-split a (e - a) (at l) ∙
+    ap (λ (m : ℕ). sum a (at l) + m)
+    (sym (is ∙ ap (λ (m : ℕ). sum m (at (part l a (e - a)))) size ∙ sum-ext (e - a) (at (part l a (e - a))) (λ i. at l (a + i)) (at-part l a (e - a))))

@@ -11,7 +11,7 @@ ghost use Rattle.model.specs.Basic.{at, part, sum, every};
 ghost use Rattle.model.specs.World.{airFits};
 ghost use Rattle.model.specs.Sweep.{flux};
 ghost use Rattle.units.specs.Grid.{gridOf, worldOf, InRange};
-ghost use Rattle.places.specs.Totals.{TracersFit, AreTotals};
+ghost use Rattle.places.specs.Totals.{IsTotal, TracersFit, AreTotals};
 ghost use Rattle.places.specs.Tested.{lentServes, lengthsServe, IsTested};
 use scheme::split;
 use units::Air;
@@ -28,17 +28,64 @@ pub fn air_in_range(m: Air) -> bool
     (1 <= m.0) & (m.0 <= 65535)
 }
 
-// Place 3: whether every cell's air is in range.
+// Place 3: whether every cell's air is in range. `all` has the bits of every cell's air.
 pub fn air_fits(air: &[u32]) -> bool
     ensures { λ r. ⌜ r ≡ every (length (now (air .entry))) (λ i. airFits (at (now (air .entry)) i)) ⌝ }
 {
-    let mut ok = true;
+    let mut all: u32 = 0;
+    let mut some = true;
     let mut i = 0;
     while i < air.len() {
-        ok = ok & air_in_range(Air(air[i]));
+        let m = air[i];
+        all = all | m;
+        some = some & (1 <= m);
         i += 1;
     }
-    ok
+    some & (all <= 65535)
+}
+
+// A sum of amounts, each added in 64 bits.
+fn wide_total(gas: &[u32]) -> u64
+    requires { ⌜ length (now gas) ≤ 101440 ⌝ }
+    ensures { λ r. ⌜ IsTotal (now (gas .entry)) r ⌝ }
+{
+    let mut sum: u64 = 0;
+    let mut i = 0;
+    while i < gas.len() {
+        sum += gas[i] as u64;
+        i += 1;
+    }
+    sum
+}
+
+// The sum of a block of at most 4,096 amounts. `all` has the bits of every amount: where it is below 2^20, the sum of the
+// amounts' last 20 bits is their sum. Both fit 32 bits, so that the loop runs at the speed of memory.
+fn block_total(gas: &[u32]) -> u64
+    requires { ⌜ length (now gas) ≤ 4096 ⌝ }
+    ensures { λ r. ⌜ IsTotal (now (gas .entry)) r ⌝ }
+{
+    let mut all: u32 = 0;
+    let mut low: u32 = 0;
+    let mut i = 0;
+    while i < gas.len() {
+        let x = gas[i];
+        all = all | x;
+        low += x % 1048576;
+        i += 1;
+    }
+    if all < 1048576 {
+        low as u64
+    } else {
+        wide_total(gas)
+    }
+}
+
+// Where the block that starts at entry a of n ends.
+fn block_end(a: usize, n: usize) -> usize
+    requires { ⌜ a < n ⌝ }
+    ensures { λ e. ⌜ (a < e) × (e ≤ n) × (e ≤ a + 4096) ⌝ }
+{
+    if n - a < 4096 { n } else { a + 4096 }
 }
 
 // A tracer's sum over all cells.
@@ -47,10 +94,11 @@ pub fn gas_total(gas: &[u32]) -> u64
     ensures { λ r. ⌜ (r ≡ sum (length (now (gas .entry))) (at (now (gas .entry)))) × (r < 562949953421312) ⌝ }
 {
     let mut sum: u64 = 0;
-    let mut i = 0;
-    while i < gas.len() {
-        sum += gas[i] as u64;
-        i += 1;
+    let mut a = 0;
+    while a < gas.len() {
+        let e = block_end(a, gas.len());
+        sum += block_total(&gas[a..e]);
+        a = e;
     }
     sum
 }

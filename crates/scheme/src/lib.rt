@@ -1,8 +1,7 @@
 // The leaves of the scheme: ratio, mismatch, piece, the two directions of a flux, and its parts.
 ghost use mathlib.Core.Path.{_≡_};
-ghost use Prim.Native.Nat.{_≤_, _<_, _*_, min, max};
+ghost use Prim.Native.Nat.{_≤_, _<_, _*_, _-_, min, max};
 ghost use Rattle.scheme.specs.Leaves.{mismatchOf, IsMismatch, Giver, IsPiece, IsSplit, IsFluxPart};
-ghost use Rattle.model.specs.Basic.{distance};
 ghost use Rattle.model.specs.Scheme as model;
 use units::Air;
 use units::Mismatch;
@@ -40,10 +39,11 @@ fn greater(a: u64, b: u64) -> u64
     if a < b { b } else { a }
 }
 
-fn distance(a: u64, b: u64) -> u64
-    ensures { λ r. ⌜ r ≡ distance a b ⌝ }
+// a − b, or 0 where b is greater.
+fn above(a: u64, b: u64) -> u64
+    ensures { λ r. ⌜ r ≡ a - b ⌝ }
 {
-    if a < b { b - a } else { a - b }
+    if b < a { a - b } else { 0 }
 }
 
 // The lesser of `most` and twice `room`; what could pass 64 bits is not doubled.
@@ -53,15 +53,15 @@ fn at_most_twice(most: u64, room: u64) -> u64
     if room <= most / 2 { 2 * room } else { most }
 }
 
+// The two limits of document 01 are one: twice the lesser of the distances to the least and to the greatest of the three.
 pub fn mismatch(qa: u64, q: u64, qb: u64) -> Mismatch
     ensures { λ d. ⌜ IsMismatch qa q qb d ⌝ }
 {
-    let least = lesser(qa, lesser(q, qb));
-    let greatest = greater(qa, greater(q, qb));
-    let half = distance(qa, qb) / 2;
-    let size = at_most_twice(half, q - least);
+    let low = lesser(qa, qb);
+    let high = greater(qa, qb);
+    let room = lesser(above(q, low), above(high, q));
     Mismatch {
-        size: at_most_twice(size, greatest - q),
+        size: at_most_twice((high - low) / 2, room),
         positive: qa <= qb,
     }
 }
@@ -81,7 +81,8 @@ pub fn high_piece(d: Mismatch, have: Air, t: Tracer, m: Air) -> Tracer
     } else {
         level - tilt
     };
-    let piece = (numerator / (TWICE_SCALE * air)) as u32;
+    let whole = numerator / TWICE_SCALE; // then mostly a division of 32 bits
+    let piece = (whole / air) as u32;
     Tracer(piece)
 }
 
@@ -146,6 +147,9 @@ pub fn flux_part(n: u32, s: u32, f: Air) -> Air
     requires { ⌜ (0 < s) × (s ≤ n) ⌝ }
     ensures { λ r. ⌜ IsFluxPart n s f r ⌝ }
 {
+    if n == 1 {
+        return f;
+    }
     let count = n as u64;
     let step = s as u64;
     let size = f.0 as u64;

@@ -1,34 +1,33 @@
--- `places::air_fits` meets its contract. The loop's invariant: `ok` is the test of every cell passed.
+-- `places::air_fits` meets its contract: `some` is that no cell passed has none, `all` the bits of all of them.
 -- Assumes nothing.
 use Prim.Native.Nat.{ℕ, _≤_, _-_}
-use mathlib.Core.Bool.{_&&_}
+use mathlib.Core.Bool.{Bool, _&&_}
 use mathlib.Core.Path.{_≡_, sym, _∙_, ap, ap₂}
 use native.Mathlib.Omega.{arith}
+use lib.Dec.{leb}
 use lib.ListN.{length}
-use borrow.Author.Needs.{needs}
 use Rattle.model.specs.Basic.{at, every}
 use Rattle.model.specs.World.{airFits}
 use Rattle.model.specs.Laws.Basic.{every-none, every-more}
+use Rattle.places.specs.Bits.{or-within, every-both}
+use borrow.Author.Needs.{needs}
 use Rattle.places.proofs.air_fits.Statement.{statement}
 use Rattle.places.proofs.air_fits.Tie as tie
 
 abbrev Inv-loop : tie.InvT-loop
-Inv-loop air ok₀ i₀ ok i = (i ≤ length air) × (ok ≡ every i (λ k. airFits (at air k)))
+Inv-loop air all₀ some₀ i₀ all some i = (i ≤ length air) × (some ≡ every i (λ k. leb 1 (at air k))) × (leb all 65535 ≡ every i (λ k. leb (at air k) 65535))
 
 abbrev μ-loop : tie.MeasureT-loop
-μ-loop air ok₀ i₀ ok i = length air - i
+μ-loop air all₀ some₀ i₀ all some i = length air - i
 
 loop-holds : tie.Need-loop-holds Inv-loop μ-loop
-loop-holds c = (search needs, sym (every-none _))
+loop-holds c = (search needs, sym (every-none _), sym (every-none _))
 
-mul-t4 : tie.Need-mul-t4 Inv-loop μ-loop
-mul-t4 c = search needs
+mul-m : tie.Need-mul-m Inv-loop μ-loop
+mul-m c = search needs
 
-shared-slice-read-t7 : tie.Need-shared-slice-read-t7 Inv-loop μ-loop
-shared-slice-read-t7 c = search needs
-
-air-in-range-requires : tie.Need-air-in-range-requires Inv-loop μ-loop
-air-in-range-requires c κs = search needs
+shared-slice-read-m : tie.Need-shared-slice-read-m Inv-loop μ-loop
+shared-slice-read-m c = search needs
 
 add-i : tie.Need-add-i Inv-loop μ-loop
 add-i c = search needs
@@ -37,15 +36,20 @@ loop-less : tie.Need-loop-less Inv-loop μ-loop
 loop-less c = search needs
 
 loop-again : tie.Need-loop-again Inv-loop μ-loop
-loop-again c = (
-  search needs,
-  ap₂ _&&_ (c .before .before .before .loop .inv .1) (c .air-in-range .ensures) ∙ sym (every-more (c .before .before .before .loop .i) _),
-)
+loop-again c = 
+    let turn = c .before .before .loop in
+    let m = at (c .before .before .before .args .air .now) (turn .i) in (
+      search needs,
+      ap (λ (b : Bool). b && leb 1 m) (turn .inv .1) ∙ sym (every-more (turn .i) _),
+      or-within (turn .all) m ∙ ap (λ (b : Bool). b && leb m 65535) (turn .inv .2) ∙ sym (every-more (turn .i) _),
+    )
 
 returns : tie.Need-returns Inv-loop μ-loop
-returns c =
-    c .before .loop .inv .1 ∙
-    ap (λ (n : ℕ). every n (λ k. airFits (at (c .before .before .before .args .air .now) k))) (omega arith)
+returns c = 
+    let end = c .before .loop in
+    let air = c .before .before .args .air .now in
+    ap₂ _&&_ (end .inv .1) (end .inv .2) ∙ every-both (end .i) (λ k. leb 1 (at air k)) (λ k. leb (at air k) 65535) ∙
+    ap (λ (n : ℕ). every n (λ k. airFits (at air k))) (omega arith)
 
 pub air-fits-spec : {M : Type 1} → statement M
 air-fits-spec =
@@ -54,9 +58,8 @@ air-fits-spec =
     Inv-loop
     μ-loop
     loop-holds
-    mul-t4
-    shared-slice-read-t7
-    air-in-range-requires
+    mul-m
+    shared-slice-read-m
     add-i
     loop-less
     loop-again

@@ -1,55 +1,72 @@
--- `places::gas_total` meets its contract. The loop's invariant: `sum` is the sum of the cells passed, each below 2^32.
+-- `places::gas_total` meets its contract: the sum of the blocks passed is the sum of their amounts.
 -- Assumes nothing.
-use Prim.Native.Nat.{ℕ, _≤_, _+_, _*_, _-_}
+use Prim.Native.Nat.{ℕ, _*_, _-_, _≤_}
 use mathlib.Core.Path.{_≡_, sym, _∙_, ap}
 use native.Mathlib.Omega.{arith}
 use lib.ListN.{length}
+use Rattle.model.specs.Basic.{at, part, sum as total}
+use Rattle.model.specs.Laws.Basic.{sum-none, length-part}
+use Rattle.places.specs.Totals.{sum-block}
 use borrow.Author.Needs.{needs}
-use Rattle.model.specs.Basic.{at, sum as total}
-use Rattle.model.specs.Laws.Basic.{sum-none, sum-more}
 use Rattle.places.proofs.gas_total.Statement.{statement}
 use Rattle.places.proofs.gas_total.Tie as tie
 
 abbrev Inv-loop : tie.InvT-loop
-Inv-loop gas sum₀ i₀ sum i = (i ≤ length gas) × (sum ≡ total i (at gas)) × (sum ≤ i * 4294967295)
+Inv-loop gas sum₀ a₀ sum a = (a ≤ length gas) × (sum ≡ total a (at gas)) × (sum ≤ a * 4294967295)
 
 abbrev μ-loop : tie.MeasureT-loop
-μ-loop gas sum₀ i₀ sum i = length gas - i
+μ-loop gas sum₀ a₀ sum a = length gas - a
 
 loop-holds : tie.Need-loop-holds Inv-loop μ-loop
 loop-holds c = (search needs, sym (sum-none _), search needs)
 
-mul-sum : tie.Need-mul-sum Inv-loop μ-loop
-mul-sum c = search needs
+block-end-requires : tie.Need-block-end-requires Inv-loop μ-loop
+block-end-requires c κs = search needs
 
-shared-slice-read-sum : tie.Need-shared-slice-read-sum Inv-loop μ-loop
-shared-slice-read-sum c = search needs
+mul-block-total : tie.Need-mul-block-total Inv-loop μ-loop
+mul-block-total c = search needs
 
-cast-sum : tie.Need-cast-sum Inv-loop μ-loop
-cast-sum c = omega (arith, c .shared-slice-known .given (c .before .before .loop .i))
+sub-block-total : tie.Need-sub-block-total Inv-loop μ-loop
+sub-block-total c = search needs
+
+part-block-total-start : tie.Need-part-block-total-start Inv-loop μ-loop
+part-block-total-start c = search needs
+
+part-block-total-end : tie.Need-part-block-total-end Inv-loop μ-loop
+part-block-total-end c = search needs
+
+block-total-requires : tie.Need-block-total-requires Inv-loop μ-loop
+block-total-requires c κs =
+    let gas = c .before .before .before .before .before .args .gas .now in
+    let a = c .before .before .before .loop .a in
+    let e = c .before .block-end in
+    let size : length (part gas a (e .result - a)) ≡ e .result - a = length-part gas a (e .result - a) (omega (arith, e .ensures .0, e .ensures .1)) in
+    omega (arith, size, e .ensures .2)
 
 add-sum : tie.Need-add-sum Inv-loop μ-loop
-add-sum c = omega (arith, c .shared-slice-known .given (c .before .before .loop .i))
-
-add-i : tie.Need-add-i Inv-loop μ-loop
-add-i c = search needs
+add-sum c =
+    let gas = c .before .before .before .before .before .before .args .gas .now in
+    let a = c .before .before .before .before .loop .a in
+    let e = c .before .before .block-end in
+    let size : length (part gas a (e .result - a)) ≡ e .result - a = length-part gas a (e .result - a) (omega (arith, e .ensures .0, e .ensures .1)) in
+    omega (arith, size, c .block-total .ensures .small, e .ensures .0, e .ensures .1)
 
 loop-less : tie.Need-loop-less Inv-loop μ-loop
 loop-less c = search needs
 
 loop-again : tie.Need-loop-again Inv-loop μ-loop
-loop-again c = (
-  search needs,
-  ap (λ (n : ℕ). n + at (c .before .before .before .args .gas .now) (c .before .before .loop .i)) (c .before .before .loop .inv .1) ∙
-      sym (sum-more (c .before .before .loop .i) (at (c .before .before .before .args .gas .now))),
-  omega (arith, c .shared-slice-known .given (c .before .before .loop .i)),
-)
+loop-again c =
+    let gas = c .before .before .before .before .before .before .args .gas .now in
+    let a = c .before .before .before .before .loop .a in
+    let e = c .before .before .block-end in
+    let size : length (part gas a (e .result - a)) ≡ e .result - a = length-part gas a (e .result - a) (omega (arith, e .ensures .0, e .ensures .1)) in (
+      e .ensures .1,
+      omega (arith, sum-block gas a (e .result) (c .block-total .result) (omega (arith, e .ensures .0)) (e .ensures .1) (c .block-total .ensures .is)),
+      omega (arith, size, c .block-total .ensures .small, e .ensures .0),
+    )
 
 returns : tie.Need-returns Inv-loop μ-loop
-returns c = (
-  c .before .loop .inv .1 ∙ ap (λ (n : ℕ). total n (at (c .before .before .args .gas .now))) (omega arith),
-  omega arith,
-)
+returns c = (c .before .loop .inv .1 ∙ ap (λ (n : ℕ). total n (at (c .before .before .before .args .gas .now))) (omega arith), omega arith)
 
 pub gas-total-spec : {M : Type 1} → statement M
 gas-total-spec =
@@ -58,11 +75,13 @@ gas-total-spec =
     Inv-loop
     μ-loop
     loop-holds
-    mul-sum
-    shared-slice-read-sum
-    cast-sum
+    block-end-requires
+    mul-block-total
+    sub-block-total
+    part-block-total-start
+    part-block-total-end
+    block-total-requires
     add-sum
-    add-i
     loop-less
     loop-again
     returns)

@@ -1,8 +1,8 @@
 -- `scheme::flux_part` meets its contract: both products fit 64 bits, and the difference is the model's.
 -- Assumes nothing.
-use Prim.Native.Nat.{ℕ, _*_, _^_, _≤_, _<_}
-use mathlib.Core.Path.{refl}
-use native.Mathlib.Nat.{mul-le-mul}
+use Prim.Native.Nat.{ℕ, _*_, _-_, _^_, _≤_, _<_}
+use mathlib.Core.Path.{_≡_, refl, sym}
+use native.Mathlib.Nat.{div-one, le-refl, mul-le-mul}
 use native.Mathlib.Omega.{arith}
 use borrow.Author.Needs.{needs}
 use mir.Syntax.{w64}
@@ -12,11 +12,21 @@ use Rattle.model.specs.Laws.Scheme.{flux-part-not-cut, flux-part-le}
 use Rattle.scheme.proofs.flux_part.Statement.{statement}
 use Rattle.scheme.proofs.flux_part.Tie as tie
 
+flux-part-whole : (n s f : ℕ) → n ≡ 1 → 0 < s → s ≤ n → fluxPart n s f ≡ f
+unfolding fluxPart
+flux-part-whole n s f one some most =
+    let first : s ≡ 1 = omega arith in
+    rw (one, first) (omega (arith, div-one (1 * f), div-one ((1 - 1) * f)))
+
 product-fits : (a b : ℕ) → a < 2 ^ 32 → b < 2 ^ 32 → Fits w64 (a * b)
 product-fits a b ha hb =
     let ha' : a ≤ 4294967295 = omega arith in
     let hb' : b ≤ 4294967295 = omega arith in
     record { fits = omega (arith, mul-le-mul ha' hb') }
+
+-- the one part of one is the whole
+returns : tie.Need-returns
+returns c = record { is = sym (flux-part-whole (c .before .args .n) (c .before .args .s) (c .before .args .f .0) (c .if1 .taken) (c .before .pre .0) (c .before .pre .1)); within = le-refl _ }
 
 cast-size : tie.Need-cast-size
 cast-size c = search needs
@@ -42,13 +52,13 @@ sub-part c = flux-part-not-cut _ _ _ (search needs)
 cast-part : tie.Need-cast-part
 unfolding fluxPart
 cast-part c =
-    let a = c .before .args in
+    let a = c .before .before .args in
     omega (arith, flux-part-le (a .n) (a .s) (a .f .0) (search needs) (search needs))
 
-returns : tie.Need-returns
+returns-2 : tie.Need-returns-2
 unfolding fluxPart
-returns c = record { is = refl; within = flux-part-le _ _ _ (search needs) (search needs) }
+returns-2 c = record { is = refl; within = flux-part-le _ _ _ (search needs) (search needs) }
 
 pub flux-part-spec : {M : Type 1} → statement M
 flux-part-spec =
-    tie.close (tie.spec cast-size mul-upto div-upto sub-before mul-before div-before sub-part cast-part returns)
+    tie.close (tie.spec returns cast-size mul-upto div-upto sub-before mul-before div-before sub-part cast-part returns-2)

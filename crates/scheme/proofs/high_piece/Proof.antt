@@ -4,6 +4,7 @@ use Prim.Native.Nat.{ℕ, _*_, _-_, _/_, _^_, _≤_, _<_}
 use mathlib.Core.Bool.{Bool, true, false}
 use mathlib.Core.Logic.{⊎-elim}
 use mathlib.Core.Path.{_≡_, sym, _∙_, ap}
+use native.Mathlib.Nat.{div-div-eq-div-mul}
 use native.Mathlib.Omega.{arith}
 use borrow.Author.Needs.{needs}
 use Rattle.units.specs.declared.Air.{Air}
@@ -75,21 +76,19 @@ sub-numerator c =
     let start = c .before .before .before .before .before in
     sizes (start .pre) .tilt
 
-mul-piece : tie.Need-mul-piece
-mul-piece c = search needs
-
 div-piece : tie.Need-div-piece
 div-piece c = search needs
 
--- the quotient is the piece that the model gives
-quotient : (c : tie.Joined1) → let a = c .before .before .before .before .before .args in c .if1 .numerator / (2 * scale * a .have .0) ≡ highPiece (mismatchOf (a .d)) (a .have .0) (a .t .0) (a .m .0)
+-- the quotient is the piece that the model gives: dividing by 2·S and then by M is dividing by 2·S·M
+quotient : (c : tie.Joined1) → let a = c .before .before .before .before .before .args in c .if1 .numerator / (2 * scale) / a .have .0 ≡ highPiece (mismatchOf (a .d)) (a .have .0) (a .t .0) (a .m .0)
 unfolding numerator
 quotient c =
     let start = c .before .before .before .before .before in
     let a = start .args in
     let is-numerator = signed (mismatchOf (a .d)) (a .have .0) (a .t .0) (a .m .0) in
     rw (piece-is (mismatchOf (a .d)) (a .have .0) (a .t .0) (a .m .0))
-    (ap (λ (x : ℕ). x / (2 * scale * a .have .0))
+    (div-div-eq-div-mul (c .if1 .numerator) (2 * scale) (a .have .0) ∙
+    ap (λ (x : ℕ). x / (2 * scale * a .have .0))
     (⊎-elim (λ w. is-numerator true (w .0 .taken) (w .1)) (λ w. is-numerator false (w .0 .left) (w .1)) (c .if1 .came)))
 
 cast-piece : tie.Need-cast-piece
@@ -118,7 +117,6 @@ high-piece-spec =
     mul-tilt-2
     add-numerator
     sub-numerator
-    mul-piece
     div-piece
     cast-piece
     returns)

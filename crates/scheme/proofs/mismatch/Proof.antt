@@ -1,7 +1,7 @@
--- `scheme::mismatch` meets its contract: the two limits put on half the distance one after the other are the smallest of the three.
+-- `scheme::mismatch` meets its contract: twice the lesser distance is the lesser of the two limits, and the least and the greatest of the neighbours tell as much as those of all three.
 -- Assumes nothing.
-use Prim.Native.Nat.{ℕ, _*_, _-_, _/_, _≤_, min, max}
-use mathlib.Core.Path.{_≡_}
+use Prim.Native.Nat.{ℕ, _*_, _-_, _/_, min, max}
+use mathlib.Core.Path.{_≡_, sym, _∙_, ap, ap₂}
 use native.Mathlib.Omega.{arith}
 use lib.Dec.{leb}
 use Rattle.model.specs.Basic.{distance}
@@ -11,26 +11,41 @@ use borrow.Author.Needs.{needs}
 use Rattle.scheme.proofs.mismatch.Statement.{statement}
 use Rattle.scheme.proofs.mismatch.Tie as tie
 
-below-greatest : (qa q qb g h : ℕ) → h ≡ max q qb → g ≡ max qa h → q ≤ g
-below-greatest qa q qb g h e e' = omega arith
+apart : (qa qb : ℕ) → max qa qb - min qa qb ≡ distance qa qb
+apart qa qb = omega arith
 
-min-assoc : (a b c : ℕ) → min (min a b) c ≡ min a (min b c)
-min-assoc a b c = omega arith
+below : (qa q qb : ℕ) → q - min qa qb ≡ q - min qa (min q qb)
+below qa q qb = omega arith
+
+beyond : (qa q qb : ℕ) → max qa qb - q ≡ max qa (max q qb) - q
+beyond qa q qb = omega arith
+
+twice-lesser : (h a b : ℕ) → min h (2 * min a b) ≡ min h (min (2 * a) (2 * b))
+twice-lesser h a b = omega arith
+
+-- the size, from what the smaller functions give
+size-is : (qa q qb low high a b room size : ℕ) → low ≡ min qa qb → high ≡ max qa qb → a ≡ q - low → b ≡ high - q → room ≡ min a b → size ≡ min ((high - low) / 2) (2 * room) → size ≡ mismatch qa q qb .size
+unfolding mismatch
+size-is qa q qb low high a b room size l h p r m e =
+    e ∙
+    ap₂ (λ (d n : ℕ). min (d / 2) (2 * n)) (ap₂ _-_ h l ∙ apart qa qb)
+    (m ∙ ap₂ min (p ∙ ap (λ (x : ℕ). q - x) l ∙ below qa q qb) (r ∙ ap (λ (x : ℕ). x - q) h ∙ beyond qa q qb)) ∙
+    twice-lesser (distance qa qb / 2) (q - min qa (min q qb)) (max qa (max q qb) - q)
 
 lesser-requires : tie.Need-lesser-requires
 lesser-requires c κs = search needs
 
-lesser-requires-2 : tie.Need-lesser-requires-2
-lesser-requires-2 c κs = search needs
-
 greater-requires : tie.Need-greater-requires
 greater-requires c κs = search needs
 
-greater-requires-2 : tie.Need-greater-requires-2
-greater-requires-2 c κs = search needs
+above-requires : tie.Need-above-requires
+above-requires c κs = search needs
 
-distance-requires : tie.Need-distance-requires
-distance-requires c κs = search needs
+above-requires-2 : tie.Need-above-requires-2
+above-requires-2 c κs = search needs
+
+lesser-requires-2 : tie.Need-lesser-requires-2
+lesser-requires-2 c κs = search needs
 
 sub-at-most-twice : tie.Need-sub-at-most-twice
 sub-at-most-twice c = search needs
@@ -38,38 +53,24 @@ sub-at-most-twice c = search needs
 at-most-twice-requires : tie.Need-at-most-twice-requires
 at-most-twice-requires c κs = search needs
 
-sub-at-most-twice-2 : tie.Need-sub-at-most-twice-2
-sub-at-most-twice-2 c = below-greatest _ _ _ _ _ (c .before .before .before .greater .ensures) (c .before .before .greater2 .ensures)
-
-at-most-twice-requires-2 : tie.Need-at-most-twice-requires-2
-at-most-twice-requires-2 c κs = search needs
-
-size : (c : tie.After-at-most-twice2) → let a = c .before .before .before .before .before .before .before .args in c .at-most-twice2 .result ≡ mismatch (a .qa) (a .q) (a .qb) .size
-unfolding mismatch
-size c =
-    let start = c .before .before .before .before .before .before .before in
-    let a = start .args in
-    let assoc = min-assoc (distance (a .qa) (a .qb) / 2) (2 * (a .q - min (a .qa) (min (a .q) (a .qb)))) (2 * (max (a .qa) (max (a .q) (a .qb)) - a .q)) in
-    cc
-
 returns : tie.Need-returns
 unfolding mismatch
 returns c =
-    let start = c .before .before .before .before .before .before .before in
+    let start = c .before .before .before .before .before .before in
     let a = start .args in
-    record { is = λ i. record { size = size c i; positive = leb (a .qa) (a .qb) }; small = rw (size c) (mismatch-twice (a .qa) (a .q) (a .qb)) }
+    let size =
+    size-is (a .qa) (a .q) (a .qb) _ _ _ _ _ _ (c .before .before .before .before .before .lesser .ensures) (c .before .before .before .before .greater .ensures) (c .before .before .before .above .ensures) (c .before .before .above2 .ensures) (c .before .lesser2 .ensures) (c .at-most-twice .ensures) in
+    record { is = λ i. record { size = size i; positive = leb (a .qa) (a .qb) }; small = rw size (mismatch-twice (a .qa) (a .q) (a .qb)) }
 
 pub mismatch-spec : {M : Type 1} → statement M
 mismatch-spec =
     tie.close
     (tie.spec
     lesser-requires
-    lesser-requires-2
     greater-requires
-    greater-requires-2
-    distance-requires
+    above-requires
+    above-requires-2
+    lesser-requires-2
     sub-at-most-twice
     at-most-twice-requires
-    sub-at-most-twice-2
-    at-most-twice-requires-2
     returns)

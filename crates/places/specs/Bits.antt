@@ -1,0 +1,36 @@
+-- The bits of all amounts passed, in one number: none is above it, and it is below a power of two where all are.
+-- Assumes nothing.
+use Prim.Native.Nat.{ℕ, zero, suc, _+_, _^_, _≤_, _<_}
+use mathlib.Core.Bool.{Bool, true, false, _&&_}
+use mathlib.Core.Path.{_≡_, refl, sym, _∙_, ap, ap₂}
+use native.Mathlib.Omega.{arith}
+use borrow.Author.Tests.{leb-true, leb-false, le-leb, lt-leb}
+use lib.Bits.{bitOr, or-add-and, and-le-l, and-le-r, or-lt}
+use lib.Dec.{leb}
+use Rattle.model.specs.Basic.{every}
+use Rattle.model.specs.Laws.Basic.{every-more}
+
+pub or-above : (a b : ℕ) → (a ≤ bitOr a b) × (b ≤ bitOr a b)
+or-above a b =
+    (omega (arith, or-add-and a b, and-le-r a b), omega (arith, or-add-and a b, and-le-l a b))
+
+-- a number of 16 bits
+pub or-within : (a b : ℕ) → leb (bitOr a b) 65535 ≡ leb a 65535 && leb b 65535
+or-within a b = go (leb a 65535) (leb b 65535) refl refl
+  where
+    go : (p q : Bool) → leb a 65535 ≡ p → leb b 65535 ≡ q → leb (bitOr a b) 65535 ≡ p && q
+    go true true e f = le-leb (bitOr a b) 65535 (omega (arith, or-lt 16 a b (omega (arith, leb-true a 65535 e)) (omega (arith, leb-true b 65535 f))))
+    go true false e f = lt-leb (bitOr a b) 65535 (omega (arith, leb-false b 65535 f, or-above a b .1))
+    go false q e f = lt-leb (bitOr a b) 65535 (omega (arith, leb-false a 65535 e, or-above a b .0))
+
+-- two tests at every number are one
+swap : (a b p q : Bool) → (a && b) && (p && q) ≡ (a && p) && (b && q)
+swap true true p q = refl
+swap true false true q = refl
+swap true false false q = refl
+swap false b p q = refl
+
+pub every-both : (n : ℕ) (p q : ℕ → Bool) → every n p && every n q ≡ every n (λ i. p i && q i)
+unfolding every
+every-both zero p q = refl
+every-both (suc n) p q = swap (every n p) (p n) (every n q) (q n) ∙ ap (λ (b : Bool). b && (p n && q n)) (every-both n p q)
