@@ -36,7 +36,7 @@ loop-less : tie.Need-loop-less Inv-loop μ-loop
 loop-less c = search needs
 
 loop-again : tie.Need-loop-again Inv-loop μ-loop
-loop-again c = 
+loop-again c =
     let turn = c .before .before .loop in
     let m = at (c .before .before .before .args .air .now) (turn .i) in (
       search needs,
@@ -45,7 +45,7 @@ loop-again c =
     )
 
 returns : tie.Need-returns Inv-loop μ-loop
-returns c = 
+returns c =
     let end = c .before .loop in
     let air = c .before .before .args .air .now in
     ap₂ _&&_ (end .inv .1) (end .inv .2) ∙ every-both (end .i) (λ k. leb 1 (at air k)) (λ k. leb (at air k) 65535) ∙
