@@ -150,6 +150,9 @@ pub fn flux_part(n: u32, s: u32, f: Air) -> Air
     if n == 1 {
         return f;
     }
+    if f.0 == 0 {
+        return f;
+    }
     let count = n as u64;
     let step = s as u64;
     let size = f.0 as u64;

@@ -2,7 +2,7 @@
 -- Assumes nothing.
 use Prim.Native.Nat.{ℕ, _*_, _-_, _^_, _≤_, _<_}
 use mathlib.Core.Path.{_≡_, refl, sym}
-use native.Mathlib.Nat.{div-one, le-refl, mul-le-mul}
+use native.Mathlib.Nat.{div-one, le-refl, mul-le-mul, mul-zero, zero-div}
 use native.Mathlib.Omega.{arith}
 use borrow.Author.Needs.{needs}
 use mir.Syntax.{w64}
@@ -18,6 +18,10 @@ flux-part-whole n s f one some most =
     let first : s ≡ 1 = omega arith in
     rw (one, first) (omega (arith, div-one (1 * f), div-one ((1 - 1) * f)))
 
+flux-part-none : (n s f : ℕ) → f ≡ 0 → fluxPart n s f ≡ f
+unfolding fluxPart
+flux-part-none n s f none = rw (none, mul-zero s, mul-zero (s - 1), zero-div n)
+
 product-fits : (a b : ℕ) → a < 2 ^ 32 → b < 2 ^ 32 → Fits w64 (a * b)
 product-fits a b ha hb =
     let ha' : a ≤ 4294967295 = omega arith in
@@ -27,6 +31,12 @@ product-fits a b ha hb =
 -- the one part of one is the whole
 returns : tie.Need-returns
 returns c = record { is = sym (flux-part-whole (c .before .args .n) (c .before .args .s) (c .before .args .f .0) (c .if1 .taken) (c .before .pre .0) (c .before .pre .1)); within = le-refl _ }
+
+-- every part of nothing is nothing
+returns-2 : tie.Need-returns-2
+returns-2 c =
+    let start = c .before .before .before in
+    record { is = sym (flux-part-none (start .args .n) (start .args .s) (start .args .f .0) (c .if2 .taken)); within = le-refl _ }
 
 cast-size : tie.Need-cast-size
 cast-size c = search needs
@@ -52,13 +62,13 @@ sub-part c = flux-part-not-cut _ _ _ (search needs)
 cast-part : tie.Need-cast-part
 unfolding fluxPart
 cast-part c =
-    let a = c .before .before .args in
+    let a = c .before .before .before .before .args in
     omega (arith, flux-part-le (a .n) (a .s) (a .f .0) (search needs) (search needs))
 
-returns-2 : tie.Need-returns-2
+returns-3 : tie.Need-returns-3
 unfolding fluxPart
-returns-2 c = record { is = refl; within = flux-part-le _ _ _ (search needs) (search needs) }
+returns-3 c = record { is = refl; within = flux-part-le _ _ _ (search needs) (search needs) }
 
 pub flux-part-spec : {M : Type 1} → statement M
 flux-part-spec =
-    tie.close (tie.spec returns cast-size mul-upto div-upto sub-before mul-before div-before sub-part cast-part returns-2)
+    tie.close (tie.spec returns returns-2 cast-size mul-upto div-upto sub-before mul-before div-before sub-part cast-part returns-3)
