@@ -19,14 +19,14 @@
  *
  * What is assumed of the stack: that it has room for the call. The deepest stack in bytes, read from
  * the object code by tools/stack, return address and libc's functions included, arguments not:
- *   puldeho_load               296
- *   puldeho_emission           408
- *   puldeho_withdrawal         344
- *   puldeho_zonal           31,520
+ *   puldeho_load               328
+ *   puldeho_emission           440
+ *   puldeho_withdrawal         376
+ *   puldeho_zonal           31,536
  *   puldeho_meridional     183,408
  *   puldeho_remap           18,880
- *   puldeho_total              376
- *   puldeho_cell               344
+ *   puldeho_total              408
+ *   puldeho_cell               376
  */
 #ifndef PULDEHO_H
 #define PULDEHO_H
