@@ -27,7 +27,7 @@ signed x = elim (ltb x 2147483648) [ true ↦ pos x | false ↦ negℤ (pos (429
 abbrev pub fluxesAt : List ℕ → ℕ → ℕ → List ℤ
 fluxesAt body a n = tab n (λ i. signed (numberAt body (a + 4 * i) 4))
 
--- "in decimal": the digits of n as ASCII, of which there are fewer than `most`
+-- "in decimal": the digits of n as ASCII, at most `most` of them
 unfoldable pub digits : ℕ → ℕ → List ℕ
 digits zero n = []
 digits (suc most) n =
