@@ -1,0 +1,109 @@
+-- `substep::fill_parts` meets its contract. The loop's invariant: the faces passed have their parts.
+-- Assumes nothing.
+use Prim.Native.Nat.{_≤_, _-_}
+use mathlib.Core.Path.{_≡_, _∙_, ap}
+use native.Mathlib.Omega.{arith}
+use lib.ListN.{length}
+use mir.Facts.{toZ-ofZ}
+use mir.Syntax.{w32}
+use Rattle.model.specs.Sweep.{forward, backward, flux, fluxPart, parts}
+use Rattle.substep.specs.Faces.{flowOf, Same, same-none, same-more}
+use borrow.Author.Needs.{needs, sfits-of}
+use Rattle.substep.proofs.fill_parts.Statement.{statement}
+use Rattle.substep.proofs.fill_parts.Tie as tie
+
+abbrev Inv-loop : tie.InvT-loop
+Inv-loop fluxes n s up₀ down₀ i₀ up down i =
+    (i ≤ length fluxes)
+    × (length up ≡ length up₀)
+    × (length down ≡ length down₀)
+    × Same i (flowOf up down) (parts fluxes n s)
+
+abbrev μ-loop : tie.MeasureT-loop
+μ-loop fluxes n s up₀ down₀ i₀ up down i = length fluxes - i
+
+loop-holds : tie.Need-loop-holds Inv-loop μ-loop
+loop-holds c = (search needs, search needs, search needs, same-none _ _)
+
+mul-x : tie.Need-mul-x Inv-loop μ-loop
+mul-x c = search needs
+
+shared-slice-copy-out-x : tie.Need-shared-slice-copy-out-x Inv-loop μ-loop
+shared-slice-copy-out-x c = search needs
+
+split-requires : tie.Need-split-requires Inv-loop μ-loop
+split-requires c κs = search needs
+
+flux-part-requires : tie.Need-flux-part-requires Inv-loop μ-loop
+flux-part-requires c κs = search needs
+
+flux-part-requires-2 : tie.Need-flux-part-requires-2 Inv-loop μ-loop
+flux-part-requires-2 c κs = search needs
+
+mul-up : tie.Need-mul-up Inv-loop μ-loop
+mul-up c = search needs
+
+slice-write-up : tie.Need-slice-write-up Inv-loop μ-loop
+slice-write-up c = search needs
+
+mul-down : tie.Need-mul-down Inv-loop μ-loop
+mul-down c = search needs
+
+slice-write-down : tie.Need-slice-write-down Inv-loop μ-loop
+slice-write-down c = search needs
+
+add-i : tie.Need-add-i Inv-loop μ-loop
+add-i c = search needs
+
+loop-less : tie.Need-loop-less Inv-loop μ-loop
+loop-less c = search needs
+
+loop-again : tie.Need-loop-again Inv-loop μ-loop
+unfolding parts
+loop-again c =
+    let l = c .before .before .before .before .before .loop in
+    let halves = c .before .before .split .ensures in
+    let x = flux (c .before .before .before .before .before .before .before .before .args .fluxes .now) (l .i) in
+    let same = toZ-ofZ {w = w32} {z = x} (sfits-of (c .before .before .before .x .given)) in (
+      search needs,
+      search needs,
+      search needs,
+      same-more (l .up) (l .down) _ _ _ _ (search needs) (search needs) (l .inv .3)
+          (c .before .flux-part .ensures .is ∙ ap (fluxPart _ _) (halves .high ∙ ap forward same))
+          (c .flux-part2 .ensures .is ∙ ap (fluxPart _ _) (halves .low ∙ ap backward same)),
+    )
+
+same-length : tie.Need-same-length Inv-loop μ-loop
+same-length c = search needs
+
+same-length-2 : tie.Need-same-length-2 Inv-loop μ-loop
+same-length-2 c = search needs
+
+returns : tie.Need-returns Inv-loop μ-loop
+returns c =
+    let l = c .before .loop in
+    let done : l .i ≡ length (c .before .before .before .before .args .fluxes .now) = omega arith in
+    rw done at (l .inv .3)
+
+pub fill-parts-spec : {M : Type 1} → statement M
+fill-parts-spec =
+    tie.close
+    (tie.spec
+    Inv-loop
+    μ-loop
+    loop-holds
+    mul-x
+    shared-slice-copy-out-x
+    split-requires
+    flux-part-requires
+    flux-part-requires-2
+    mul-up
+    slice-write-up
+    mul-down
+    slice-write-down
+    add-i
+    loop-less
+    loop-again
+    same-length
+    same-length-2
+    returns)

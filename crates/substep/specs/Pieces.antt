@@ -1,0 +1,139 @@
+-- A tracer's pieces in a substep, over any regular mesh: what a cell may give, and that what was taken is the model's.
+-- Assumes nothing.
+use Prim.Native.Nat.{ℕ, _+_, _*_, _≤_, _<_}
+use mathlib.Core.List.{List}
+use mathlib.Core.Bool.{true}
+use mathlib.Core.Path.{_≡_, refl, sym, ap, _∙_}
+use native.Mathlib.Nat.{le-trans}
+use native.Mathlib.Omega.{arith}
+use lib.ListN.{length}
+use Rattle.units.specs.declared.Air.{Air}
+use Rattle.model.specs.Limits.{airLimit, totalLimit}
+use Rattle.model.specs.Basic.{at, sum}
+use Rattle.model.specs.Scheme.{Mismatch, mismatch, highPiece, lowPiece}
+use Rattle.model.specs.Sweep.{Mesh, Flow, afterFlow, allowed, cellRatio, cellMismatch, pieces}
+use Rattle.model.specs.Laws.Basic.{term-le-sum}
+use Rattle.model.specs.Laws.Mesh.{Regular}
+use Rattle.model.specs.Laws.Range.{high-leaves, low-leaves}
+use Rattle.model.specs.Laws.Substep.{AirIn, Covers, air-bounds, allowed-is, piece-up, piece-down, pieces-covered, gas-after-flow-le}
+use Rattle.substep.specs.Faces.{flowOf, Same, same-leaving, same-after, stepped}
+use Rattle.substep.specs.Cells.{Moves}
+
+-- ---- a substep of one tracer: it is allowed, every cell's air is in range, and the mesh's tracer is within the limit
+pub record GasNeed (mesh : Mesh) (flow : Flow) (air gas : List ℕ) : Type 0 where
+  pub airLong : length air ≡ mesh .cells
+  pub gasLong : length gas ≡ mesh .cells
+  pub airIn : AirIn (mesh .cells) air
+  pub permits : allowed mesh flow air ≡ true
+  pub total : sum (mesh .cells) (at gas) ≤ totalLimit
+
+-- ---- ratios
+-- cells that have air, and room for their ratios
+pub record HasAir (air gas : List ℕ) (room : ℕ) : Type 0 where
+  pub long : length gas ≡ length air
+  pub fit : length air ≤ room
+  pub some : (c : ℕ) → c < length air → 0 < at air c
+
+-- q has the ratio of each of the first n cells
+pub record AreRatios (air gas q : List ℕ) (n : ℕ) : Type 0 where
+  pub is : (c : ℕ) → c < n → at q c ≡ cellRatio air gas c
+
+pub has-air : {mesh : Mesh} {flow : Flow} {air gas : List ℕ} → GasNeed mesh flow air gas → (room : ℕ) → mesh .cells ≤ room → HasAir air gas room
+has-air {mesh} {flow} {air} need room fit =
+    record {
+      long = need .gasLong ∙ sym (need .airLong);
+      fit = rw (need .airLong) fit;
+      some = λ c h. air-bounds (at air c) (need .airIn c (rw (need .airLong) at h)) .0;
+    }
+
+-- ---- a piece
+-- cell c's mismatch is taken from the ratios of cells a and b; for a cap, which has none, both are the cap
+pub record Neighbours (mesh : Mesh) (a c b : ℕ) : Type 0 where
+  pub low : a < mesh .cells
+  pub own : c < mesh .cells
+  pub high : b < mesh .cells
+  pub is : (air gas : List ℕ) → cellMismatch mesh air gas c ≡ mismatch (cellRatio air gas a) (cellRatio air gas c) (cellRatio air gas b)
+
+-- cell c of lists that are long enough can give m units of its air
+pub record PieceNeed (air gas q : List ℕ) (a c b m : ℕ) : Type 0 where
+  pub airLong : c < length air
+  pub gasLong : c < length gas
+  pub lowLong : a < length q
+  pub ownLong : c < length q
+  pub highLong : b < length q
+  pub some : 0 < at air c
+  pub fits : at air c ≤ airLimit
+  pub tracer : at gas c ≤ totalLimit
+  pub part : m ≤ at air c
+  pub ratio : at q c ≡ cellRatio air gas c
+
+-- the mismatch that the ratios give
+abbrev pub mismatchIn : List ℕ → ℕ → ℕ → ℕ → Mismatch
+mismatchIn q a c b = mismatch (at q a) (at q c) (at q b)
+
+module _ {mesh : Mesh} {flow : Flow} {air gas : List ℕ} (regular : Regular mesh) (need : GasNeed mesh flow air gas) where
+  covers : Covers mesh flow air
+  covers = allowed-is mesh flow air (need .permits) .covers
+
+  module _ (q : List ℕ) (ratios : AreRatios air gas q (mesh .cells)) (room : mesh .cells ≤ length q) {a c b : ℕ} (near : Neighbours mesh a c b) where
+    piece-need : (m : ℕ) → m ≤ at air c → PieceNeed air gas q a c b m
+    piece-need m part =
+        let fits = air-bounds (at air c) (need .airIn c (near .own)) in
+        record {
+          airLong = rw (need .airLong) (near .own);
+          gasLong = rw (need .gasLong) (near .own);
+          lowLong = omega (arith, near .low);
+          ownLong = omega (arith, near .own);
+          highLong = omega (arith, near .high);
+          some = fits .0;
+          fits = fits .1;
+          tracer = le-trans (term-le-sum (mesh .cells) (at gas) c (near .own)) (need .total);
+          part = part;
+          ratio = ratios .is c (near .own);
+        }
+
+    mismatch-is : mismatchIn q a c b ≡ cellMismatch mesh air gas c
+    mismatch-is =
+        (λ i. mismatch (ratios .is a (near .low) i) (ratios .is c (near .own) i) (ratios .is b (near .high) i)) ∙
+        sym (near .is air gas)
+
+    -- the cell on the low side of face f gives from its high end
+    module _ (f : ℕ) (h : f < mesh .faces) where
+      pub high-need : mesh .lowCell f ≡ c → PieceNeed air gas q a c b (flow .toHigh f)
+      high-need at-face =
+          piece-need (flow .toHigh f)
+          (le-trans (high-leaves mesh c flow f (rw at-face at (regular .lowHas f h))) (covers c (near .own)))
+
+      pub high-is : mesh .lowCell f ≡ c → highPiece (mismatchIn q a c b) (at air c) (at gas c) (flow .toHigh f) ≡ pieces mesh flow air gas .toHigh f
+      high-is at-face =
+          ap (λ (D : Mismatch). highPiece D (at air c) (at gas c) (flow .toHigh f)) mismatch-is ∙
+          sym (piece-up mesh flow air gas f c at-face)
+
+      -- the cell on its high side from its low end
+      pub low-need : mesh .highCell f ≡ c → PieceNeed air gas q a c b (flow .toLow f)
+      low-need at-face =
+          piece-need (flow .toLow f)
+          (le-trans (low-leaves mesh c flow f (rw at-face at (regular .highHas f h))) (covers c (near .own)))
+
+      pub low-is : mesh .highCell f ≡ c → lowPiece (mismatchIn q a c b) (at air c) (at gas c) (flow .toLow f) ≡ pieces mesh flow air gas .toLow f
+      low-is at-face =
+          ap (λ (D : Mismatch). lowPiece D (at air c) (at gas c) (flow .toLow f)) mismatch-is ∙
+          sym (piece-down mesh flow air gas f c at-face)
+
+  -- ---- the pieces, once all are taken
+  module _ {passed : Flow} (same : Same (mesh .faces) passed (pieces mesh flow air gas)) where
+    pub gas-after : afterFlow mesh passed gas ≡ stepped mesh flow air gas
+    gas-after = same-after mesh regular same gas
+
+    pub gas-moves : Moves mesh passed gas
+    gas-moves =
+        record {
+          long = need .gasLong;
+          covers =
+              λ c h.
+              rw (same-leaving mesh regular same c h) (pieces-covered mesh regular flow air gas (need .airIn) covers c h);
+          after =
+              λ c h.
+              rw gas-after
+              (le-trans (gas-after-flow-le mesh regular flow air gas (need .airIn) covers c h) (le-trans (need .total) (omega arith)));
+        }

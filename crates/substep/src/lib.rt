@@ -1,0 +1,94 @@
+// What a substep does in a row and in a layer alike, over lent lists: the parts of the fluxes, the ratios, a piece, and what a cell has afterwards.
+// A lent list holds numbers; `Air(..)` and `Tracer(..)` stand where air and tracer meet.
+ghost use mathlib.Core.Path.{_≡_};
+ghost use Prim.Native.Nat.{_+_, _-_};
+ghost use lib.ListN.{length};
+ghost use Rattle.model.specs.Basic.{at};
+ghost use Rattle.model.specs.Scheme.{highPiece, lowPiece};
+ghost use Rattle.substep.specs.Faces.{PartsNeed, AreParts};
+ghost use Rattle.substep.specs.Cells.{Exchange, Sums, mayPass};
+ghost use Rattle.substep.specs.Pieces.{HasAir, AreRatios, PieceNeed, mismatchIn};
+use scheme::flux_part;
+use scheme::high_piece;
+use scheme::low_piece;
+use scheme::mismatch;
+use scheme::ratio;
+use scheme::split;
+use units::Air;
+use units::Tracer;
+
+// Part s of n of each flux: what passes its face towards the high side, and towards the low side.
+pub fn fill_parts(fluxes: &[i32], n: u32, s: u32, up: &mut [u32], down: &mut [u32])
+    requires { ⌜ PartsNeed (length (now fluxes)) n s (length (now up)) (length (now down)) ⌝ }
+    ensures { λ r. ⌜ AreParts (now (fluxes .entry)) n s (now (up .exit)) (now (down .exit)) ⌝ }
+{
+    let mut i = 0;
+    while i < fluxes.len() {
+        let x = fluxes[i];
+        let f = split(x);
+        let high = flux_part(n, s, f.to_high);
+        let low = flux_part(n, s, f.to_low);
+        up[i] = high.0;
+        down[i] = low.0;
+        i += 1;
+    }
+}
+
+// The ratio of each cell.
+pub fn fill_ratios(air: &[u32], gas: &[u32], q: &mut [u64])
+    requires { ⌜ HasAir (now air) (now gas) (length (now q)) ⌝ }
+    ensures { λ r. ⌜ AreRatios (now (air .entry)) (now (gas .entry)) (now (q .exit)) (length (now (air .entry))) ⌝ }
+{
+    let mut c = 0;
+    while c < air.len() {
+        q[c] = ratio(Air(air[c]), Tracer(gas[c]));
+        c += 1;
+    }
+}
+
+// The piece of m units of air from cell c's high end, none where no air passes; its mismatch is taken from the ratios of cells a and b.
+pub fn high_end(air: &[u32], gas: &[u32], q: &[u64], a: usize, c: usize, b: usize, m: Air) -> Tracer
+    requires { ⌜ PieceNeed (now air) (now gas) (now q) a c b (m .0) ⌝ }
+    ensures { λ p. ⌜ p .0 ≡ highPiece (mismatchIn (now (q .entry)) a c b) (at (now (air .entry)) c) (at (now (gas .entry)) c) (m .0) ⌝ }
+{
+    if m.0 == 0 {
+        return Tracer(0);
+    }
+    high_piece(mismatch(q[a], q[c], q[b]), Air(air[c]), Tracer(gas[c]), m)
+}
+
+// The same from its low end.
+pub fn low_end(air: &[u32], gas: &[u32], q: &[u64], a: usize, c: usize, b: usize, m: Air) -> Tracer
+    requires { ⌜ PieceNeed (now air) (now gas) (now q) a c b (m .0) ⌝ }
+    ensures { λ p. ⌜ p .0 ≡ lowPiece (mismatchIn (now (q .entry)) a c b) (at (now (air .entry)) c) (at (now (gas .entry)) c) (m .0) ⌝ }
+{
+    if m.0 == 0 {
+        return Tracer(0);
+    }
+    low_piece(mismatch(q[a], q[c], q[b]), Air(air[c]), Tracer(gas[c]), m)
+}
+
+// What passes two faces together.
+pub fn both(x: u32, y: u32) -> u64
+    ensures { λ r. ⌜ r ≡ x + y ⌝ }
+{
+    (x as u64) + (y as u64)
+}
+
+// Whether a cell gives no more air than it has, and then has 1 to 65,535.
+pub fn cell_allows(have: Air, enters: u64, leaves: u64) -> bool
+    requires { ⌜ Sums enters leaves ⌝ }
+    ensures { λ r. ⌜ r ≡ mayPass (have .0) enters leaves ⌝ }
+{
+    let m = have.0 as u64;
+    let all = m + enters;
+    (leaves <= m) & ((leaves + 1 <= all) & (all <= leaves + 65535))
+}
+
+// A cell's amount, of air or of a tracer, with what enters it and without what leaves it.
+pub fn amount_after(have: u32, enters: u64, leaves: u64) -> u32
+    requires { ⌜ Exchange have enters leaves ⌝ }
+    ensures { λ r. ⌜ r ≡ have + enters - leaves ⌝ }
+{
+    ((have as u64) + enters - leaves) as u32
+}
