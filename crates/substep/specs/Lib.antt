@@ -1,3 +1,4 @@
 pub mod Faces
 pub mod Cells
 pub mod Pieces
+pub mod Lent
