@@ -1,7 +1,7 @@
 // What a substep does in a row and in a layer alike, over lent lists: the parts of the fluxes, the ratios, a piece, and what a cell has afterwards.
 // A lent list holds numbers; `Air(..)` and `Tracer(..)` stand where air and tracer meet.
 ghost use mathlib.Core.Path.{_≡_};
-ghost use Prim.Native.Nat.{_+_, _-_};
+ghost use Prim.Native.Nat.{_+_, _-_, _≤_};
 ghost use lib.ListN.{length};
 ghost use Rattle.model.specs.Basic.{at};
 ghost use Rattle.model.specs.Scheme.{highPiece, lowPiece};
@@ -70,7 +70,7 @@ pub fn low_end(air: &[u32], gas: &[u32], q: &[u64], a: usize, c: usize, b: usize
 
 // What passes two faces together.
 pub fn both(x: u32, y: u32) -> u64
-    ensures { λ r. ⌜ r ≡ x + y ⌝ }
+    ensures { λ r. ⌜ (r ≡ x + y) × (r ≤ 8589934590) ⌝ }
 {
     (x as u64) + (y as u64)
 }
