@@ -1,19 +1,16 @@
-// A row of one layer in local arrays: its air, a tracer's amounts in it, and what passes its faces.
+// One row of a layer: whether a substep is allowed, the substep in a row's amounts, and the number of substeps.
 ghost use mathlib.Core.Path.{_≡_};
-ghost use Prim.Native.Nat.{_≤_, _<_};
+ghost use Prim.Native.Nat.{_<_};
 ghost use lib.ListN.{length};
-ghost use Rattle.model.specs.Sweep.{eastOf, westOf, parts};
-ghost use Rattle.row.specs.Row.{airRow, gasRow, flowOf, PartsNeed};
-use scheme::flux_part;
-use scheme::split;
+ghost use Rattle.model.specs.Sweep.{ring, eastOf, westOf, allowed, afterFlow, serves};
+ghost use Rattle.substep.specs.Faces.{flowOf};
+ghost use Rattle.row.specs.Columns.{Room, Passing};
+ghost use Rattle.row.specs.Substeps.{rowMesh, RowNeed, IsFound};
+use substep::amount_after;
+use substep::both;
+use substep::cell_allows;
+use substep::fill_parts;
 use units::Air;
-use units::Tracer;
-
-// What passes each face of a row towards its high side and towards its low side; 0 past the row's faces.
-pub struct Flows {
-    pub to_high: [Air; 72],
-    pub to_low: [Air; 72],
-}
 
 // The columns east and west of column i in a row of w.
 pub fn east_of(w: usize, i: usize) -> usize
@@ -30,76 +27,95 @@ pub fn west_of(w: usize, i: usize) -> usize
     if i == 0 { w - 1 } else { i - 1 }
 }
 
-// A row's part of the lent air, as an array.
-pub fn load_air(part: &[u32]) -> [Air; 72]
-    requires { ⌜ length (now part) ≤ 72 ⌝ }
-    ensures { λ r. ⌜ airRow (length (now (part .entry))) r ≡ now (part .entry) ⌝ }
-{
-    let mut row = [Air(0); 72];
-    let mut i = 0;
-    while i < part.len() {
-        row[i] = Air(part[i]);
-        i += 1;
-    }
-    row
-}
-
-// A row's part of a tracer's lent amounts, as an array.
-pub fn load_gas(part: &[u32]) -> [Tracer; 72]
-    requires { ⌜ length (now part) ≤ 72 ⌝ }
-    ensures { λ r. ⌜ gasRow (length (now (part .entry))) r ≡ now (part .entry) ⌝ }
-{
-    let mut row = [Tracer(0); 72];
-    let mut i = 0;
-    while i < part.len() {
-        row[i] = Tracer(part[i]);
-        i += 1;
-    }
-    row
-}
-
-// Writes a row back to its lent part.
-pub fn store_air(row: [Air; 72], part: &mut [u32])
-    requires { ⌜ length (now part) ≤ 72 ⌝ }
-    ensures { λ r. ⌜ now (part .exit) ≡ airRow (length (now (part .entry))) row ⌝ }
+// Copies one list to another of the same length.
+pub fn copy(from: &[u32], to: &mut [u32])
+    requires { ⌜ length (now to) ≡ length (now from) ⌝ }
+    ensures { λ r. ⌜ now (to .exit) ≡ now (from .entry) ⌝ }
 {
     let mut i = 0;
-    while i < part.len() {
-        let m = row[i];
-        part[i] = m.0;
+    while i < from.len() {
+        to[i] = from[i];
         i += 1;
     }
 }
 
-pub fn store_gas(row: [Tracer; 72], part: &mut [u32])
-    requires { ⌜ length (now part) ≤ 72 ⌝ }
-    ensures { λ r. ⌜ now (part .exit) ≡ gasRow (length (now (part .entry))) row ⌝ }
+// Whether the substep is allowed in every column.
+fn row_allowed(air: &[u32], up: &[u32], down: &[u32]) -> bool
+    requires { ⌜ Room (length (now air)) (now up) (now down) ⌝ }
+    ensures { λ r. ⌜ r ≡ allowed (ring (length (now (air .entry)))) (flowOf (now (up .entry)) (now (down .entry))) (now (air .entry)) ⌝ }
 {
+    let w = air.len();
+    let mut ok = true;
     let mut i = 0;
-    while i < part.len() {
-        let m = row[i];
-        part[i] = m.0;
+    while i < w {
+        let west = west_of(w, i);
+        ok = ok
+            & cell_allows(
+                Air(air[i]),
+                both(up[west], down[i]),
+                both(down[west], up[i]),
+            );
+        i += 1;
+    }
+    ok
+}
+
+// Passes on a row's amounts, of air or of a tracer, by what passes each face.
+pub fn pass_row(amounts: &mut [u32], up: &[u32], down: &[u32])
+    requires { ⌜ Passing (now amounts) (now up) (now down) ⌝ }
+    ensures { λ r. ⌜ now (amounts .exit) ≡ afterFlow (ring (length (now (amounts .entry)))) (flowOf (now (up .entry)) (now (down .entry))) (now (amounts .entry)) ⌝ }
+{
+    let w = amounts.len();
+    let mut i = 0;
+    while i < w {
+        let west = west_of(w, i);
+        amounts[i] = amount_after(amounts[i], both(up[west], down[i]), both(down[west], up[i]));
         i += 1;
     }
 }
 
-// Part s of n of a row's fluxes, each in its direction.
-pub fn parts_of(fluxes: &[i32], n: u32, s: u32) -> Flows
-    requires { ⌜ PartsNeed (length (now fluxes)) n s ⌝ }
-    ensures { λ r. ⌜ flowOf r ≡ parts (now (fluxes .entry)) n s ⌝ }
+// Whether n serves: all n substeps, one after another, are allowed. They are made in the list lent.
+fn serves(air: &mut [u32], fluxes: &[i32], n: u32) -> bool
+    requires { ⌜ RowNeed (now air) (now fluxes) ⌝ }
+    ensures { λ r. ⌜ r ≡ serves (rowMesh (now (fluxes .entry))) (now (fluxes .entry)) (now (air .entry)) n ⌝ }
 {
-    let mut high = [Air(0); 72];
-    let mut low = [Air(0); 72];
-    let mut i = 0;
-    while i < fluxes.len() {
-        let x = fluxes[i];
-        let f = split(x);
-        high[i] = flux_part(n, s, f.to_high);
-        low[i] = flux_part(n, s, f.to_low);
-        i += 1;
+    let mut up = [0u32; 72];
+    let mut down = [0u32; 72];
+    let mut s = 0;
+    while s < n {
+        fill_parts(fluxes, n, s + 1, &mut up, &mut down);
+        if row_allowed(&air[..], &up, &down) {} else {
+            return false;
+        }
+        pass_row(air, &up, &down);
+        s += 1;
     }
-    Flows {
-        to_high: high,
-        to_low: low,
+    true
+}
+
+// The same, made in a copy.
+fn copy_serves(air: &[u32], fluxes: &[i32], n: u32) -> bool
+    requires { ⌜ RowNeed (now air) (now fluxes) ⌝ }
+    ensures { λ r. ⌜ r ≡ serves (rowMesh (now (fluxes .entry))) (now (fluxes .entry)) (now (air .entry)) n ⌝ }
+{
+    let w = air.len();
+    let mut room = [0u32; 72];
+    let row = &mut room[0..w];
+    copy(air, row);
+    serves(row, fluxes, n)
+}
+
+// The smallest number of substeps from 1 to 16 that serves; 0 where none does.
+pub fn count(air: &[u32], fluxes: &[i32]) -> u32
+    requires { ⌜ RowNeed (now air) (now fluxes) ⌝ }
+    ensures { λ r. ⌜ IsFound (now (air .entry)) (now (fluxes .entry)) r ⌝ }
+{
+    let mut n = 1;
+    while n <= 16 {
+        if copy_serves(air, fluxes, n) {
+            return n;
+        }
+        n += 1;
     }
+    0
 }

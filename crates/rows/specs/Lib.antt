@@ -1,2 +1,3 @@
+pub mod Gas
 pub mod Rows
 pub mod Swept

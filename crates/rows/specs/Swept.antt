@@ -1,85 +1,132 @@
--- The rows of all tracers after a sweep's substeps: the model's chain.
+-- The air and the rows of all tracers after a sweep's substeps: the model's chain.
 -- Assumes nothing.
 use Prim.Native.Nat.{ℕ, suc, _+_, _≤_, _<_}
 use mathlib.Core.List.{List}
 use mathlib.Core.Bool.{true}
-use mathlib.Core.Path.{_≡_, refl, sym, ap, ap₂, _∙_}
+use mathlib.Core.Path.{_≡_, refl, sym, subst, ap, ap₂, _∙_}
 use native.Mathlib.Nat.{le-of-lt}
 use native.Mathlib.Numerals.{add-one}
 use lib.IntN.{ℤ}
 use lib.ListN.{length}
-use Rattle.units.specs.declared.Air.{Air}
-use Rattle.units.specs.declared.Tracer.{Tracer}
 use Rattle.model.specs.Limits.{totalLimit}
 use Rattle.model.specs.Basic.{at, sum}
-use Rattle.model.specs.Sweep.{Flow, ring, parts, allowed, pieces, afterFlow, airAfter, gasAfter}
-use Rattle.model.specs.Laws.Substep.{AirIn}
+use Rattle.model.specs.Sweep.{ring, parts, allowed, afterFlow, gasAfter, serves}
+use Rattle.model.specs.Laws.Substep.{AirIn, length-after-flow}
 use Rattle.model.specs.Laws.Ring.{ring-regular}
 use Rattle.model.specs.Laws.Chain.{air-after-in}
-use Rattle.row.specs.declared.Flows.{Flows}
-use Rattle.row.specs.Row.{airRow, gasRow, flowOf}
-use Rattle.rowair.specs.Substeps.{rowServes, rowChain, chain-start, may-step, chain-more, serves-step}
-use Rattle.rowgas.specs.Gas.{Columns, rowOf, StepsNeed, AreSteps}
+use Rattle.substep.specs.Faces.{flowOf, Same, AreParts, stepped, same-stepped}
+use Rattle.substep.specs.Cells.{air-moves}
+use Rattle.row.specs.Columns.{Room, Passing}
+use Rattle.row.specs.Substeps.{rowMesh, RowNeed, chain, chain-start, may-step, chain-more, serves-step}
+use Rattle.rows.specs.Gas.{rowOf, Wide, rowStepped, StepsNeed, AreSteps, step-need, total-stepped}
 
 -- tracer t's amounts after s of n substeps
-abbrev pub gasChain : List (List Tracer) → List Air → List ℤ → ℕ → ℕ → ℕ → List ℕ
+abbrev pub gasChain : List (List ℕ) → List ℕ → List ℤ → ℕ → ℕ → ℕ → List ℕ
 gasChain rows air fluxes n s t =
-    gasAfter (ring (length fluxes)) fluxes n (airRow (length fluxes) air) (gasRow (length fluxes) (rowOf rows t)) s
+    gasAfter (rowMesh fluxes) fluxes n air (rowOf (length fluxes) rows t) s
 
-pub record SweepNeed (rows : List (List Tracer)) (air : List Air) (fluxes : List ℤ) (n tracers : ℕ) : Type 0 where
-  pub columns : Columns (length fluxes)
+pub record SweepNeed (rows : List (List ℕ)) (air : List ℕ) (fluxes : List ℤ) (n tracers : ℕ) : Type 0 where
+  pub row : RowNeed air fluxes
   pub most : n ≤ 16
-  pub serving : rowServes air fluxes n ≡ true
-  pub airIn : AirIn (length fluxes) (airRow (length fluxes) air)
+  pub serving : serves (rowMesh fluxes) fluxes air n ≡ true
+  pub airIn : AirIn (length fluxes) air
   pub few : tracers ≤ 8
-  pub total : (t : ℕ) → t < tracers → sum (length fluxes) (at (gasRow (length fluxes) (rowOf rows t))) ≤ totalLimit
+  pub wideRows : Wide tracers rows
+  pub total : (t : ℕ) → t < tracers → sum (length fluxes) (at (rowOf (length fluxes) rows t)) ≤ totalLimit
 
-pub record AreSwept (rows : List (List Tracer)) (air : List Air) (fluxes : List ℤ) (n tracers : ℕ) (r : List (List Tracer)) : Type 0 where
-  pub each : (t : ℕ) → t < tracers → gasRow (length fluxes) (rowOf r t) ≡ gasChain rows air fluxes n n t
+-- the air and the rows after all n substeps
+pub record AreSwept (rows : List (List ℕ)) (air : List ℕ) (fluxes : List ℤ) (n tracers : ℕ) (after : List ℕ) (r : List (List ℕ)) : Type 0 where
+  pub airIs : after ≡ chain fluxes n air n
+  pub wideRows : Wide tracers r
+  pub each : (t : ℕ) → t < tracers → rowOf (length fluxes) r t ≡ gasChain rows air fluxes n n t
 
 -- the loop over the substeps: the air and every tracer after s of them
-pub record After (rows : List (List Tracer)) (air : List Air) (fluxes : List ℤ) (n tracers s : ℕ) (nowAir : List Air) (now : List (List Tracer)) : Type 0 where
-  pub airIs : airRow (length fluxes) nowAir ≡ rowChain air fluxes n s
-  pub gasIs : (t : ℕ) → t < tracers → gasRow (length fluxes) (rowOf now t) ≡ gasChain rows air fluxes n s t
-  pub total : (t : ℕ) → t < tracers → sum (length fluxes) (at (gasRow (length fluxes) (rowOf now t))) ≤ totalLimit
+pub record After (rows : List (List ℕ)) (air : List ℕ) (fluxes : List ℤ) (n tracers s : ℕ) (nowAir : List ℕ) (now : List (List ℕ)) : Type 0 where
+  pub long : length nowAir ≡ length fluxes
+  pub airIs : nowAir ≡ chain fluxes n air s
+  pub wideRows : Wide tracers now
+  pub gasIs : (t : ℕ) → t < tracers → rowOf (length fluxes) now t ≡ gasChain rows air fluxes n s t
+  pub total : (t : ℕ) → t < tracers → sum (length fluxes) (at (rowOf (length fluxes) now t)) ≤ totalLimit
 
-module _ (rows : List (List Tracer)) (air : List Air) (fluxes : List ℤ) (n tracers : ℕ) (need : SweepNeed rows air fluxes n tracers) where
+module _ (rows : List (List ℕ)) (air : List ℕ) (fluxes : List ℤ) (n tracers : ℕ) (need : SweepNeed rows air fluxes n tracers) where
   pub after-none : After rows air fluxes n tracers 0 air rows
   unfolding gasAfter
-  after-none = record { airIs = chain-start air fluxes n; gasIs = λ t h. refl; total = need .total }
+  after-none =
+      record {
+        long = need .row .long;
+        airIs = chain-start fluxes n air;
+        wideRows = need .wideRows;
+        gasIs = λ t h. refl;
+        total = need .total;
+      }
 
-  -- substep s + 1, of which f are the parts
-  module _ (s : ℕ) (inside : s < n) (nowAir : List Air) (now : List (List Tracer)) (reached : After rows air fluxes n tracers s nowAir now) (f : Flows) (part : flowOf f ≡ parts fluxes n (s + 1)) where
-    pub step-allowed : allowed (ring (length fluxes)) (flowOf f) (airRow (length fluxes) nowAir) ≡ true
-    step-allowed = may-step air fluxes n s f nowAir part (reached .airIs) ∙ serves-step air fluxes n (need .serving) s inside
+  -- substep s + 1, of which up and down have the parts
+  module _ (s : ℕ) (inside : s < n) (nowAir : List ℕ) (now : List (List ℕ)) (reached : After rows air fluxes n tracers s nowAir now) (up down : List ℕ) (are : AreParts fluxes n (s + 1) up down) (room : Room (length fluxes) up down) where
+    step-allowed : allowed (ring (length nowAir)) (flowOf up down) nowAir ≡ true
+    step-allowed =
+        ap (λ (w : ℕ). allowed (ring w) (flowOf up down) nowAir) (reached .long) ∙
+        may-step fluxes n air s up down nowAir are (reached .airIs) ∙ serves-step fluxes n air (need .serving) s inside
 
-    pub rows-may-step : StepsNeed (length fluxes) tracers now nowAir f
+    pub rows-may-step : StepsNeed tracers now nowAir up down
     unfolding ring
     rows-may-step =
         record {
-          tracers = need .few;
-          columns = need .columns;
-          airIn = rw (reached .airIs) (air-after-in (ring (length fluxes)) (ring-regular (length fluxes)) fluxes (airRow (length fluxes) air) n (need .airIn) (need .serving) s (le-of-lt inside));
+          few = need .few;
+          wideRows = reached .wideRows;
+          wide = rw (reached .long) (need .row .wide);
+          room = rw (reached .long) room;
+          airIn = rw (reached .long, reached .airIs) (air-after-in (rowMesh fluxes) (ring-regular _) fluxes air n (need .airIn) (need .serving) s (le-of-lt inside));
           permits = step-allowed;
-          total = reached .total;
+          total = rw (reached .long) (reached .total);
         }
 
-    gas-more : (t : ℕ) → t < tracers → afterFlow (ring (length fluxes)) (pieces (ring (length fluxes)) (flowOf f) (airRow (length fluxes) nowAir) (gasRow (length fluxes) (rowOf now t))) (gasRow (length fluxes) (rowOf now t)) ≡ gasChain rows air fluxes n (s + 1) t
+    pub air-may-pass : Passing nowAir up down
+    unfolding ring
+    air-may-pass =
+        record { room = rw (reached .long) room; moves = air-moves (ring (length nowAir)) (flowOf up down) nowAir refl step-allowed }
+
+    flows : Same (rowMesh fluxes .faces) (flowOf up down) (parts fluxes n (s + 1))
+    unfolding ring
+    flows = are
+
+    gas-more : (t : ℕ) → t < tracers → stepped (rowMesh fluxes) (flowOf up down) nowAir (rowOf (length fluxes) now t) ≡ gasChain rows air fluxes n (s + 1) t
     unfolding gasAfter
     gas-more t h =
-        let mesh = ring (length fluxes) in
-        rw add-one
-        (ap₂ (λ (flow : Flow) (a : List ℕ). afterFlow mesh (pieces mesh flow a (gasRow (length fluxes) (rowOf now t))) (gasRow (length fluxes) (rowOf now t))) (part ∙ ap (parts fluxes n) (add-one s)) (reached .airIs) ∙
-        ap (λ (g : List ℕ). afterFlow mesh (pieces mesh (parts fluxes n (suc s)) (rowChain air fluxes n s) g) g) (reached .gasIs t h))
+        same-stepped (rowMesh fluxes) (ring-regular _) flows nowAir (rowOf (length fluxes) now t) ∙
+        (rw add-one
+        (ap₂ (λ (a g : List ℕ). stepped (rowMesh fluxes) (parts fluxes n (suc s)) a g) (reached .airIs) (reached .gasIs t h)))
 
-    pub after-more : (nextAir : List Air) (next : List (List Tracer)) → airRow (length fluxes) nextAir ≡ afterFlow (ring (length fluxes)) (flowOf f) (airRow (length fluxes) nowAir) → AreSteps (length fluxes) tracers now nowAir f next → After rows air fluxes n tracers (s + 1) nextAir next
-    after-more nextAir next air-stepped stepped =
-        record {
-          airIs = air-stepped ∙ chain-more air fluxes n s f nowAir part (reached .airIs);
-          gasIs = λ t h. stepped .each t h .is ∙ gas-more t h;
-          total = λ t h. rw (stepped .each t h .total) (reached .total t h);
-        }
+    module _ (nextAir : List ℕ) (next : List (List ℕ)) (passed : nextAir ≡ afterFlow (ring (length nowAir)) (flowOf up down) nowAir) (steps : AreSteps tracers now nowAir up down next) where
+      each-step : (t : ℕ) → t < tracers → rowOf (length fluxes) next t ≡ rowStepped (rowOf (length fluxes) now t) nowAir up down
+      each-step t h =
+          ap (λ (w : ℕ). rowOf w next t) (sym (reached .long)) ∙ steps .each t h ∙
+          ap (λ (w : ℕ). rowStepped (rowOf w now t) nowAir up down) (reached .long)
+
+      pub after-more : After rows air fluxes n tracers (s + 1) nextAir next
+      unfolding ring
+      after-more =
+          record {
+            long = ap length passed ∙ length-after-flow (ring (length nowAir)) (flowOf up down) nowAir ∙ reached .long;
+            airIs =
+                passed ∙ ap (λ (w : ℕ). afterFlow (ring w) (flowOf up down) nowAir) (reached .long) ∙
+                chain-more fluxes n air s up down nowAir are (reached .airIs);
+            wideRows = steps .wideRows;
+            gasIs =
+                λ t h.
+                each-step t h ∙
+                ap (λ (w : ℕ). stepped (ring w) (flowOf up down) nowAir (rowOf (length fluxes) now t)) (reached .long) ∙
+                gas-more t h;
+            total = λ t h. rw (each-step t h) (subst (λ (w : ℕ). sum w (at (rowStepped (rowOf w now t) nowAir up down)) ≤ totalLimit) (reached .long) (total-is t h));
+          }
+        where
+          total-is : (t : ℕ) → t < tracers → sum (length nowAir) (at (rowStepped (rowOf (length nowAir) now t) nowAir up down)) ≤ totalLimit
+          total-is t h = rw (total-stepped (step-need rows-may-step t h)) (rows-may-step .total t h)
 
   -- all n
-  pub after-all : (s : ℕ) → s ≡ n → (nowAir : List Air) (now : List (List Tracer)) → After rows air fluxes n tracers s nowAir now → AreSwept rows air fluxes n tracers now
-  after-all s e nowAir now reached = record { each = λ t h. reached .gasIs t h ∙ ap (λ (k : ℕ). gasChain rows air fluxes n k t) e }
+  pub after-all : (s : ℕ) → s ≡ n → (nowAir : List ℕ) (now : List (List ℕ)) → After rows air fluxes n tracers s nowAir now → AreSwept rows air fluxes n tracers nowAir now
+  after-all s e nowAir now reached =
+      record {
+        airIs = reached .airIs ∙ ap (chain fluxes n air) e;
+        wideRows = reached .wideRows;
+        each = λ t h. reached .gasIs t h ∙ ap (λ (k : ℕ). gasChain rows air fluxes n k t) e;
+      }

@@ -1,34 +1,97 @@
 // The row of every tracer: loaded from the lent amounts, carried through a sweep's substeps as an array of 8 arrays of 72 amounts, written back.
+// Every piece of a tracer is taken into a list before any amount changes.
 ghost use mathlib.Core.Path.{_≡_};
-ghost use Rattle.rows.specs.Rows.{RowsFit, AreRows, storedRows};
+ghost use lib.ListN.{length};
+ghost use Rattle.substep.specs.Faces.{flowOf};
+ghost use Rattle.rows.specs.Gas.{StepNeed, PiecesNeed, ArePieces, rowStepped, StepsNeed, AreSteps};
+ghost use Rattle.rows.specs.Rows.{RowsFit, AreRows, StoreNeed, storedRows};
 ghost use Rattle.rows.specs.Swept.{SweepNeed, AreSwept};
-use row::load_gas;
-use row::parts_of;
-use row::store_gas;
-use rowair::step_air;
-use rowgas::step_rows;
+use row::copy;
+use row::east_of;
+use row::pass_row;
+use row::west_of;
+use substep::fill_parts;
+use substep::fill_ratios;
+use substep::high_end;
+use substep::low_end;
 use units::Air;
-use units::Tracer;
+
+// The pieces through each face i: from column i's high end, and from the low end of the column east of it.
+fn fill_pieces(
+    air: &[u32],
+    gas: &[u32],
+    q: &[u64],
+    up: &[u32],
+    down: &[u32],
+    high: &mut [u32],
+    low: &mut [u32],
+)
+    requires { ⌜ PiecesNeed (now air) (now gas) (now q) (now up) (now down) (now high) (now low) ⌝ }
+    ensures { λ r. ⌜ ArePieces (now (air .entry)) (now (gas .entry)) (flowOf (now (up .entry)) (now (down .entry))) (flowOf (now (high .exit)) (now (low .exit))) ⌝ }
+{
+    let w = air.len();
+    let mut i = 0;
+    while i < w {
+        let west = west_of(w, i);
+        let east = east_of(w, i);
+        let next = east_of(w, east);
+        let p = high_end(air, gas, q, west, i, east, Air(up[i]));
+        let r = low_end(air, gas, q, i, east, next, Air(down[i]));
+        high[i] = p.0;
+        low[i] = r.0;
+        i += 1;
+    }
+}
+
+// A tracer's amounts in a row after one substep.
+fn step_gas(gas: &mut [u32], air: &[u32], up: &[u32], down: &[u32])
+    requires { ⌜ StepNeed (now gas) (now air) (now up) (now down) ⌝ }
+    ensures { λ r. ⌜ now (gas .exit) ≡ rowStepped (now (gas .entry)) (now (air .entry)) (now (up .entry)) (now (down .entry)) ⌝ }
+{
+    let mut q = [0u64; 72];
+    let mut high = [0u32; 72];
+    let mut low = [0u32; 72];
+    fill_ratios(air, &gas[..], &mut q);
+    fill_pieces(air, &gas[..], &q, up, down, &mut high, &mut low);
+    pass_row(gas, &high, &low);
+}
+
+// The rows of the first n tracers after one substep.
+fn step_rows(
+    mut rows: [[u32; 72]; 8],
+    air: &[u32],
+    up: &[u32],
+    down: &[u32],
+    n: usize,
+) -> [[u32; 72]; 8]
+    requires { ⌜ StepsNeed n rows (now air) (now up) (now down) ⌝ }
+    ensures { λ r. ⌜ AreSteps n rows (now (air .entry)) (now (up .entry)) (now (down .entry)) r ⌝ }
+{
+    let w = air.len();
+    let mut t = 0;
+    while t < n {
+        let mut row = rows[t];
+        step_gas(&mut row[0..w], air, up, down);
+        rows[t] = row;
+        t += 1;
+    }
+    rows
+}
 
 // The row of each of the first n tracers, from its part of the lent amounts: tracer t's starts at `first` past t·K·C.
-pub fn load_rows(
-    tracers: &[u32],
-    first: usize,
-    cells: usize,
-    w: usize,
-    n: usize,
-) -> [[Tracer; 72]; 8]
+pub fn load_rows(tracers: &[u32], first: usize, cells: usize, w: usize, n: usize) -> [[u32; 72]; 8]
     requires { ⌜ RowsFit (now tracers) first cells w n ⌝ }
     ensures { λ r. ⌜ AreRows (now (tracers .entry)) first cells w n r ⌝ }
 {
-    let none = [Tracer(0); 72];
+    let none = [0u32; 72];
     let mut rows = [none; 8];
     let mut t = 0;
     while t < n {
         let a = t * cells + first;
         let e = a + w;
-        let r = load_gas(&tracers[a..e]);
-        rows[t] = r;
+        let mut row = [0u32; 72];
+        copy(&tracers[a..e], &mut row[0..w]);
+        rows[t] = row;
         t += 1;
     }
     rows
@@ -36,47 +99,46 @@ pub fn load_rows(
 
 // Writes the row of each of the first n tracers back to its part.
 pub fn store_rows(
-    rows: [[Tracer; 72]; 8],
+    rows: [[u32; 72]; 8],
     tracers: &mut [u32],
     first: usize,
     cells: usize,
     w: usize,
     n: usize,
 )
-    requires { ⌜ RowsFit (now tracers) first cells w n ⌝ }
+    requires { ⌜ StoreNeed (now tracers) first cells w n rows ⌝ }
     ensures { λ r. ⌜ now (tracers .exit) ≡ storedRows (now (tracers .entry)) first cells w n rows ⌝ }
 {
     let mut t = 0;
     while t < n {
         let a = t * cells + first;
         let e = a + w;
-        let r = rows[t];
-        store_gas(r, &mut tracers[a..e]);
+        let row = rows[t];
+        copy(&row[0..w], &mut tracers[a..e]);
         t += 1;
     }
 }
 
-// The rows of the first `tracers` tracers after n substeps.
+// The rows of the first `tracers` tracers after n substeps; these are made in the row's lent air too.
 pub fn sweep_rows(
-    rows: [[Tracer; 72]; 8],
-    air: [Air; 72],
+    rows: [[u32; 72]; 8],
+    air: &mut [u32],
     fluxes: &[i32],
     n: u32,
     tracers: usize,
-) -> [[Tracer; 72]; 8]
-    requires { ⌜ SweepNeed rows air (now fluxes) n tracers ⌝ }
-    ensures { λ r. ⌜ AreSwept rows air (now (fluxes .entry)) n tracers r ⌝ }
+) -> [[u32; 72]; 8]
+    requires { ⌜ SweepNeed rows (now air) (now fluxes) n tracers ⌝ }
+    ensures { λ r. ⌜ AreSwept rows (now (air .entry)) (now (fluxes .entry)) n tracers (now (air .exit)) r ⌝ }
 {
-    let w = fluxes.len();
     let mut current = rows;
-    let mut current_air = air;
+    let mut up = [0u32; 72];
+    let mut down = [0u32; 72];
     let mut s = 0;
     while s < n {
-        let f = parts_of(fluxes, n, s + 1);
-        let next = step_rows(current, current_air, f, w, tracers);
-        let next_air = step_air(current_air, f, w);
+        fill_parts(fluxes, n, s + 1, &mut up, &mut down);
+        let next = step_rows(current, &air[..], &up, &down, tracers);
         current = next;
-        current_air = next_air;
+        pass_row(air, &up, &down);
         s += 1;
     }
     current

@@ -1,11 +1,11 @@
 -- `rows::load_rows` meets its contract. The loop's invariant: the rows of the tracers passed.
 -- Assumes nothing.
 use Prim.Native.Nat.{_≤_, _-_}
-use mathlib.Core.Path.{_≡_}
+use mathlib.Core.Path.{_≡_, refl}
 use native.Mathlib.Omega.{arith}
 use lib.ListN.{length}
-use borrow.Author.Needs.{needs}
 use Rattle.rows.specs.Rows.{AreRows, rows-none, rows-more, row-room}
+use borrow.Author.Needs.{needs}
 use Rattle.rows.proofs.load_rows.Statement.{statement}
 use Rattle.rows.proofs.load_rows.Tie as tie
 
@@ -27,20 +27,29 @@ add-a c = let room = row-room (c .before .before .before .pre) (c .before .loop 
 add-e : tie.Need-add-e Inv-loop μ-loop
 add-e c = let room = row-room (c .before .before .before .pre) (c .before .loop .t) (search needs) in search needs
 
-mul-load-gas : tie.Need-mul-load-gas Inv-loop μ-loop
-mul-load-gas c = let room = row-room (c .before .before .before .pre) (c .before .loop .t) (search needs) in search needs
+mul-copy : tie.Need-mul-copy Inv-loop μ-loop
+mul-copy c = let room = row-room (c .before .before .before .pre) (c .before .loop .t) (search needs) in search needs
 
-sub-load-gas : tie.Need-sub-load-gas Inv-loop μ-loop
-sub-load-gas c = search needs
+sub-copy : tie.Need-sub-copy Inv-loop μ-loop
+sub-copy c = search needs
 
-part-load-gas-start : tie.Need-part-load-gas-start Inv-loop μ-loop
-part-load-gas-start c = search needs
+part-copy-start : tie.Need-part-copy-start Inv-loop μ-loop
+part-copy-start c = search needs
 
-part-load-gas-end : tie.Need-part-load-gas-end Inv-loop μ-loop
-part-load-gas-end c = let room = row-room (c .before .before .before .pre) (c .before .loop .t) (search needs) in search needs
+part-copy-end : tie.Need-part-copy-end Inv-loop μ-loop
+part-copy-end c = let room = row-room (c .before .before .before .pre) (c .before .loop .t) (search needs) in search needs
 
-load-gas-requires : tie.Need-load-gas-requires Inv-loop μ-loop
-load-gas-requires c κs = search needs
+sub-copy-2 : tie.Need-sub-copy-2 Inv-loop μ-loop
+sub-copy-2 c = search needs
+
+part-row-start : tie.Need-part-row-start Inv-loop μ-loop
+part-row-start c = search needs
+
+part-row-end : tie.Need-part-row-end Inv-loop μ-loop
+part-row-end c = search needs
+
+copy-requires : tie.Need-copy-requires Inv-loop μ-loop
+copy-requires c κs = search needs
 
 mul-rows : tie.Need-mul-rows Inv-loop μ-loop
 mul-rows c = search needs
@@ -55,14 +64,19 @@ loop-less : tie.Need-loop-less Inv-loop μ-loop
 loop-less c = search needs
 
 loop-again : tie.Need-loop-again Inv-loop μ-loop
-loop-again c = (
-  search needs,
-  search needs,
-  rows-more _ _ _ _ _ _ _ (search needs) (row-room (c .before .before .before .before .before .pre) (c .before .before .before .loop .t) (search needs) .0) (c .before .before .before .loop .inv .2) (c .load-gas .ensures),
-)
+loop-again c =
+    let l = c .before .before .before .before .before .loop in
+    let start = c .before .before .before .before .before .before .before in
+    let room = row-room (start .pre) (l .t) (omega (arith, c .before .before .before .before .loop-test .taken)) .0 in (
+      search needs,
+      search needs,
+      rows-more _ _ _ _ _ _ room (l .inv .2) _ (c .before .copy .last .1 .0) (search needs) refl (start .pre .fewColumns) (c .before .copy .ensures),
+    )
 
 returns : tie.Need-returns Inv-loop μ-loop
-returns c = let done : c .before .loop .t ≡ c .before .before .before .args .n = omega arith in rw (← done) (c .before .loop .inv .2)
+returns c =
+    let done : c .before .loop .t ≡ c .before .before .before .args .n = omega arith in
+    rw (← done) (c .before .loop .inv .2)
 
 pub load-rows-spec : {M : Type 1} → statement M
 load-rows-spec =
@@ -74,11 +88,14 @@ load-rows-spec =
     mul-a
     add-a
     add-e
-    mul-load-gas
-    sub-load-gas
-    part-load-gas-start
-    part-load-gas-end
-    load-gas-requires
+    mul-copy
+    sub-copy
+    part-copy-start
+    part-copy-end
+    sub-copy-2
+    part-row-start
+    part-row-end
+    copy-requires
     mul-rows
     array-set-from-rows
     add-t

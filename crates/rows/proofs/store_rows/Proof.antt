@@ -2,11 +2,10 @@
 -- Assumes nothing.
 use Prim.Native.Nat.{_≤_, _-_}
 use mathlib.Core.Path.{_≡_, ap, _∙_}
-use lib.ListN.{length}
 use native.Mathlib.Omega.{arith}
+use lib.ListN.{length}
+use Rattle.rows.specs.Rows.{storedUpTo, row-room, stored-none, stored-more, stored-all, length-stored-up-to}
 use borrow.Author.Needs.{needs}
-use Rattle.rowgas.specs.Gas.{rowOf}
-use Rattle.rows.specs.Rows.{storedUpTo, row-room, stored-none, stored-more, stored-all, length-stored-up-to, row-written}
 use Rattle.rows.proofs.store_rows.Statement.{statement}
 use Rattle.rows.proofs.store_rows.Tie as tie
 
@@ -17,39 +16,52 @@ abbrev μ-loop : tie.MeasureT-loop
 μ-loop tracers₀ first cells w n rows t₀ tracers t = n - t
 
 loop-holds : tie.Need-loop-holds Inv-loop μ-loop
-loop-holds c = (search needs, stored-none (c .before .args .tracers .now) (c .before .args .first) (c .before .args .cells) (c .before .args .w) (c .before .args .n) (c .before .args .t1) (c .before .pre))
+loop-holds c =
+    let start = c .before in
+    (search needs, stored-none (start .args .tracers .now) (start .args .first) (start .args .cells) (start .args .w) (start .args .n) (start .args .t1) (start .pre))
 
 mul-a : tie.Need-mul-a Inv-loop μ-loop
-mul-a c = let room = row-room (c .before .before .before .pre) (c .before .loop .t) (search needs) in search needs
+mul-a c = let room = row-room (c .before .before .before .pre .fit) (c .before .loop .t) (search needs) in search needs
 
 add-a : tie.Need-add-a Inv-loop μ-loop
-add-a c = let room = row-room (c .before .before .before .pre) (c .before .loop .t) (search needs) in search needs
+add-a c = let room = row-room (c .before .before .before .pre .fit) (c .before .loop .t) (search needs) in search needs
 
 add-e : tie.Need-add-e Inv-loop μ-loop
-add-e c = let room = row-room (c .before .before .before .pre) (c .before .loop .t) (search needs) in search needs
+add-e c = let room = row-room (c .before .before .before .pre .fit) (c .before .loop .t) (search needs) in search needs
 
-mul-r : tie.Need-mul-r Inv-loop μ-loop
-mul-r c = search needs
+mul-row : tie.Need-mul-row Inv-loop μ-loop
+mul-row c = search needs
 
-array-copy-out-r : tie.Need-array-copy-out-r Inv-loop μ-loop
-array-copy-out-r c = search needs
+array-copy-out-row : tie.Need-array-copy-out-row Inv-loop μ-loop
+array-copy-out-row c = search needs
 
-mul-store-gas : tie.Need-mul-store-gas Inv-loop μ-loop
-mul-store-gas c = let room = row-room (c .before .before .before .before .pre) (c .before .before .loop .t) (search needs) in search needs
+sub-copy : tie.Need-sub-copy Inv-loop μ-loop
+sub-copy c = search needs
 
-sub-store-gas : tie.Need-sub-store-gas Inv-loop μ-loop
-sub-store-gas c = search needs
+part-copy-start : tie.Need-part-copy-start Inv-loop μ-loop
+part-copy-start c = search needs
 
-part-store-gas-start : tie.Need-part-store-gas-start Inv-loop μ-loop
-part-store-gas-start c = search needs
+part-copy-end : tie.Need-part-copy-end Inv-loop μ-loop
+part-copy-end c = omega (arith, c .before .before .before .before .before .pre .wideRows (c .before .before .before .loop .t) (search needs), c .before .before .before .before .before .pre .fit .fewColumns)
 
-part-store-gas-end : tie.Need-part-store-gas-end Inv-loop μ-loop
-part-store-gas-end c =
-    let room = row-room (c .before .before .before .before .pre) (c .before .before .loop .t) (search needs) in
-    omega (arith, ap length (c .before .before .loop .inv .1), length-stored-up-to (c .before .before .before .before .args .tracers .now) (c .before .before .before .before .args .first) (c .before .before .before .before .args .cells) (c .before .before .before .before .args .w) (c .before .before .before .before .args .n) (c .before .before .before .before .args .t1) (c .before .before .before .before .pre) (c .before .before .loop .t) (search needs))
+mul-copy : tie.Need-mul-copy Inv-loop μ-loop
+mul-copy c = let room = row-room (c .before .before .before .before .before .before .pre .fit) (c .before .before .before .before .loop .t) (search needs) in search needs
 
-store-gas-requires : tie.Need-store-gas-requires Inv-loop μ-loop
-store-gas-requires c κs = search needs
+sub-copy-2 : tie.Need-sub-copy-2 Inv-loop μ-loop
+sub-copy-2 c = search needs
+
+part-copy-start-2 : tie.Need-part-copy-start-2 Inv-loop μ-loop
+part-copy-start-2 c = search needs
+
+part-copy-end-2 : tie.Need-part-copy-end-2 Inv-loop μ-loop
+part-copy-end-2 c =
+    let start = c .before .before .before .before .before .before in
+    let l = c .before .before .before .before .loop in
+    let room = row-room (start .pre .fit) (l .t) (search needs) in
+    omega (arith, ap length (l .inv .1), length-stored-up-to (start .args .tracers .now) (start .args .first) (start .args .cells) (start .args .w) (start .args .n) (start .args .t1) (start .pre) (l .t) (search needs))
+
+copy-requires : tie.Need-copy-requires Inv-loop μ-loop
+copy-requires c κs = search needs
 
 add-t : tie.Need-add-t Inv-loop μ-loop
 add-t c = search needs
@@ -58,13 +70,16 @@ loop-less : tie.Need-loop-less Inv-loop μ-loop
 loop-less c = search needs
 
 loop-again : tie.Need-loop-again Inv-loop μ-loop
-loop-again c = (
-  search needs,
-  stored-more (c .before .before .before .before .before .before .before .before .args .tracers .now) (c .before .before .before .before .before .before .before .before .args .first) (c .before .before .before .before .before .before .before .before .args .cells) (c .before .before .before .before .before .before .before .before .args .w) (c .before .before .before .before .before .before .before .before .args .n) (c .before .before .before .before .before .before .before .before .args .t1) (c .before .before .before .before .before .before .before .before .pre) (c .before .before .before .before .before .before .loop .t) (search needs) _ _ (c .before .before .before .before .before .before .loop .inv .1) (row-written (c .before .before .before .before .before .before .before .before .args .tracers .now) (c .before .before .before .before .before .before .before .before .args .first) (c .before .before .before .before .before .before .before .before .args .cells) (c .before .before .before .before .before .before .before .before .args .w) (c .before .before .before .before .before .before .before .before .args .n) (c .before .before .before .before .before .before .before .before .args .t1) (c .before .before .before .before .before .before .before .before .pre) (c .before .before .before .before .before .before .loop .t) (search needs) _ _ (rowOf (c .before .before .before .before .before .before .before .before .args .t1) (c .before .before .before .before .before .before .loop .t)) (c .before .before .before .before .before .before .loop .inv .1) (c .before .before .store-gas .ensures)),
-)
+loop-again c =
+    let start = c .before .before .before .before .before .before .before .before .before .before in
+    let l = c .before .before .before .before .before .before .before .before .loop in
+    (search needs, stored-more (start .args .tracers .now) (start .args .first) (start .args .cells) (start .args .w) (start .args .n) (start .args .t1) (start .pre) (l .t) (search needs) _ _ (l .inv .1) (c .before .before .copy .ensures))
 
 same-length : tie.Need-same-length Inv-loop μ-loop
-same-length c = ap length (c .before .loop .inv .1) ∙ length-stored-up-to (c .before .before .before .args .tracers .now) (c .before .before .before .args .first) (c .before .before .before .args .cells) (c .before .before .before .args .w) (c .before .before .before .args .n) (c .before .before .before .args .t1) (c .before .before .before .pre) (c .before .loop .t) (search needs)
+same-length c =
+    let start = c .before .before .before in
+    let l = c .before .loop in
+    ap length (l .inv .1) ∙ length-stored-up-to (start .args .tracers .now) (start .args .first) (start .args .cells) (start .args .w) (start .args .n) (start .args .t1) (start .pre) (l .t) (search needs)
 
 returns : tie.Need-returns Inv-loop μ-loop
 returns c =
@@ -82,13 +97,16 @@ store-rows-spec =
     mul-a
     add-a
     add-e
-    mul-r
-    array-copy-out-r
-    mul-store-gas
-    sub-store-gas
-    part-store-gas-start
-    part-store-gas-end
-    store-gas-requires
+    mul-row
+    array-copy-out-row
+    sub-copy
+    part-copy-start
+    part-copy-end
+    mul-copy
+    sub-copy-2
+    part-copy-start-2
+    part-copy-end-2
+    copy-requires
     add-t
     loop-less
     loop-again

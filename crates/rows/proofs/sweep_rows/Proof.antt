@@ -1,34 +1,63 @@
 -- `rows::sweep_rows` meets its contract. The loop's invariant: the air and every tracer after s substeps.
 -- Assumes nothing.
 use Prim.Native.Nat.{_≤_, _-_}
+use mathlib.Core.Path.{_≡_}
 use native.Mathlib.Omega.{arith}
+use lib.ListN.{length}
+use Rattle.rows.specs.Swept.{After, after-none, rows-may-step, air-may-pass, after-more, after-all}
 use borrow.Author.Needs.{needs}
-use Rattle.rows.specs.Swept.{After, after-none, step-allowed, rows-may-step, after-more, after-all}
 use Rattle.rows.proofs.sweep_rows.Statement.{statement}
 use Rattle.rows.proofs.sweep_rows.Tie as tie
 
 abbrev Inv-loop : tie.InvT-loop
-Inv-loop fluxes n tracers w current₀ current-air₀ s₀ current current-air s =
-    (s ≤ n) × After current₀ current-air₀ fluxes n tracers s current-air current
+Inv-loop air₀ fluxes n tracers current₀ up₀ down₀ s₀ air current up down s =
+    (s ≤ n) × (length up ≡ 72) × (length down ≡ 72) × After current₀ air₀ fluxes n tracers s air current
 
 abbrev μ-loop : tie.MeasureT-loop
-μ-loop fluxes n tracers w current₀ current-air₀ s₀ current current-air s = n - s
+μ-loop air₀ fluxes n tracers current₀ up₀ down₀ s₀ air current up down s = n - s
 
 loop-holds : tie.Need-loop-holds Inv-loop μ-loop
-loop-holds c = (search needs, after-none _ _ _ _ _ (c .pre))
+loop-holds c = (search needs, search needs, search needs, after-none _ _ _ _ _ (c .before .pre))
 
-add-parts-of : tie.Need-add-parts-of Inv-loop μ-loop
-add-parts-of c = search needs
+add-fill-parts : tie.Need-add-fill-parts Inv-loop μ-loop
+add-fill-parts c = search needs
 
-parts-of-requires : tie.Need-parts-of-requires Inv-loop μ-loop
-parts-of-requires c κs = record { faces = c .before .before .pre .columns .fit; first = search needs; last = search needs }
+slice-aggregate-fill-parts : tie.Need-slice-aggregate-fill-parts Inv-loop μ-loop
+slice-aggregate-fill-parts c = search needs
+
+slice-aggregate-fill-parts-2 : tie.Need-slice-aggregate-fill-parts-2 Inv-loop μ-loop
+slice-aggregate-fill-parts-2 c = search needs
+
+fill-parts-requires : tie.Need-fill-parts-requires Inv-loop μ-loop
+fill-parts-requires c κs = search needs
+
+slice-aggregate-step-rows : tie.Need-slice-aggregate-step-rows Inv-loop μ-loop
+slice-aggregate-step-rows c = search needs
+
+slice-aggregate-step-rows-2 : tie.Need-slice-aggregate-step-rows-2 Inv-loop μ-loop
+slice-aggregate-step-rows-2 c = search needs
 
 step-rows-requires : tie.Need-step-rows-requires Inv-loop μ-loop
-step-rows-requires c κs = rows-may-step _ _ _ _ _ (c .before .before .before .pre) (c .before .before .loop .s) (search needs) _ _ (c .before .before .loop .inv .1) (c .parts-of .result) (c .parts-of .ensures)
+step-rows-requires c κs =
+    let l = c .before .before .before .before .before .before .before .before .before .loop in
+    let up = c .before .before .before .before .before .fill-parts .last .1 .1 .1 .0 in
+    let down = c .before .before .before .before .before .fill-parts .last .1 .1 .1 .1 .0 in
+    let inside = c .before .before .before .before .before .before .before .before .loop-test .taken in
+    rows-may-step _ _ _ _ _ (c .before .before .before .before .before .before .before .before .before .before .before .pre) (l .s) (search needs) (l .air) (l .current) (l .inv .3) up down (c .before .before .before .before .before .fill-parts .ensures) (record { high = search needs; low = search needs })
 
-step-air-requires : tie.Need-step-air-requires Inv-loop μ-loop
-step-air-requires c κs =
-    record { wide = c .before .before .before .before .pre .columns .fit; allowing = step-allowed _ _ _ _ _ (c .before .before .before .before .pre) (c .before .before .before .loop .s) (search needs) _ _ (c .before .before .before .loop .inv .1) (c .before .parts-of .result) (c .before .parts-of .ensures) }
+slice-aggregate-pass-row : tie.Need-slice-aggregate-pass-row Inv-loop μ-loop
+slice-aggregate-pass-row c = search needs
+
+slice-aggregate-pass-row-2 : tie.Need-slice-aggregate-pass-row-2 Inv-loop μ-loop
+slice-aggregate-pass-row-2 c = search needs
+
+pass-row-requires : tie.Need-pass-row-requires Inv-loop μ-loop
+pass-row-requires c κs =
+    let l = c .before .before .before .before .before .before .before .before .before .before .before .before .before .loop in
+    let up = c .before .before .before .before .before .before .before .before .before .fill-parts .last .1 .1 .1 .0 in
+    let down = c .before .before .before .before .before .before .before .before .before .fill-parts .last .1 .1 .1 .1 .0 in
+    let inside = c .before .before .before .before .before .before .before .before .before .before .before .before .loop-test .taken in
+    air-may-pass _ _ _ _ _ (c .before .before .before .before .before .before .before .before .before .before .before .before .before .before .before .pre) (l .s) (search needs) (l .air) (l .current) (l .inv .3) up down (c .before .before .before .before .before .before .before .before .before .fill-parts .ensures) (record { high = search needs; low = search needs })
 
 add-s : tie.Need-add-s Inv-loop μ-loop
 add-s c = search needs
@@ -37,13 +66,24 @@ loop-less : tie.Need-loop-less Inv-loop μ-loop
 loop-less c = search needs
 
 loop-again : tie.Need-loop-again Inv-loop μ-loop
-loop-again c = (
-  search needs,
-  after-more _ _ _ _ _ (c .before .before .before .before .before .pre) (c .before .before .before .before .loop .s) (search needs) _ _ (c .before .before .before .before .loop .inv .1) (c .before .before .parts-of .result) (c .before .before .parts-of .ensures) _ _ (c .step-air .ensures) (c .before .step-rows .ensures),
-)
+loop-again c =
+    let l = c .before .before .before .before .before .before .before .before .before .before .before .before .before .before .before .before .loop in
+    let up = c .before .before .before .before .before .before .before .before .before .before .before .before .fill-parts .last .1 .1 .1 .0 in
+    let down = c .before .before .before .before .before .before .before .before .before .before .before .before .fill-parts .last .1 .1 .1 .1 .0 in
+    let inside = c .before .before .before .before .before .before .before .before .before .before .before .before .before .before .before .loop-test .taken in (
+      search needs,
+      search needs,
+      search needs,
+      after-more _ _ _ _ _ (c .before .before .before .before .before .before .before .before .before .before .before .before .before .before .before .before .before .before .pre) (l .s) (search needs) (l .air) (l .current) (l .inv .3) up down (c .before .before .before .before .before .before .before .before .before .before .before .before .fill-parts .ensures) (record { high = search needs; low = search needs }) _ _ (c .before .before .pass-row .ensures) (c .before .before .before .before .before .before .step-rows .ensures),
+    )
+
+same-length : tie.Need-same-length Inv-loop μ-loop
+same-length c = search needs
 
 returns : tie.Need-returns Inv-loop μ-loop
-returns c = after-all _ _ _ _ _ (c .before .before .pre) (c .before .loop .s) (omega arith) _ _ (c .before .loop .inv .1)
+returns c =
+    let l = c .before .loop in
+    after-all _ _ _ _ _ (c .before .before .before .pre) (l .s) (omega arith) (l .air) (l .current) (l .inv .3)
 
 pub sweep-rows-spec : {M : Type 1} → statement M
 sweep-rows-spec =
@@ -52,11 +92,18 @@ sweep-rows-spec =
     Inv-loop
     μ-loop
     loop-holds
-    add-parts-of
-    parts-of-requires
+    add-fill-parts
+    slice-aggregate-fill-parts
+    slice-aggregate-fill-parts-2
+    fill-parts-requires
+    slice-aggregate-step-rows
+    slice-aggregate-step-rows-2
     step-rows-requires
-    step-air-requires
+    slice-aggregate-pass-row
+    slice-aggregate-pass-row-2
+    pass-row-requires
     add-s
     loop-less
     loop-again
+    same-length
     returns)

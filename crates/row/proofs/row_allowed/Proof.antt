@@ -1,0 +1,122 @@
+-- `row::row_allowed` meets its contract. The loop's invariant: `ok` is the test of every column passed.
+-- Assumes nothing.
+use Prim.Native.Nat.{ℕ, _≤_, _-_}
+use mathlib.Core.Bool.{_&&_}
+use mathlib.Core.Path.{_≡_, sym, _∙_, ap, ap₂}
+use native.Mathlib.Omega.{arith}
+use lib.ListN.{length}
+use Rattle.model.specs.Basic.{at, every}
+use Rattle.model.specs.Sweep.{ring}
+use Rattle.model.specs.Laws.Basic.{every-none, every-more}
+use Rattle.substep.specs.Faces.{flowOf}
+use Rattle.substep.specs.Cells.{mayPass, cellAllowed, cell-allows}
+use Rattle.row.specs.Columns.{allowed-columns, column}
+use borrow.Author.Needs.{needs}
+use Rattle.row.proofs.row_allowed.Statement.{statement}
+use Rattle.row.proofs.row_allowed.Tie as tie
+
+abbrev Inv-loop : tie.InvT-loop
+Inv-loop air up down w ok₀ i₀ ok i =
+    (i ≤ w) × (w ≡ length air) × (ok ≡ every i (cellAllowed (ring (length air)) (flowOf up down) air))
+
+abbrev μ-loop : tie.MeasureT-loop
+μ-loop air up down w ok₀ i₀ ok i = w - i
+
+loop-holds : tie.Need-loop-holds Inv-loop μ-loop
+loop-holds c = (search needs, search needs, sym (every-none _))
+
+west-of-requires : tie.Need-west-of-requires Inv-loop μ-loop
+west-of-requires c κs = search needs
+
+mul-t9 : tie.Need-mul-t9 Inv-loop μ-loop
+mul-t9 c = search needs
+
+shared-slice-read-t11 : tie.Need-shared-slice-read-t11 Inv-loop μ-loop
+shared-slice-read-t11 c = search needs
+
+mul-both : tie.Need-mul-both Inv-loop μ-loop
+mul-both c = search needs
+
+shared-slice-read-both : tie.Need-shared-slice-read-both Inv-loop μ-loop
+shared-slice-read-both c = search needs
+
+mul-both-2 : tie.Need-mul-both-2 Inv-loop μ-loop
+mul-both-2 c = search needs
+
+shared-slice-read-both-2 : tie.Need-shared-slice-read-both-2 Inv-loop μ-loop
+shared-slice-read-both-2 c = search needs
+
+both-requires : tie.Need-both-requires Inv-loop μ-loop
+both-requires c κs = search needs
+
+mul-both-3 : tie.Need-mul-both-3 Inv-loop μ-loop
+mul-both-3 c = search needs
+
+shared-slice-read-both-3 : tie.Need-shared-slice-read-both-3 Inv-loop μ-loop
+shared-slice-read-both-3 c = search needs
+
+mul-both-4 : tie.Need-mul-both-4 Inv-loop μ-loop
+mul-both-4 c = search needs
+
+shared-slice-read-both-4 : tie.Need-shared-slice-read-both-4 Inv-loop μ-loop
+shared-slice-read-both-4 c = search needs
+
+both-requires-2 : tie.Need-both-requires-2 Inv-loop μ-loop
+both-requires-2 c κs = search needs
+
+cell-allows-requires : tie.Need-cell-allows-requires Inv-loop μ-loop
+cell-allows-requires c κs =
+    record { into = omega (arith, c .before .before .before .both .ensures .1); from = omega (arith, c .both2 .ensures .1) }
+
+add-i : tie.Need-add-i Inv-loop μ-loop
+add-i c = search needs
+
+loop-less : tie.Need-loop-less Inv-loop μ-loop
+loop-less c = search needs
+
+loop-again : tie.Need-loop-again Inv-loop μ-loop
+loop-again c =
+    let l = c .before .before .before .before .before .before .before .before .before .before .loop in
+    let a = c .before .before .before .before .before .before .before .before .before .before .before .before .before .before .args in
+    let w : ℕ = length (a .air .now) in
+    let flow = flowOf (a .up .now) (a .down .now) in
+    let own = column w (l .i) (search needs) flow _ (c .before .before .before .before .before .before .before .before .west-of .ensures .0) in (
+      search needs,
+      search needs,
+      ap₂ _&&_ (l .inv .2) (c .cell-allows .ensures ∙ ap₂ (mayPass (at (a .air .now) (l .i))) (c .before .before .before .before .both .ensures .0) (c .before .both2 .ensures .0) ∙ cell-allows own (a .air .now)) ∙
+          sym (every-more (l .i) (cellAllowed (ring w) flow (a .air .now))),
+    )
+
+returns : tie.Need-returns Inv-loop μ-loop
+returns c =
+    let l = c .before .loop in
+    let a = c .before .before .before .before .before .args in
+    let done : l .i ≡ length (a .air .now) = omega arith in
+    l .inv .2 ∙ ap (λ (n : ℕ). every n (cellAllowed (ring (length (a .air .now))) (flowOf (a .up .now) (a .down .now)) (a .air .now))) done ∙
+    allowed-columns (length (a .air .now)) (flowOf (a .up .now) (a .down .now)) (a .air .now)
+
+pub row-allowed-spec : {M : Type 1} → statement M
+row-allowed-spec =
+    tie.close
+    (tie.spec
+    Inv-loop
+    μ-loop
+    loop-holds
+    west-of-requires
+    mul-t9
+    shared-slice-read-t11
+    mul-both
+    shared-slice-read-both
+    mul-both-2
+    shared-slice-read-both-2
+    both-requires
+    mul-both-3
+    shared-slice-read-both-3
+    mul-both-4
+    shared-slice-read-both-4
+    both-requires-2
+    cell-allows-requires
+    add-i
+    loop-less
+    loop-again
+    returns)

@@ -1,0 +1,136 @@
+-- `row::serves` meets its contract. The loop's invariant: every substep made was allowed, and the air is what they leave.
+-- Assumes nothing.
+use Prim.Native.Nat.{ℕ, _≤_, _-_}
+use mathlib.Core.Bool.{true, _&&_}
+use mathlib.Core.Path.{_≡_, refl, sym, _∙_, ap, ap₂}
+use native.Mathlib.Omega.{arith}
+use lib.ListN.{length}
+use Rattle.model.specs.Basic.{every}
+use Rattle.model.specs.Sweep.{ring, allowed, afterFlow}
+use Rattle.model.specs.Laws.Basic.{every-none, every-more}
+use Rattle.substep.specs.Faces.{flowOf}
+use Rattle.substep.specs.Cells.{air-moves}
+use Rattle.row.specs.Substeps.{chain, may, chain-start, chain-more, may-step, serves-is, serves-not}
+use borrow.Author.Needs.{needs}
+use Rattle.row.proofs.serves.Statement.{statement}
+use Rattle.row.proofs.serves.Tie as tie
+
+abbrev Inv-loop : tie.InvT-loop
+Inv-loop air₀ fluxes n up₀ down₀ s₀ air up down s =
+    (s ≤ n)
+    × (length up ≡ 72)
+    × (length down ≡ 72)
+    × (length air ≡ length air₀)
+    × (air ≡ chain fluxes n air₀ s)
+    × (every s (may fluxes n air₀) ≡ true)
+
+abbrev μ-loop : tie.MeasureT-loop
+μ-loop air₀ fluxes n up₀ down₀ s₀ air up down s = n - s
+
+loop-holds : tie.Need-loop-holds Inv-loop μ-loop
+loop-holds c = (search needs, search needs, search needs, search needs, chain-start (c .before .args .fluxes .now) (c .before .args .n) (c .before .args .air .now), every-none _)
+
+add-fill-parts : tie.Need-add-fill-parts Inv-loop μ-loop
+add-fill-parts c = search needs
+
+slice-aggregate-fill-parts : tie.Need-slice-aggregate-fill-parts Inv-loop μ-loop
+slice-aggregate-fill-parts c = search needs
+
+slice-aggregate-fill-parts-2 : tie.Need-slice-aggregate-fill-parts-2 Inv-loop μ-loop
+slice-aggregate-fill-parts-2 c = search needs
+
+fill-parts-requires : tie.Need-fill-parts-requires Inv-loop μ-loop
+fill-parts-requires c κs = search needs
+
+slice-aggregate-row-allowed : tie.Need-slice-aggregate-row-allowed Inv-loop μ-loop
+slice-aggregate-row-allowed c = search needs
+
+slice-aggregate-row-allowed-2 : tie.Need-slice-aggregate-row-allowed-2 Inv-loop μ-loop
+slice-aggregate-row-allowed-2 c = search needs
+
+row-allowed-requires : tie.Need-row-allowed-requires Inv-loop μ-loop
+row-allowed-requires c κs = search needs
+
+same-length : tie.Need-same-length Inv-loop μ-loop
+same-length c = search needs
+
+returns : tie.Need-returns Inv-loop μ-loop
+returns c =
+    let l = c .before .before .before .before .before .before .before .before .before .before .before .loop in
+    let a = c .before .before .before .before .before .before .before .before .before .before .before .before .before .args in
+    let up = c .before .before .before .before .before .before .before .fill-parts .last .1 .1 .1 .0 in
+    let down = c .before .before .before .before .before .before .before .fill-parts .last .1 .1 .1 .1 .0 in
+    let wide : length (l .air) ≡ length (a .fluxes .now) = l .inv .3 ∙ c .before .before .before .before .before .before .before .before .before .before .before .before .before .pre .long in
+    let tested = c .before .row-allowed .ensures ∙ ap (λ (w : ℕ). allowed (ring w) (flowOf up down) (l .air)) wide ∙ may-step (a .fluxes .now) (a .n) (a .air .now) (l .s) up down (l .air) (c .before .before .before .before .before .before .before .fill-parts .ensures) (l .inv .4) in
+    sym (serves-not (a .fluxes .now) (a .n) (a .air .now) (l .s) (omega (arith, c .before .before .before .before .before .before .before .before .before .before .loop-test .taken)) (sym tested ∙ c .if1 .left))
+
+slice-aggregate-pass-row : tie.Need-slice-aggregate-pass-row Inv-loop μ-loop
+slice-aggregate-pass-row c = search needs
+
+slice-aggregate-pass-row-2 : tie.Need-slice-aggregate-pass-row-2 Inv-loop μ-loop
+slice-aggregate-pass-row-2 c = search needs
+
+pass-row-requires : tie.Need-pass-row-requires Inv-loop μ-loop
+unfolding ring
+pass-row-requires c κs =
+    record {
+      room = record { high = search needs; low = search needs };
+      moves = air-moves _ _ _ refl (sym (c .before .before .before .before .row-allowed .ensures) ∙ c .before .before .before .if1 .taken);
+    }
+
+add-s : tie.Need-add-s Inv-loop μ-loop
+add-s c = search needs
+
+loop-less : tie.Need-loop-less Inv-loop μ-loop
+loop-less c = search needs
+
+loop-again : tie.Need-loop-again Inv-loop μ-loop
+loop-again c =
+    let l = c .before .before .before .before .before .before .before .before .before .before .before .before .before .before .before .before .before .loop in
+    let a = c .before .before .before .before .before .before .before .before .before .before .before .before .before .before .before .before .before .before .before .args in
+    let up = c .before .before .before .before .before .before .before .before .before .before .before .before .before .fill-parts .last .1 .1 .1 .0 in
+    let down = c .before .before .before .before .before .before .before .before .before .before .before .before .before .fill-parts .last .1 .1 .1 .1 .0 in
+    let wide : length (l .air) ≡ length (a .fluxes .now) = l .inv .3 ∙ c .before .before .before .before .before .before .before .before .before .before .before .before .before .before .before .before .before .before .before .pre .long in
+    let tested = c .before .before .before .before .before .before .before .row-allowed .ensures ∙ ap (λ (w : ℕ). allowed (ring w) (flowOf up down) (l .air)) wide ∙ may-step (a .fluxes .now) (a .n) (a .air .now) (l .s) up down (l .air) (c .before .before .before .before .before .before .before .before .before .before .before .before .before .fill-parts .ensures) (l .inv .4) in (
+      omega (arith, c .before .before .before .before .before .before .before .before .before .before .before .before .before .before .before .before .loop-test .taken),
+      search needs,
+      search needs,
+      search needs,
+      c .before .before .pass-row .ensures ∙ ap (λ (w : ℕ). afterFlow (ring w) (flowOf up down) (l .air)) wide ∙ chain-more (a .fluxes .now) (a .n) (a .air .now) (l .s) up down (l .air) (c .before .before .before .before .before .before .before .before .before .before .before .before .before .fill-parts .ensures) (l .inv .4),
+      every-more (l .s) (may (a .fluxes .now) (a .n) (a .air .now)) ∙ ap₂ _&&_ (l .inv .5) (sym tested ∙ c .before .before .before .before .before .before .if1 .taken),
+    )
+
+same-length-2 : tie.Need-same-length-2 Inv-loop μ-loop
+same-length-2 c = search needs
+
+returns-2 : tie.Need-returns-2 Inv-loop μ-loop
+returns-2 c =
+    let l = c .before .loop in
+    let a = c .before .before .before .args in
+    let done : l .s ≡ a .n = omega (arith, l .inv .0, c .loop-test .left) in
+    sym (l .inv .5) ∙ ap (λ (k : ℕ). every k (may (a .fluxes .now) (a .n) (a .air .now))) done ∙ serves-is (a .fluxes .now) (a .n) (a .air .now)
+
+pub serves-spec : {M : Type 1} → statement M
+serves-spec =
+    tie.close
+    (tie.spec
+    Inv-loop
+    μ-loop
+    loop-holds
+    add-fill-parts
+    slice-aggregate-fill-parts
+    slice-aggregate-fill-parts-2
+    fill-parts-requires
+    slice-aggregate-row-allowed
+    slice-aggregate-row-allowed-2
+    row-allowed-requires
+    same-length
+    returns
+    slice-aggregate-pass-row
+    slice-aggregate-pass-row-2
+    pass-row-requires
+    add-s
+    loop-less
+    loop-again
+    same-length-2
+    returns-2)

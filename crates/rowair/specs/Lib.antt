@@ -1,2 +1,0 @@
-pub mod Column
-pub mod Substeps

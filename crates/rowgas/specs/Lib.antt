@@ -1,2 +1,0 @@
-pub mod Gas
-pub mod Laws

@@ -1,0 +1,125 @@
+-- `rows::fill_pieces` meets its contract. The loop's invariant: the faces passed have their two pieces.
+-- Assumes nothing.
+use Prim.Native.Nat.{_≤_, _-_}
+use mathlib.Core.Path.{_≡_, _∙_}
+use native.Mathlib.Omega.{arith}
+use lib.ListN.{length}
+use Rattle.model.specs.Sweep.{ring, pieces}
+use Rattle.substep.specs.Faces.{flowOf, Same, same-none, same-more}
+use Rattle.rows.specs.Gas.{face-gives-high, face-high, face-gives-low, face-low}
+use borrow.Author.Needs.{needs}
+use Rattle.rows.proofs.fill_pieces.Statement.{statement}
+use Rattle.rows.proofs.fill_pieces.Tie as tie
+
+abbrev Inv-loop : tie.InvT-loop
+Inv-loop air gas q up down high₀ low₀ w i₀ high low i =
+    (i ≤ w)
+    × (w ≡ length air)
+    × (length high ≡ length high₀)
+    × (length low ≡ length low₀)
+    × Same i (flowOf high low) (pieces (ring (length air)) (flowOf up down) air gas)
+
+abbrev μ-loop : tie.MeasureT-loop
+μ-loop air gas q up down high₀ low₀ w i₀ high low i = w - i
+
+loop-holds : tie.Need-loop-holds Inv-loop μ-loop
+loop-holds c = (search needs, search needs, search needs, search needs, same-none _ _)
+
+west-of-requires : tie.Need-west-of-requires Inv-loop μ-loop
+west-of-requires c κs = search needs
+
+east-of-requires : tie.Need-east-of-requires Inv-loop μ-loop
+east-of-requires c κs = search needs
+
+east-of-requires-2 : tie.Need-east-of-requires-2 Inv-loop μ-loop
+east-of-requires-2 c κs = search needs
+
+mul-t16 : tie.Need-mul-t16 Inv-loop μ-loop
+mul-t16 c = search needs
+
+shared-slice-read-t18 : tie.Need-shared-slice-read-t18 Inv-loop μ-loop
+shared-slice-read-t18 c = search needs
+
+high-end-requires : tie.Need-high-end-requires Inv-loop μ-loop
+high-end-requires c κs = face-gives-high (c .before .before .before .before .before .before .before .before .before .before .before .before .before .pre) (c .before .before .before .before .before .loop .i) (search needs) _ (c .before .before .east-of .ensures .0) _ (c .before .before .before .west-of .ensures .0)
+
+mul-t16-2 : tie.Need-mul-t16-2 Inv-loop μ-loop
+mul-t16-2 c = search needs
+
+shared-slice-read-t18-2 : tie.Need-shared-slice-read-t18-2 Inv-loop μ-loop
+shared-slice-read-t18-2 c = search needs
+
+low-end-requires : tie.Need-low-end-requires Inv-loop μ-loop
+low-end-requires c κs = face-gives-low (c .before .before .before .before .before .before .before .before .before .before .before .before .before .before .before .pre) (c .before .before .before .before .before .before .before .loop .i) (search needs) _ (c .before .before .before .before .east-of .ensures .0) _ (c .before .before .before .east-of2 .ensures .0)
+
+mul-high : tie.Need-mul-high Inv-loop μ-loop
+mul-high c = search needs
+
+slice-write-high : tie.Need-slice-write-high Inv-loop μ-loop
+slice-write-high c = search needs
+
+mul-low : tie.Need-mul-low Inv-loop μ-loop
+mul-low c = search needs
+
+slice-write-low : tie.Need-slice-write-low Inv-loop μ-loop
+slice-write-low c = search needs
+
+add-i : tie.Need-add-i Inv-loop μ-loop
+add-i c = search needs
+
+loop-less : tie.Need-loop-less Inv-loop μ-loop
+loop-less c = search needs
+
+loop-again : tie.Need-loop-again Inv-loop μ-loop
+loop-again c =
+    let l = c .before .before .before .before .before .before .before .before .loop in
+    let need = c .before .before .before .before .before .before .before .before .before .before .before .before .before .before .before .before .pre in
+    let inside = c .before .before .before .before .before .before .before .loop-test .taken in
+    let east = c .before .before .before .before .before .east-of .ensures .0 in (
+      search needs,
+      search needs,
+      search needs,
+      search needs,
+      same-more (l .high) (l .low) _ (l .i) _ _ (search needs) (search needs) (l .inv .4)
+          (c .before .before .high-end .ensures ∙ face-high need (l .i) (search needs) _ east _ (c .before .before .before .before .before .before .west-of .ensures .0))
+          (c .low-end .ensures ∙ face-low need (l .i) (search needs) _ east _ (c .before .before .before .before .east-of2 .ensures .0)),
+    )
+
+same-length : tie.Need-same-length Inv-loop μ-loop
+same-length c = search needs
+
+same-length-2 : tie.Need-same-length-2 Inv-loop μ-loop
+same-length-2 c = search needs
+
+returns : tie.Need-returns Inv-loop μ-loop
+returns c =
+    let l = c .before .loop in
+    let done : l .i ≡ length (c .before .before .before .before .before .before .before .before .before .args .air .now) = omega arith in
+    rw done at (l .inv .4)
+
+pub fill-pieces-spec : {M : Type 1} → statement M
+fill-pieces-spec =
+    tie.close
+    (tie.spec
+    Inv-loop
+    μ-loop
+    loop-holds
+    west-of-requires
+    east-of-requires
+    east-of-requires-2
+    mul-t16
+    shared-slice-read-t18
+    high-end-requires
+    mul-t16-2
+    shared-slice-read-t18-2
+    low-end-requires
+    mul-high
+    slice-write-high
+    mul-low
+    slice-write-low
+    add-i
+    loop-less
+    loop-again
+    same-length
+    same-length-2
+    returns)

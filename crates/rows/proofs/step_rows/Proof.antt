@@ -1,0 +1,92 @@
+-- `rows::step_rows` meets its contract. The loop's invariant: the tracers passed are stepped, the others as they were.
+-- Assumes nothing.
+use Prim.Native.Nat.{ℕ, _≤_, _-_}
+use mathlib.Core.List.{List}
+use mathlib.Core.Path.{_≡_, ap, _∙_}
+use native.Mathlib.Omega.{arith}
+use lib.ListN.{length}
+use Rattle.rows.specs.Gas.{rowStepped, Stepping, step-need, stepping-none, stepping-more, row-lent}
+use borrow.Author.Needs.{needs}
+use Rattle.rows.proofs.step_rows.Statement.{statement}
+use Rattle.rows.proofs.step_rows.Tie as tie
+
+abbrev Inv-loop : tie.InvT-loop
+Inv-loop air up down n rows₀ w t₀ rows t =
+    (t ≤ n) × (w ≡ length air) × Stepping n rows₀ air up down rows t
+
+abbrev μ-loop : tie.MeasureT-loop
+μ-loop air up down n rows₀ w t₀ rows t = n - t
+
+loop-holds : tie.Need-loop-holds Inv-loop μ-loop
+loop-holds c = (search needs, search needs, stepping-none (c .before .before .before .pre) (search needs))
+
+mul-row : tie.Need-mul-row Inv-loop μ-loop
+mul-row c = search needs
+
+array-copy-out-row : tie.Need-array-copy-out-row Inv-loop μ-loop
+array-copy-out-row c = search needs
+
+sub-step-gas : tie.Need-sub-step-gas Inv-loop μ-loop
+sub-step-gas c = search needs
+
+part-row-start : tie.Need-part-row-start Inv-loop μ-loop
+part-row-start c = search needs
+
+part-row-end : tie.Need-part-row-end Inv-loop μ-loop
+part-row-end c =
+    let l = c .before .before .loop in
+    omega (arith, l .inv .2 .wideRows (l .t) (search needs), c .before .before .before .before .before .before .pre .wide)
+
+step-gas-requires : tie.Need-step-gas-requires Inv-loop μ-loop
+step-gas-requires c κs =
+    let l = c .before .before .before .loop in
+    let need = c .before .before .before .before .before .before .before .pre in
+    rw (row-lent need (l .inv .2) (search needs)) (step-need need (l .t) (search needs))
+
+mul-rows : tie.Need-mul-rows Inv-loop μ-loop
+mul-rows c = search needs
+
+array-set-from-rows : tie.Need-array-set-from-rows Inv-loop μ-loop
+array-set-from-rows c = search needs
+
+add-t : tie.Need-add-t Inv-loop μ-loop
+add-t c = search needs
+
+loop-less : tie.Need-loop-less Inv-loop μ-loop
+loop-less c = search needs
+
+loop-again : tie.Need-loop-again Inv-loop μ-loop
+loop-again c =
+    let l = c .before .before .before .before .before .loop in
+    let start = c .before .before .before .before .before .before .before .before .before in
+    let a = start .args in
+    let inside = c .before .before .before .before .loop-test .taken in (
+      search needs,
+      search needs,
+      stepping-more (start .pre) (l .inv .2) (search needs) _ (c .before .step-gas .ensures ∙ ap (λ (g : List ℕ). rowStepped g (a .air .now) (a .up .now) (a .down .now)) (row-lent (start .pre) (l .inv .2) (search needs))),
+    )
+
+returns : tie.Need-returns Inv-loop μ-loop
+returns c =
+    let l = c .before .loop in
+    record { wideRows = l .inv .2 .wideRows; each = λ t h. l .inv .2 .each t (omega arith) }
+
+pub step-rows-spec : {M : Type 1} → statement M
+step-rows-spec =
+    tie.close
+    (tie.spec
+    Inv-loop
+    μ-loop
+    loop-holds
+    mul-row
+    array-copy-out-row
+    sub-step-gas
+    part-row-start
+    part-row-end
+    step-gas-requires
+    mul-rows
+    array-set-from-rows
+    add-t
+    loop-less
+    loop-again
+    returns)
