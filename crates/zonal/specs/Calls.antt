@@ -4,7 +4,6 @@ use Prim.Native.Nat.{ℕ, _+_, _-_, _≤_, _<_}
 use mathlib.Core.List.{List, [], _∷_}
 use mathlib.Core.Bool.{Bool, true, false, not}
 use mathlib.Core.Path.{_≡_, refl, sym, ap, ap₂, _∙_}
-use native.Mathlib.Nat.{add-sub-cancel-left}
 use native.Mathlib.Omega.{arith}
 use borrow.Author.Tests.{lt-ltb, le-ltb, eq-eqb, ne-eqb, eqb-true}
 use lib.Dec.{leb, eqb}
@@ -17,7 +16,6 @@ use Rattle.model.specs.Sweep.{ring, flux, substepCount}
 use Rattle.model.specs.Step.{Call, Place, place, firstOf, step, lentFits, ownPlaces, refusal, accepted, layerAbsent, rowAbsent, fluxTooLarge, rowAir, zonalCount, zonal}
 use Rattle.model.specs.Laws.Basic.{length-part}
 use Rattle.model.specs.Laws.Step.{Fits, passes, stops, own-refusal}
-use Rattle.units.specs.declared.Air.{Air}
 use Rattle.units.specs.declared.Answer.{Answer}
 use Rattle.units.specs.declared.Answer.the-variants.{Accepted, Refused}
 use Rattle.units.specs.declared.Refusal.{Refusal}
@@ -26,19 +24,26 @@ use Rattle.units.specs.Answer.{refusalNumber, numberOf, Agrees}
 use Rattle.units.specs.Agrees.{refused-agrees, place-agrees, accepted-agrees}
 use Rattle.places.specs.declared.Lent.the-variants.{RowFluxes}
 use Rattle.places.specs.Tested.{IsTested, Passed}
-use Rattle.row.specs.Row.{airRow}
-use Rattle.rowair.specs.Substeps.{rowCount}
+use Rattle.substep.specs.Lent.{part-lent}
+use Rattle.row.specs.Substeps.{rowMesh, RowNeed}
 
--- a row whose part of the air was lent as `&air[a..e]` with e = a + W, in an array
-module _ (w : World) (k r : ℕ) (fluxes : List ℤ) (long : length fluxes ≡ w .grid .W) (a : List Air) (first : ℕ) (start : first ≡ rowStart (w .grid) k r) (inside : first + w .grid .W ≤ length (w .air)) (loaded : airRow (length (part (w .air) first (first + w .grid .W - first))) a ≡ part (w .air) first (first + w .grid .W - first)) where
-  pub row-loaded : airRow (length fluxes) a ≡ rowAir w k r
-  row-loaded =
-      ap (λ (n : ℕ). airRow n a) (long ∙ sym (length-part (w .air) first (w .grid .W) inside)) ∙
-      (rw (add-sub-cancel-left first (w .grid .W)) at loaded) ∙
-      ap (λ (n : ℕ). part (w .air) n (w .grid .W)) start
+-- a row's part of the air, lent as `&air[a..e]` with e = a + W
+module _ (w : World) (k r : ℕ) (fluxes : List ℤ) (long : length fluxes ≡ w .grid .W) (first : ℕ) (start : first ≡ rowStart (w .grid) k r) (inside : first + w .grid .W ≤ length (w .air)) where
+  abbrev pub lentRow : List ℕ
+  lentRow = part (w .air) first (first + w .grid .W - first)
 
-  pub count-found : rowCount a fluxes ≡ zonalCount w k r fluxes
-  count-found = ap₂ (λ (n : ℕ) (l : List ℕ). substepCount (ring n) fluxes l) long row-loaded
+  pub row-lent : lentRow ≡ rowAir w k r
+  row-lent = part-lent (w .air) first (w .grid .W) ∙ ap (λ (n : ℕ). part (w .air) n (w .grid .W)) start
+
+  pub row-lent-need : w .grid .W ≤ 72 → RowNeed lentRow fluxes
+  row-lent-need few =
+      record {
+        long = ap length (part-lent (w .air) first (w .grid .W)) ∙ length-part (w .air) first (w .grid .W) inside ∙ sym long;
+        wide = rw long few;
+      }
+
+  pub count-found : substepCount (rowMesh fluxes) fluxes lentRow ≡ zonalCount w k r fluxes
+  count-found = ap₂ (λ (n : ℕ) (l : List ℕ). substepCount (ring n) fluxes l) long row-lent
 
 -- ---- the places, from 5 on
 -- that no n from 1 to 16 serves

@@ -4,14 +4,11 @@ ghost use Rattle.model.specs.Step.{step, zonal as zonal-call};
 ghost use Rattle.units.specs.Answer.{Agrees};
 ghost use Rattle.units.specs.Grid.{worldOf};
 ghost use Rattle.zonal.specs.Calls.{IsRowPlace};
-ghost use Rattle.zonal.specs.World.{TracersNeed, sweptTracers};
+ghost use Rattle.zonal.specs.World.{RowReady, IsSwept};
 use places::Lent;
 use places::common_places;
 use places::fluxes_fit;
-use row::load_air;
-use row::store_air;
-use rowair::count;
-use rowair::sweep_air;
+use row::count;
 use rows::load_rows;
 use rows::store_rows;
 use rows::sweep_rows;
@@ -66,7 +63,7 @@ fn row_place(
     }
     let first = row_start(g, layer, row) as usize;
     let end = first + (g.w as usize);
-    let n = count(load_air(&air[first..end]), fluxes);
+    let n = count(&air[first..end], fluxes);
     if 0 < n {} else {
         return no_row(Answer::Refused(Refusal::Zonal));
     }
@@ -77,17 +74,17 @@ fn row_place(
     }
 }
 
-// The row of every tracer, loaded, swept and written back.
-fn sweep_tracers(
+// The row's lent air and the row of every tracer, swept.
+fn sweep_row(
     g: Grid,
+    air: &mut [u32],
     tracers: &mut [u32],
-    air: [Air; 72],
     first: usize,
     substeps: u32,
     fluxes: &[i32],
 )
-    requires { ⌜ TracersNeed g (now tracers) air first (now fluxes) substeps ⌝ }
-    ensures { λ x. ⌜ now (tracers .exit) ≡ sweptTracers g (now (tracers .entry)) air first (now (fluxes .entry)) substeps ⌝ }
+    requires { ⌜ RowReady g (now tracers) (now air) first (now fluxes) substeps ⌝ }
+    ensures { λ x. ⌜ IsSwept g (now (tracers .entry)) (now (air .entry)) first (now (fluxes .entry)) substeps (now (air .exit)) (now (tracers .exit)) ⌝ }
 {
     let w = g.w as usize;
     let n = g.n as usize;
@@ -116,8 +113,6 @@ pub fn zonal(
     let first = place.first;
     let substeps = place.count;
     let end = first + (g.w as usize);
-    let start = load_air(&air[first..end]);
-    sweep_tracers(g, tracers, start, first, substeps, fluxes);
-    store_air(sweep_air(start, fluxes, substeps), &mut air[first..end]);
+    sweep_row(g, &mut air[first..end], tracers, first, substeps, fluxes);
     Answer::Accepted(substeps)
 }

@@ -8,8 +8,7 @@ use lib.ListN.{length}
 use Rattle.model.specs.Step.{zonalCount}
 use Rattle.units.specs.Grid.{worldOf, in-range}
 use Rattle.units.specs.declared.Refusal.the-variants.{Index, Fluxes, Zonal}
-use Rattle.rows.specs.Rows.{part-wide}
-use Rattle.zonal.specs.Calls.{place-common, place-refused, place-found, no-layer, no-row, flux-too-large, none-serves, sweep-accepted, count-found}
+use Rattle.zonal.specs.Calls.{place-common, place-refused, place-found, no-layer, no-row, flux-too-large, none-serves, sweep-accepted, row-lent-need, count-found}
 use borrow.Author.Needs.{needs}
 use Rattle.zonal.proofs.row_place.Statement.{statement}
 use Rattle.zonal.proofs.row_place.Tie as tie
@@ -78,17 +77,17 @@ cast-end c = search needs
 add-end : tie.Need-add-end
 add-end c = search needs
 
-mul-load-air : tie.Need-mul-load-air
-mul-load-air c = search needs
+mul-count : tie.Need-mul-count
+mul-count c = search needs
 
-sub-load-air : tie.Need-sub-load-air
-sub-load-air c = search needs
+sub-count : tie.Need-sub-count
+sub-count c = search needs
 
-part-load-air-start : tie.Need-part-load-air-start
-part-load-air-start c = search needs
+part-count-start : tie.Need-part-count-start
+part-count-start c = search needs
 
-part-load-air-end : tie.Need-part-load-air-end
-part-load-air-end c =
+part-count-end : tie.Need-part-count-end
+part-count-end c =
     let start = c .before .before .before .before .before .before .before .before .before .before .before .before .before in
     let common-places = c .before .before .before .before .before .before .before .before .before .before .common-places in
     let number = c .before .before .before .before .before .before .before .before .before .number in
@@ -97,52 +96,40 @@ part-load-air-end c =
     let passed = common-places .ensures .passed (sym (number .ensures) ∙ c .before .before .before .before .before .before .before .before .if1 .taken) in
     omega (arith, c .before .row-start .ensures .1, passed .fits .airLength)
 
-load-air-requires : tie.Need-load-air-requires
-load-air-requires c κs =
-    let start = c .before .before .before .before .before .before .before .before .before .before .before .before .before .before in
-    let common-places = c .before .before .before .before .before .before .before .before .before .before .before .common-places in
-    let number = c .before .before .before .before .before .before .before .before .before .before .number in
-    let row-start = c .before .before .row-start in
-    let args = start .args in
-    let w = worldOf (args .g) (args .air .now) (args .tracers .now) in
-    let passed = common-places .ensures .passed (sym (number .ensures) ∙ c .before .before .before .before .before .before .before .before .before .if1 .taken) in
-    let inside : row-start .result + args .g .w ≤ length (args .air .now) = omega (arith, row-start .ensures .1, passed .fits .airLength) in
-    part-wide (args .air .now) (row-start .result) (args .g .w) inside (in-range (args .g) (passed .fits .grid) .highW)
-
 count-requires : tie.Need-count-requires
 count-requires c κs =
-    let start = c .before .before .before .before .before .before .before .before .before .before .before .before .before .before .before in
-    let common-places = c .before .before .before .before .before .before .before .before .before .before .before .before .common-places in
-    let number = c .before .before .before .before .before .before .before .before .before .before .before .number in
-    let args = start .args in
+    let args = c .before .before .before .before .before .before .before .before .before .before .before .before .before .before .args in
     let w = worldOf (args .g) (args .air .now) (args .tracers .now) in
-    let passed = common-places .ensures .passed (sym (number .ensures) ∙ c .before .before .before .before .before .before .before .before .before .before .if1 .taken) in
-    omega (arith, eqb-true (length (args .fluxes .now)) (args .g .w) (passed .lentFit), in-range (args .g) (passed .fits .grid) .highW)
+    let passed = c .before .before .before .before .before .before .before .before .before .before .before .common-places .ensures .passed (sym (c .before .before .before .before .before .before .before .before .before .before .number .ensures) ∙ c .before .before .before .before .before .before .before .before .before .if1 .taken) in
+    let start = c .before .before .row-start .ensures in
+    let long = eqb-true (length (args .fluxes .now)) (args .g .w) (passed .lentFit) in
+    let inside : c .before .before .row-start .result + args .g .w ≤ length (args .air .now) = omega (arith, start .1, passed .fits .airLength) in
+    row-lent-need w (args .layer) (args .row) (args .fluxes .now) long _ (start .0) inside (in-range (args .g) (passed .fits .grid) .highW)
 
 no-row-requires-5 : tie.Need-no-row-requires-5
 no-row-requires-5 c κs = search needs
 
 returns-5 : tie.Need-returns-5
 returns-5 c =
-    let args = c .before .before .before .before .before .before .before .before .before .before .before .before .before .before .before .before .before .before .args in
-    let w = worldOf (args .g) (args .air .now) (args .tracers .now) in
-    let passed = c .before .before .before .before .before .before .before .before .before .before .before .before .before .before .before .common-places .ensures .passed (sym (c .before .before .before .before .before .before .before .before .before .before .before .before .before .before .number .ensures) ∙ c .before .before .before .before .before .before .before .before .before .before .before .before .before .if1 .taken) in
-    let start = c .before .before .before .before .before .before .row-start .ensures in
-    let long = eqb-true (length (args .fluxes .now)) (args .g .w) (passed .lentFit) in
-    let inside : c .before .before .before .before .before .before .row-start .result + args .g .w ≤ length (args .air .now) = omega (arith, start .1, passed .fits .airLength) in
-    let counted = c .before .before .count .ensures .is ∙ count-found w (args .layer) (args .row) (args .fluxes .now) long (c .before .before .before .load-air .result) _ (start .0) inside (c .before .before .before .load-air .ensures) in
-    place-refused w (args .layer) (args .row) (args .fluxes .now) _ _ _ Zonal (λ z. omega arith) (c .no-row5 .ensures)
-    (none-serves w (passed .fits) (args .layer) (args .row) (args .fluxes .now) (passed .lentFit) (search needs) (search needs) (sym (c .before .before .before .before .before .before .before .before .fluxes-fit .ensures) ∙ c .before .before .before .before .before .before .before .if4 .taken) (sym counted ∙ omega arith))
-
-returns-6 : tie.Need-returns-6
-returns-6 c =
     let args = c .before .before .before .before .before .before .before .before .before .before .before .before .before .before .before .before .before .args in
     let w = worldOf (args .g) (args .air .now) (args .tracers .now) in
     let passed = c .before .before .before .before .before .before .before .before .before .before .before .before .before .before .common-places .ensures .passed (sym (c .before .before .before .before .before .before .before .before .before .before .before .before .before .number .ensures) ∙ c .before .before .before .before .before .before .before .before .before .before .before .before .if1 .taken) in
     let start = c .before .before .before .before .before .row-start .ensures in
     let long = eqb-true (length (args .fluxes .now)) (args .g .w) (passed .lentFit) in
     let inside : c .before .before .before .before .before .row-start .result + args .g .w ≤ length (args .air .now) = omega (arith, start .1, passed .fits .airLength) in
-    let counted = c .before .count .ensures .is ∙ count-found w (args .layer) (args .row) (args .fluxes .now) long (c .before .before .load-air .result) _ (start .0) inside (c .before .before .load-air .ensures) in
+    let counted = c .before .before .count .ensures .is ∙ count-found w (args .layer) (args .row) (args .fluxes .now) long _ (start .0) inside in
+    place-refused w (args .layer) (args .row) (args .fluxes .now) _ _ _ Zonal (λ z. omega arith) (c .no-row5 .ensures)
+    (none-serves w (passed .fits) (args .layer) (args .row) (args .fluxes .now) (passed .lentFit) (search needs) (search needs) (sym (c .before .before .before .before .before .before .before .fluxes-fit .ensures) ∙ c .before .before .before .before .before .before .if4 .taken) (sym counted ∙ omega arith))
+
+returns-6 : tie.Need-returns-6
+returns-6 c =
+    let args = c .before .before .before .before .before .before .before .before .before .before .before .before .before .before .before .before .args in
+    let w = worldOf (args .g) (args .air .now) (args .tracers .now) in
+    let passed = c .before .before .before .before .before .before .before .before .before .before .before .before .before .common-places .ensures .passed (sym (c .before .before .before .before .before .before .before .before .before .before .before .before .number .ensures) ∙ c .before .before .before .before .before .before .before .before .before .before .before .if1 .taken) in
+    let start = c .before .before .before .before .row-start .ensures in
+    let long = eqb-true (length (args .fluxes .now)) (args .g .w) (passed .lentFit) in
+    let inside : c .before .before .before .before .row-start .result + args .g .w ≤ length (args .air .now) = omega (arith, start .1, passed .fits .airLength) in
+    let counted = c .before .count .ensures .is ∙ count-found w (args .layer) (args .row) (args .fluxes .now) long _ (start .0) inside in
     place-found w (args .layer) (args .row) (args .fluxes .now) _ _ _ refl
     record {
       fits = passed .fits;
@@ -154,7 +141,7 @@ returns-6 c =
       some = search needs;
       most = c .before .count .ensures .most;
       accepting =
-          sweep-accepted w (passed .fits) (args .layer) (args .row) (args .fluxes .now) (passed .lentFit) (search needs) (search needs) (sym (c .before .before .before .before .before .before .before .fluxes-fit .ensures) ∙ c .before .before .before .before .before .before .if4 .taken)
+          sweep-accepted w (passed .fits) (args .layer) (args .row) (args .fluxes .now) (passed .lentFit) (search needs) (search needs) (sym (c .before .before .before .before .before .before .fluxes-fit .ensures) ∙ c .before .before .before .before .before .if4 .taken)
           (λ (z : zonalCount w (args .layer) (args .row) (args .fluxes .now) ≡ 0). omega (arith, counted));
     }
 
@@ -177,11 +164,10 @@ row-place-spec =
     cast-first
     cast-end
     add-end
-    mul-load-air
-    sub-load-air
-    part-load-air-start
-    part-load-air-end
-    load-air-requires
+    mul-count
+    sub-count
+    part-count-start
+    part-count-end
     count-requires
     no-row-requires-5
     returns-5

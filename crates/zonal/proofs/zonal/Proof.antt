@@ -1,10 +1,8 @@
--- `zonal::zonal` meets its contract: the row found by `row_place`, swept in all tracers and in the air.
+-- `zonal::zonal` meets its contract: the row found by `row_place`, swept in the air and in all tracers.
 -- Assumes nothing.
 use mathlib.Core.Path.{refl, sym, _∙_}
 use native.Mathlib.Omega.{arith}
-use Rattle.units.specs.Grid.{in-range}
-use Rattle.rows.specs.Rows.{part-wide}
-use Rattle.zonal.specs.World.{row-near, row-in-air, count-serves, tracers-need, zonal-agrees}
+use Rattle.zonal.specs.World.{row-near, row-in-air, row-ready, zonal-agrees}
 use borrow.Author.Needs.{needs}
 use Rattle.zonal.proofs.zonal.Statement.{statement}
 use Rattle.zonal.proofs.zonal.Tie as tie
@@ -29,74 +27,33 @@ cast-end c = search needs
 
 add-end : tie.Need-add-end
 add-end c =
-    let start = c .before .before .before .before .before .before .before .before in
-    omega (arith, row-near (start .args .g) (start .args .air .now) (start .args .tracers .now) (start .args .layer) (start .args .row) (start .args .fluxes .now) _ _ (c .before .before .before .row-place .ensures .found (sym (c .before .before .number .ensures) ∙ c .before .if1 .taken)))
+    let a = c .before .before .before .before .before .before .before .before .args in
+    let found = c .before .before .before .row-place .ensures .found (sym (c .before .before .number .ensures) ∙ c .before .if1 .taken) in
+    omega (arith, row-near (a .g) (a .air .now) (a .tracers .now) (a .layer) (a .row) (a .fluxes .now) _ _ found)
 
-mul-load-air : tie.Need-mul-load-air
-mul-load-air c =
-    let start = c .before .before .before .before .before .before .before .before in
-    omega (arith, row-near (start .args .g) (start .args .air .now) (start .args .tracers .now) (start .args .layer) (start .args .row) (start .args .fluxes .now) _ _ (c .before .before .before .row-place .ensures .found (sym (c .before .before .number .ensures) ∙ c .before .if1 .taken)))
+mul-sweep-row : tie.Need-mul-sweep-row
+mul-sweep-row c =
+    let a = c .before .before .before .before .before .before .before .before .args in
+    let found = c .before .before .before .row-place .ensures .found (sym (c .before .before .number .ensures) ∙ c .before .if1 .taken) in
+    omega (arith, row-near (a .g) (a .air .now) (a .tracers .now) (a .layer) (a .row) (a .fluxes .now) _ _ found)
 
-sub-load-air : tie.Need-sub-load-air
-sub-load-air c = search needs
+sub-sweep-row : tie.Need-sub-sweep-row
+sub-sweep-row c = search needs
 
-part-load-air-start : tie.Need-part-load-air-start
-part-load-air-start c = search needs
+part-sweep-row-start : tie.Need-part-sweep-row-start
+part-sweep-row-start c = search needs
 
-part-load-air-end : tie.Need-part-load-air-end
-part-load-air-end c =
-    let start = c .before .before .before .before .before .before .before .before .before in
-    let row-place = c .before .before .before .before .row-place in
-    row-in-air (start .args .g) (start .args .air .now) (start .args .tracers .now) (start .args .layer) (start .args .row) (start .args .fluxes .now) _ _ (row-place .ensures .found (sym (c .before .before .before .number .ensures) ∙ c .before .before .if1 .taken))
+part-sweep-row-end : tie.Need-part-sweep-row-end
+part-sweep-row-end c =
+    let a = c .before .before .before .before .before .before .before .before .args in
+    let found = c .before .before .before .row-place .ensures .found (sym (c .before .before .number .ensures) ∙ c .before .if1 .taken) in
+    row-in-air (a .g) (a .air .now) (a .tracers .now) (a .layer) (a .row) (a .fluxes .now) _ _ found
 
-load-air-requires : tie.Need-load-air-requires
-load-air-requires c κs =
-    let start = c .before .before .before .before .before .before .before .before .before .before in
-    let row-place = c .before .before .before .before .before .row-place in
-    let number = c .before .before .before .before .number in
-    part-wide _ _ _ (row-in-air (start .args .g) (start .args .air .now) (start .args .tracers .now) (start .args .layer) (start .args .row) (start .args .fluxes .now) _ _ (row-place .ensures .found (sym (number .ensures) ∙ c .before .before .before .if1 .taken))) (in-range (start .args .g) ((row-place .ensures .found (sym (number .ensures) ∙ c .before .before .before .if1 .taken)) .fits .grid) .highW)
-
-sweep-tracers-requires : tie.Need-sweep-tracers-requires
-sweep-tracers-requires c κs =
-    let start = c .before .before .before .before .before .before .before .before .before .before .before .before in
-    let row-place = c .before .before .before .before .before .before .before .row-place in
-    let number = c .before .before .before .before .before .before .number in
-    tracers-need (start .args .g) (start .args .air .now) (start .args .tracers .now) (start .args .layer) (start .args .row) (start .args .fluxes .now) _ _ (row-place .ensures .found (sym (number .ensures) ∙ c .before .before .before .before .before .if1 .taken)) _ (c .before .load-air .ensures)
-
-sweep-air-requires : tie.Need-sweep-air-requires
-sweep-air-requires c κs =
-    let start = c .before .before .before .before .before .before .before .before .before .before .before .before .before .before .before in
-    let row-place = c .before .before .before .before .before .before .before .before .before .before .row-place in
-    let number = c .before .before .before .before .before .before .before .before .before .number in
-    let load-air = c .before .before .before .before .load-air in
-    record { wide = rw ((row-place .ensures .found (sym (number .ensures) ∙ c .before .before .before .before .before .before .before .before .if1 .taken)) .long) (in-range (start .args .g) ((row-place .ensures .found (sym (number .ensures) ∙ c .before .before .before .before .before .before .before .before .if1 .taken)) .fits .grid) .highW); serving = count-serves (start .args .g) (start .args .air .now) (start .args .tracers .now) (start .args .layer) (start .args .row) (start .args .fluxes .now) _ _ (row-place .ensures .found (sym (number .ensures) ∙ c .before .before .before .before .before .before .before .before .if1 .taken)) (load-air .result) (load-air .ensures) }
-
-mul-store-air : tie.Need-mul-store-air
-mul-store-air c =
-    let start = c .before .before .before .before .before .before .before .before .before .before .before .before .before .before .before .before in
-    let row-place = c .before .before .before .before .before .before .before .before .before .before .before .row-place in
-    let number = c .before .before .before .before .before .before .before .before .before .before .number in
-    omega (arith, row-near (start .args .g) (start .args .air .now) (start .args .tracers .now) (start .args .layer) (start .args .row) (start .args .fluxes .now) _ _ (row-place .ensures .found (sym (number .ensures) ∙ c .before .before .before .before .before .before .before .before .before .if1 .taken)))
-
-sub-store-air : tie.Need-sub-store-air
-sub-store-air c = search needs
-
-part-store-air-start : tie.Need-part-store-air-start
-part-store-air-start c = search needs
-
-part-store-air-end : tie.Need-part-store-air-end
-part-store-air-end c =
-    let start = c .before .before .before .before .before .before .before .before .before .before .before .before .before .before .before .before in
-    let row-place = c .before .before .before .before .before .before .before .before .before .before .before .row-place in
-    let number = c .before .before .before .before .before .before .before .before .before .before .number in
-    row-in-air (start .args .g) (start .args .air .now) (start .args .tracers .now) (start .args .layer) (start .args .row) (start .args .fluxes .now) _ _ (row-place .ensures .found (sym (number .ensures) ∙ c .before .before .before .before .before .before .before .before .before .if1 .taken))
-
-store-air-requires : tie.Need-store-air-requires
-store-air-requires c κs =
-    let start = c .before .before .before .before .before .before .before .before .before .before .before .before .before .before .before .before .before in
-    let row-place = c .before .before .before .before .before .before .before .before .before .before .before .before .row-place in
-    let number = c .before .before .before .before .before .before .before .before .before .before .before .number in
-    part-wide _ _ _ (row-in-air (start .args .g) (start .args .air .now) (start .args .tracers .now) (start .args .layer) (start .args .row) (start .args .fluxes .now) _ _ (row-place .ensures .found (sym (number .ensures) ∙ c .before .before .before .before .before .before .before .before .before .before .if1 .taken))) (in-range (start .args .g) ((row-place .ensures .found (sym (number .ensures) ∙ c .before .before .before .before .before .before .before .before .before .before .if1 .taken)) .fits .grid) .highW)
+sweep-row-requires : tie.Need-sweep-row-requires
+sweep-row-requires c κs =
+    let a = c .before .before .before .before .before .before .before .before .before .before .args in
+    let found = c .before .before .before .before .before .row-place .ensures .found (sym (c .before .before .before .before .number .ensures) ∙ c .before .before .before .if1 .taken) in
+    row-ready (a .g) (a .air .now) (a .tracers .now) (a .layer) (a .row) (a .fluxes .now) _ _ found
 
 same-length-3 : tie.Need-same-length-3
 same-length-3 c = search needs
@@ -106,14 +63,9 @@ same-length-4 c = search needs
 
 returns-2 : tie.Need-returns-2
 returns-2 c =
-    let start = c .before .before .before .before .before .before .before .before .before .before .before .before .before .before .before .before .before .before .before .before in
-    let row-place = c .before .before .before .before .before .before .before .before .before .before .before .before .before .before .before .row-place in
-    let number = c .before .before .before .before .before .before .before .before .before .before .before .before .before .before .number in
-    let load-air = c .before .before .before .before .before .before .before .before .before .load-air in
-    let sweep-tracers = c .before .before .before .before .before .before .before .sweep-tracers in
-    let sweep-air = c .before .before .before .before .sweep-air in
-    rw (sweep-tracers .ensures)
-    (zonal-agrees (start .args .g) (start .args .air .now) (start .args .tracers .now) (start .args .layer) (start .args .row) (start .args .fluxes .now) _ _ (row-place .ensures .found (sym (number .ensures) ∙ c .before .before .before .before .before .before .before .before .before .before .before .before .before .if1 .taken)) (load-air .result) (load-air .ensures) _ (sweep-air .result) _ refl refl (sweep-air .ensures) (c .before .before .store-air .ensures))
+    let a = c .before .before .before .before .before .before .before .before .before .before .before .before .before .before .before .args in
+    let found = c .before .before .before .before .before .before .before .before .before .before .row-place .ensures .found (sym (c .before .before .before .before .before .before .before .before .before .number .ensures) ∙ c .before .before .before .before .before .before .before .before .if1 .taken) in
+    zonal-agrees (a .g) (a .air .now) (a .tracers .now) (a .layer) (a .row) (a .fluxes .now) _ _ found _ _ (c .before .before .before .before .sweep-row .ensures) _ refl refl
 
 pub zonal-spec : {M : Type 1} → statement M
 zonal-spec =
@@ -126,18 +78,11 @@ zonal-spec =
     returns
     cast-end
     add-end
-    mul-load-air
-    sub-load-air
-    part-load-air-start
-    part-load-air-end
-    load-air-requires
-    sweep-tracers-requires
-    sweep-air-requires
-    mul-store-air
-    sub-store-air
-    part-store-air-start
-    part-store-air-end
-    store-air-requires
+    mul-sweep-row
+    sub-sweep-row
+    part-sweep-row-start
+    part-sweep-row-end
+    sweep-row-requires
     same-length-3
     same-length-4
     returns-2)
