@@ -63,7 +63,7 @@ fn load_column(
     a: &mut [u32],
     e: &mut [u64],
 )
-    requires { ⌜ LoadNeed (now air) (now table) c cells k (now a) (now e) ⌝ }
+    requires { ⌜ LoadNeed (now air) (now table) c cells k × (k ≤ length (now a)) × (k < length (now e)) ⌝ }
     ensures { λ r. ⌜ IsColumn (now (air .entry)) (now (table .entry)) c cells k (now (a .exit)) (now (e .exit)) ⌝ }
 {
     load(air, c, cells, k, a);
