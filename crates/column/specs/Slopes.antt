@@ -2,11 +2,11 @@
 -- Assumes nothing.
 use Prim.Native.Nat.{ℕ, zero, suc, _+_, _-_, _*_, _≤_, _<_}
 use mathlib.Core.List.{List, _∷_}
-use mathlib.Core.Bool.{Bool, true, false, _||_, true≢false}
+use mathlib.Core.Bool.{Bool, true, false, or-true, _||_, true≢false}
 use mathlib.Core.Path.{_≡_, refl, sym, ap, ap₂, _∙_}
 use native.Mathlib.Numerals.{add-one}
 use native.Mathlib.Omega.{arith}
-use borrow.Author.Tests.{eqb-false}
+use borrow.Author.Tests.{eqb-false, eq-eqb, ne-eqb}
 use lib.Dec.{eqb}
 use Rattle.model.specs.Basic.{at, tabFrom, tab}
 use Rattle.model.specs.Scheme.{ratio, mismatch, plain}
@@ -30,24 +30,25 @@ neither : (a b : Bool) → a || b ≡ false → (a ≡ false) × (b ≡ false)
 neither true b e = absurd (true≢false e)
 neither false b e = (refl, e)
 
--- ---- the two cases of a mismatch, as the code tests them
+-- ---- the cases of a mismatch, as the code tests them
 module _ (cap : Bool) (k : ℕ) (q : List ℕ) (i : ℕ) where
-  pub slope-none : cap || eqb i 0 || eqb (i + 1) k ≡ true → plain ≡ slopeAt cap k q i
+  pub slope-first : cap || eqb i 0 ≡ true → plain ≡ slopeAt cap k q i
   unfolding slopeAt
-  slope-none e = rw (rw (add-one i) at e, slopeAt)
+  slope-first e = rw (e, slopeAt)
 
-  module _ (e : cap || eqb i 0 || eqb (i + 1) k ≡ false) where
-    pub slope-inner : mismatch (at q (i - 1)) (at q i) (at q (i + 1)) ≡ slopeAt cap k q i
+  pub slope-last : suc i ≡ k → plain ≡ slopeAt cap k q i
+  unfolding slopeAt
+  slope-last e = rw (eq-eqb (suc i) k e, or-true (cap || eqb i 0), slopeAt)
+
+  module _ (e : cap || eqb i 0 ≡ false) where
+    pub not-first : 1 ≤ i
+    not-first = let other = eqb-false i 0 (neither cap (eqb i 0) e .1) in omega arith
+
+    pub slope-inner : i + 1 < k → mismatch (at q (i - 1)) (at q i) (at q (i + 1)) ≡ slopeAt cap k q i
     unfolding slopeAt
-    slope-inner = rw (rw (add-one i) at e, slopeAt) (ap (λ (n : ℕ). mismatch (at q (i - 1)) (at q i) (at q n)) (add-one i))
-
-    -- there are layers above and below
-    pub inner-layer : i < k → (1 ≤ i) × (i + 1 < k)
-    inner-layer h =
-        let tests = neither (cap || eqb i 0) (eqb (i + 1) k) e in
-        let first = eqb-false i 0 (neither cap (eqb i 0) (tests .0) .1) in
-        let last = eqb-false (i + 1) k (tests .1) in
-        (omega arith, omega arith)
+    slope-inner h =
+        rw (e, ne-eqb (suc i) k (λ (z : suc i ≡ k). omega arith), slopeAt)
+        (ap (λ (n : ℕ). mismatch (at q (i - 1)) (at q i) (at q n)) (add-one i))
 
 -- ---- the model's layers
 module _ (cap : Bool) (k : ℕ) (air gas q : List ℕ) (ratios : AreRatios k air gas q) where

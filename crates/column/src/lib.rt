@@ -132,11 +132,15 @@ fn mismatch_at(q: &[u64], cap: bool, i: usize, k: usize) -> Mismatch
     requires { ⌜ (k ≤ 32) × (k ≤ length (now q)) × (i < k) ⌝ }
     ensures { λ r. ⌜ mismatchOf r ≡ slopeAt cap k (now (q .entry)) i ⌝ }
 {
-    if cap | (i == 0) | (i + 1 == k) {
-        return Mismatch {
-            size: 0,
-            positive: true,
-        };
+    let plain = Mismatch {
+        size: 0,
+        positive: true,
+    };
+    if cap | (i == 0) {
+        return plain;
+    }
+    if i + 1 < k {} else {
+        return plain;
     }
     let low = q[i - 1];
     let high = q[i + 1];

@@ -1,25 +1,29 @@
--- `column::mismatch_at` meets its contract: the two cases of `slopeAt`.
+-- `column::mismatch_at` meets its contract: the cases of `slopeAt`.
 -- Assumes nothing.
 use mathlib.Core.Path.{_∙_}
 use native.Mathlib.Omega.{arith}
-use Rattle.column.specs.Slopes.{slope-none, slope-inner, inner-layer}
-use borrow.Author.Needs.{needs}
+use Rattle.column.specs.Slopes.{slope-first, slope-last, slope-inner, not-first}
 use borrow.Author.Needs.{needs}
 use Rattle.column.proofs.mismatch_at.Statement.{statement}
 use Rattle.column.proofs.mismatch_at.Tie as tie
 
-add-if1 : tie.Need-add-if1
-add-if1 c = search needs
-
 returns : tie.Need-returns
 returns c =
     let a = c .before .before .args in
-    slope-none (a .cap) (a .k) (a .q .now) (a .i) (c .if1 .taken)
+    slope-first (a .cap) (a .k) (a .q .now) (a .i) (c .if1 .taken)
+
+add-if2 : tie.Need-add-if2
+add-if2 c = search needs
+
+returns-2 : tie.Need-returns-2
+returns-2 c =
+    let a = c .before .before .before .args in
+    slope-last (a .cap) (a .k) (a .q .now) (a .i) (omega arith)
 
 sub-low : tie.Need-sub-low
 sub-low c =
-    let a = c .before .before .args in
-    omega (arith, inner-layer (a .cap) (a .k) (a .q .now) (a .i) (c .if1 .left) (c .before .before .pre .2))
+    let a = c .before .before .before .args in
+    omega (arith, not-first (a .cap) (a .k) (a .q .now) (a .i) (c .before .if1 .left))
 
 mul-low : tie.Need-mul-low
 mul-low c = search needs
@@ -34,9 +38,7 @@ mul-high : tie.Need-mul-high
 mul-high c = search needs
 
 shared-slice-read-high : tie.Need-shared-slice-read-high
-shared-slice-read-high c =
-    let a = c .before .before .before .before .args in
-    omega (arith, inner-layer (a .cap) (a .k) (a .q .now) (a .i) (c .before .before .if1 .left) (c .before .before .before .before .pre .2))
+shared-slice-read-high c = search needs
 
 mul-mismatch : tie.Need-mul-mismatch
 mul-mismatch c = search needs
@@ -47,17 +49,18 @@ shared-slice-read-mismatch c = search needs
 mismatch-requires : tie.Need-mismatch-requires
 mismatch-requires c κs = search needs
 
-returns-2 : tie.Need-returns-2
-returns-2 c =
-    let a = c .before .before .before .before .before .before .args in
-    c .mismatch .ensures .is ∙ slope-inner (a .cap) (a .k) (a .q .now) (a .i) (c .before .before .before .before .if1 .left)
+returns-3 : tie.Need-returns-3
+returns-3 c =
+    let a = c .before .before .before .before .before .before .before .args in
+    c .mismatch .ensures .is ∙ slope-inner (a .cap) (a .k) (a .q .now) (a .i) (c .before .before .before .before .before .if1 .left) (omega arith)
 
 pub mismatch-at-spec : {M : Type 1} → statement M
 mismatch-at-spec =
     tie.close
     (tie.spec
-    add-if1
     returns
+    add-if2
+    returns-2
     sub-low
     mul-low
     shared-slice-read-low
@@ -67,4 +70,4 @@ mismatch-at-spec =
     mul-mismatch
     shared-slice-read-mismatch
     mismatch-requires
-    returns-2)
+    returns-3)

@@ -26,8 +26,7 @@ abbrev μ-loop : tie.MeasureT-loop
 
 loop-holds : tie.Need-loop-holds Inv-loop μ-loop
 loop-holds c =
-    let pre = c .before .before .before .before .before .pre in
-    (place-start (pre .spans), sym (sum-none _), sym (above-none (c .before .before .before .before .before .args .cap) pre), search needs, λ t h. absurd (omega arith))
+    (place-start (c .before .before .before .before .before .pre .spans), sym (sum-none _), sym (above-none (c .before .before .before .before .before .args .cap) (c .before .before .before .before .before .pre)), search needs, λ t h. absurd (omega arith))
 
 mul-m : tie.Need-mul-m Inv-loop μ-loop
 mul-m c = search needs
