@@ -46,23 +46,19 @@ pub record Spans (k : ℕ) (air e : List ℕ) : Type 0 where
   pub last : at e k ≡ airAbove (firsts k air) k
   pub rises : (j : ℕ) → j < k → at e j < at e (suc j)
 
--- and tracer within the limit, the layers' ratios, and room for the new amounts
-pub record WalkNeed (k : ℕ) (air gas q e new : List ℕ) : Type 0 where
+-- ---- a tracer's remap
+-- and tracer within the limit, room for the ratios, and for the new amounts
+pub record GasNeed (k : ℕ) (air gas q e new : List ℕ) : Type 0 where
   pub spans : Spans k air e
   pub total : sum k (at gas) ≤ totalLimit
-  pub ratios : AreRatios k air gas q
   pub roomGas : k ≤ length gas
   pub roomRatios : k ≤ length q
   pub room : k ≤ length new
 
--- ---- a tracer's remap
--- the same without the ratios, which are made there
-pub record GasNeed (k : ℕ) (air gas e q new : List ℕ) : Type 0 where
-  pub spans : Spans k air e
-  pub total : sum k (at gas) ≤ totalLimit
-  pub roomGas : k ≤ length gas
-  pub roomRatios : k ≤ length q
-  pub room : k ≤ length new
+-- and the layers' ratios
+pub record WalkNeed (k : ℕ) (air gas q e new : List ℕ) : Type 0 where
+  pub column : GasNeed k air gas q e new
+  pub ratios : AreRatios k air gas q
 
 -- r has the new layers' tracer, whatever table the edges are of
 pub record IsRemapped (cap : Bool) (k : ℕ) (air gas e r : List ℕ) : Type 0 where

@@ -114,16 +114,16 @@ module _ (cap : Bool) {k : ℕ} {air gas q e new : List ℕ} (need : WalkNeed k 
 
   pub above-none : above cap k air gas q (at e 0) ≡ 0
   above-none =
-      ap (amountAbove (tab k (layerAt cap k air gas q))) (need .spans .first) ∙
-      amount-none (layerAt cap k air gas q) k (need .spans .least)
+      ap (amountAbove (tab k (layerAt cap k air gas q))) (need .column .spans .first) ∙
+      amount-none (layerAt cap k air gas q) k (need .column .spans .least)
 
   pub above-rises : (j : ℕ) → j < k → above cap k air gas q (at e j) ≤ above cap k air gas q (at e (j + 1))
   above-rises j h =
-      amount-rises (layerAt cap k air gas q) k (need .spans .least) (λ i p. ratio-safe (slopeAt cap k q i) (at air i) (at gas i) (small i p)) (at e j) (at e (j + 1)) (omega (arith, rises-next (need .spans) j h))
+      amount-rises (layerAt cap k air gas q) k (need .column .spans .least) (λ i p. ratio-safe (slopeAt cap k q i) (at air i) (at gas i) (small i p)) (at e j) (at e (j + 1)) (omega (arith, rises-next (need .column .spans) j h))
 
   -- the tracer of i layers, and of one more
   pub gas-fits : (i : ℕ) → i < k → sum i (at gas) + at gas i ≤ totalLimit
-  gas-fits i h = omega (arith, sum-more i (at gas), sum-fewer (at gas) (i + 1) k (omega arith), need .total)
+  gas-fits i h = omega (arith, sum-more i (at gas), sum-fewer (at gas) (i + 1) k (omega arith), need .column .total)
 
   -- the edge passed lies in layer i
   module _ {i j passed : ℕ} (p : Place k air e i j passed) (h : j < k) (le : at e (j + 1) ≤ passed + at air i) where
@@ -131,8 +131,8 @@ module _ (cap : Bool) {k : ℕ} {air gas q e new : List ℕ} (need : WalkNeed k 
       pub walk-giver : (have : Air) (t : Tracer) (m : Air) → have .0 ≡ at air i → t .0 ≡ at gas i → m .0 ≡ at e (j + 1) - passed → Giver d have t m
       walk-giver have t m isAir isGas isPart =
           record {
-            some = rw isAir (need .spans .least i (p .layer));
-            air = rw isAir (need .spans .most i (p .layer));
+            some = rw isAir (need .column .spans .least i (p .layer));
+            air = rw isAir (need .column .spans .most i (p .layer));
             tracer = omega (arith, gas-fits i (p .layer));
             part = omega arith;
             small = rw (isAir, isGas) (rw (ap (λ (D : Mismatch). D .size) is) (small i (p .layer)));
@@ -141,7 +141,7 @@ module _ (cap : Bool) {k : ℕ} {air gas q e new : List ℕ} (need : WalkNeed k 
     above-is : above cap k air gas q (at e (j + 1)) ≡ sum i (at gas) + lowPiece (slopeAt cap k q i) (at air i) (at gas i) (at e (j + 1) - passed)
     above-is =
         rw (p .is)
-        (amount-at (layerAt cap k air gas q) k (need .spans .least) i (at e (j + 1)) (p .layer) (omega (arith, p .is, p .ahead h)) (rw (← add-one i) (omega (arith, next-is (need .spans) p))))
+        (amount-at (layerAt cap k air gas q) k (need .column .spans .least) i (at e (j + 1)) (p .layer) (omega (arith, p .is, p .ahead h)) (rw (← add-one i) (omega (arith, next-is (need .column .spans) p))))
 
     -- what the code adds up is G at the edge
     pub next-above : {d : code.Mismatch} {whole piece next : ℕ} → mismatchOf d ≡ slopeAt cap k q i → whole ≡ sum i (at gas) → piece ≡ lowPiece (mismatchOf d) (at air i) (at gas i) (at e (j + 1) - passed) → next ≡ whole + piece → next ≡ above cap k air gas q (at e (j + 1))

@@ -1,5 +1,5 @@
-// The remap of one column in lent lists of at least k entries (k + 1 edges): edges, new air, ratios, the walk from edge to edge, and the count of pairs.
-// What a function writes are the first entries of its last list; the others stay.
+// The remap of one column in lent lists: edges, new air, ratios, the walk from edge to edge, and the count of pairs.
+// A list's first k entries count, of a list of edges the first k + 1.
 // An edge is air counted from the top of the column, in 64 bits, since a table that does not fit may give any.
 ghost use mathlib.Core.Path.{_≡_};
 ghost use mathlib.Core.Bool.{_&&_};
@@ -203,7 +203,7 @@ pub fn remap_gas(
     q: &mut [u64],
     new: &mut [u32],
 )
-    requires { ⌜ GasNeed k (now air) (now gas) (now e) (now q) (now new) ⌝ }
+    requires { ⌜ GasNeed k (now air) (now gas) (now q) (now e) (now new) ⌝ }
     ensures { λ r. ⌜ IsRemapped cap k (now (air .entry)) (now (gas .entry)) (now (e .entry)) (now (new .exit)) ⌝ }
 {
     fill_ratios(air, gas, k, q);

@@ -95,7 +95,7 @@ module _ (gas air table : List ℕ) (cells k : ℕ) (need : TracerNeed gas air t
         let term : sum k (λ i. at gas (i * cells + c)) ≤ sum cells (λ c. sum k (λ i. at gas (i * cells + c))) = term-le-sum cells (λ c. sum k (λ i. at gas (i * cells + c))) c h in
         omega (arith, own, whole, term, need .total)
 
-    pub gas-need : (q new : List ℕ) → k ≤ length old → k ≤ length q → k ≤ length new → GasNeed k a old e q new
+    pub gas-need : (q new : List ℕ) → k ≤ length old → k ≤ length q → k ≤ length new → GasNeed k a old q e new
     gas-need q new roomGas roomRatios room =
         record {
           spans = column-spans (need .moves .columns .fit) (need .moves .columns .some) is (need .moves .edges c h);

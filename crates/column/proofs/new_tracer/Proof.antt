@@ -26,7 +26,7 @@ abbrev μ-loop : tie.MeasureT-loop
 
 loop-holds : tie.Need-loop-holds Inv-loop μ-loop
 loop-holds c =
-    (place-start (c .before .before .before .before .before .pre .spans), sym (sum-none _), sym (above-none (c .before .before .before .before .before .args .cap) (c .before .before .before .before .before .pre)), search needs, λ t h. absurd (omega arith))
+    (place-start (c .before .before .before .before .before .pre .column .spans), sym (sum-none _), sym (above-none (c .before .before .before .before .before .args .cap) (c .before .before .before .before .before .pre)), search needs, λ t h. absurd (omega arith))
 
 mul-m : tie.Need-mul-m Inv-loop μ-loop
 mul-m c = search needs
@@ -41,10 +41,10 @@ shared-slice-read-t : tie.Need-shared-slice-read-t Inv-loop μ-loop
 shared-slice-read-t c = search needs
 
 cast-lower : tie.Need-cast-lower Inv-loop μ-loop
-cast-lower c = omega (arith, c .before .before .before .before .before .before .before .before .before .pre .spans .most (c .before .before .before .loop .i) (c .before .before .before .loop .inv .0 .layer))
+cast-lower c = omega (arith, c .before .before .before .before .before .before .before .before .before .pre .column .spans .most (c .before .before .before .loop .i) (c .before .before .before .loop .inv .0 .layer))
 
 add-lower : tie.Need-add-lower Inv-loop μ-loop
-add-lower c = omega (arith, next-fits (c .before .before .before .before .before .before .before .before .before .pre .spans) (c .before .before .before .loop .inv .0))
+add-lower c = omega (arith, next-fits (c .before .before .before .before .before .before .before .before .before .pre .column .spans) (c .before .before .before .loop .inv .0))
 
 add-edge : tie.Need-add-edge Inv-loop μ-loop
 add-edge c = search needs
@@ -70,7 +70,7 @@ loop-again : tie.Need-loop-again Inv-loop μ-loop
 loop-again c =
     let start = c .before .before .before .before .before .before .before .before .before .before .before .before in
     let l = c .before .before .before .before .before .before .loop in (
-      pass-layer (start .pre .spans) (l .inv .0) (omega arith) (c .before .if1 .taken),
+      pass-layer (start .pre .column .spans) (l .inv .0) (omega arith) (c .before .if1 .taken),
       omega (arith, c .plus .ensures, l .inv .1, sum-more (l .i) (at (start .args .gas .now))),
       l .inv .2,
       l .inv .3,
@@ -83,7 +83,7 @@ sub-inside c = omega (arith, c .before .before .before .before .before .loop .in
 cast-inside : tie.Need-cast-inside Inv-loop μ-loop
 cast-inside c =
     let l = c .before .before .before .before .before .loop in
-    omega (arith, c .before .before .before .before .before .before .before .before .before .before .before .pre .spans .most (l .i) (l .inv .0 .layer))
+    omega (arith, c .before .before .before .before .before .before .before .before .before .before .before .pre .column .spans .most (l .i) (l .inv .0 .layer))
 
 mismatch-at-requires : tie.Need-mismatch-at-requires Inv-loop μ-loop
 mismatch-at-requires c κs = search needs
@@ -124,7 +124,7 @@ loop-again-2 c =
     let next = next-above (start .args .cap) (start .pre) (l .inv .0) (omega arith) (c .before .before .before .before .if1 .left) (c .before .before .before .mismatch-at .ensures) (l .inv .1) (c .before .before .low-piece .ensures .is) (c .before .plus2 .ensures) in
     let a = start .args in
     let G : ℕ → ℕ = walk.above (a .cap) (a .k) (a .air .now) (a .gas .now) (a .q .now) in (
-      pass-edge (start .pre .spans) (l .inv .0) (omega arith),
+      pass-edge (start .pre .column .spans) (l .inv .0) (omega arith),
       l .inv .1,
       next,
       search needs,

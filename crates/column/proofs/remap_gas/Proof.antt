@@ -8,7 +8,7 @@ fill-ratios-requires : tie.Need-fill-ratios-requires
 fill-ratios-requires c κs = search needs
 
 new-tracer-requires : tie.Need-new-tracer-requires
-new-tracer-requires c κs = search needs
+new-tracer-requires c κs = record { column = search needs; ratios = search needs }
 
 same-length : tie.Need-same-length
 same-length c = search needs
