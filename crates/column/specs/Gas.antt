@@ -47,7 +47,7 @@ pub record Spans (k : ℕ) (air e : List ℕ) : Type 0 where
   pub rises : (j : ℕ) → j < k → at e j < at e (suc j)
 
 -- ---- a tracer's remap
--- and tracer within the limit, room for the ratios, and for the new amounts
+-- such layers and edges, tracer within the limit, and room for the ratios and the new amounts
 pub record GasNeed (k : ℕ) (air gas q e new : List ℕ) : Type 0 where
   pub spans : Spans k air e
   pub total : sum k (at gas) ≤ totalLimit
@@ -55,7 +55,7 @@ pub record GasNeed (k : ℕ) (air gas q e new : List ℕ) : Type 0 where
   pub roomRatios : k ≤ length q
   pub room : k ≤ length new
 
--- and the layers' ratios
+-- the same, with the ratios in q
 pub record WalkNeed (k : ℕ) (air gas q e new : List ℕ) : Type 0 where
   pub column : GasNeed k air gas q e new
   pub ratios : AreRatios k air gas q
