@@ -8,12 +8,10 @@ use native.Mathlib.Nat.{mul-le-mul}
 use native.Mathlib.Numerals.{add-one}
 use native.Mathlib.Omega.{arith}
 use lib.Dec.{leb, ltb}
-use Rattle.units.specs.declared.Air.{Air}
 use Rattle.model.specs.Limits.{airLimit, tableScale, tableLimit}
 use Rattle.model.specs.Basic.{at, every}
 use Rattle.model.specs.Remap.{edge, newAir, edgesServe}
 use Rattle.model.specs.Laws.Basic.{every-ext, tab-ext}
-use Rattle.row.specs.Row.{airAt}
 use Rattle.column.specs.Column.{AreEdges, IsServing, Served, IsNewAir}
 
 -- ---- numbers: b·P in 64 bits
@@ -42,12 +40,12 @@ module _ (k : ℕ) (e : List ℕ) where
             (λ j h. ap₂ (λ (x y : ℕ). ltb x y && leb (y - x) airLimit) (are .is j (omega arith)) (next-edge table P are j h));
       }
 
-  pub new-air-is : (r : List Air) → ((j : ℕ) → j < k → airAt r j ≡ at e (j + 1) - at e j) → IsNewAir k e r
+  pub new-air-is : (r : List ℕ) → ((j : ℕ) → j < k → at r j ≡ at e (j + 1) - at e j) → IsNewAir k e r
   new-air-is r same =
       record {
         is =
             λ table P are.
-            tab-ext k (airAt r) (newAir table P)
+            tab-ext k (at r) (newAir table P)
             (λ j h. same j h ∙ ap₂ _-_ (next-edge table P are j h) (are .is j (omega arith)));
       }
 

@@ -1,14 +1,16 @@
-// The remap of one column in local arrays: edges, new air, mismatches, the walk from edge to edge, and the count of pairs.
+// The remap of one column in lent lists: edges, new air, ratios, the walk from edge to edge, and the count of pairs.
+// A list's first k entries count, of a list of edges the first k + 1.
 // An edge is air counted from the top of the column, in 64 bits, since a table that does not fit may give any.
 ghost use mathlib.Core.Path.{_≡_};
 ghost use mathlib.Core.Bool.{_&&_};
-ghost use Prim.Native.Nat.{_+_, _-_, _*_, _/_, _≤_, min};
+ghost use Prim.Native.Nat.{_+_, _-_, _*_, _/_, _≤_, _<_, min};
 ghost use lib.ListN.{length};
 ghost use lib.Dec.{leb, ltb};
 ghost use Rattle.model.specs.Limits.{airLimit, totalLimit, tableLimit, tableScale};
 ghost use Rattle.model.specs.Step.{tableFits};
+ghost use Rattle.scheme.specs.Leaves.{mismatchOf};
 ghost use Rattle.column.specs.Column.{AirNeed, IsAirSum, EdgesNeed, AreEdges, IsServing, Served, IsNewAir};
-ghost use Rattle.column.specs.Gas.{HasAir, AreRatios, AreMismatches, Spans, WalkNeed, IsWalk, IsPairs, GasNeed, IsRemapped};
+ghost use Rattle.column.specs.Gas.{RatiosNeed, AreRatios, slopeAt, Spans, WalkNeed, IsPairs, GasNeed, IsRemapped};
 use scheme::low_piece;
 use scheme::mismatch;
 use scheme::ratio;
@@ -20,15 +22,14 @@ use units::Tracer;
 const TABLE_SCALE: u64 = 65536;
 
 // P, the air of a column of k layers.
-pub fn air_sum(air: [Air; 32], k: usize) -> u64
-    requires { ⌜ AirNeed k air ⌝ }
-    ensures { λ r. ⌜ IsAirSum k air r ⌝ }
+pub fn air_sum(air: &[u32], k: usize) -> u64
+    requires { ⌜ AirNeed k (now air) ⌝ }
+    ensures { λ r. ⌜ IsAirSum k (now (air .entry)) r ⌝ }
 {
     let mut sum: u64 = 0;
     let mut i = 0;
     while i < k {
-        let m = air[i];
-        sum += m.0 as u64;
+        sum += air[i] as u64;
         i += 1;
     }
     sum
@@ -65,18 +66,16 @@ fn edge_of(a: u32, b: u32, p: u64) -> u64
     (a as u64) + (b as u64) * p / TABLE_SCALE
 }
 
-// The k + 1 edges of a column of p units of air; 0 past them.
-pub fn edges(table: &[u32], p: u64, k: usize) -> [u64; 33]
-    requires { ⌜ EdgesNeed (now table) p k ⌝ }
-    ensures { λ r. ⌜ AreEdges (now (table .entry)) p k r ⌝ }
+// The k + 1 edges of a column of p units of air.
+pub fn fill_edges(table: &[u32], p: u64, k: usize, e: &mut [u64])
+    requires { ⌜ EdgesNeed (now table) p k (now e) ⌝ }
+    ensures { λ r. ⌜ AreEdges (now (table .entry)) p k (now (e .exit)) ⌝ }
 {
-    let mut e = [0u64; 33];
     let mut j = 0;
     while j < k + 1 {
         e[j] = edge_of(table[2 * j], table[2 * j + 1], p);
         j += 1;
     }
-    e
 }
 
 // Whether a new layer between two edges has air, and at most 65,535.
@@ -91,9 +90,9 @@ fn layer_serves(upper: u64, lower: u64) -> bool
 }
 
 // Place 12 in one column: whether its edges rise strictly, with no new layer above 65,535.
-pub fn edges_serve(e: [u64; 33], k: usize) -> bool
-    requires { ⌜ k ≤ 32 ⌝ }
-    ensures { λ r. ⌜ IsServing k e r ⌝ }
+pub fn edges_serve(e: &[u64], k: usize) -> bool
+    requires { ⌜ (k ≤ 32) × (k < length (now e)) ⌝ }
+    ensures { λ r. ⌜ IsServing k (now (e .entry)) r ⌝ }
 {
     let mut ok = true;
     let mut j = 0;
@@ -104,58 +103,48 @@ pub fn edges_serve(e: [u64; 33], k: usize) -> bool
     ok
 }
 
-// The air of the k new layers; 0 past them.
-pub fn new_air(e: [u64; 33], k: usize) -> [Air; 32]
-    requires { ⌜ Served k e ⌝ }
-    ensures { λ r. ⌜ IsNewAir k e r ⌝ }
+// The air of the k new layers.
+pub fn new_air(e: &[u64], k: usize, new: &mut [u32])
+    requires { ⌜ Served k (now e) × (k ≤ length (now new)) ⌝ }
+    ensures { λ r. ⌜ IsNewAir k (now (e .entry)) (now (new .exit)) ⌝ }
 {
-    let mut new = [Air(0); 32];
     let mut j = 0;
     while j < k {
-        let layer = (e[j + 1] - e[j]) as u32;
-        new[j] = Air(layer);
+        new[j] = (e[j + 1] - e[j]) as u32;
         j += 1;
     }
-    new
 }
 
-// The ratio of each layer; 0 past them.
-pub fn ratios(air: [Air; 32], gas: [Tracer; 32], k: usize) -> [u64; 32]
-    requires { ⌜ HasAir k air ⌝ }
-    ensures { λ r. ⌜ AreRatios k air gas r ⌝ }
+// The ratio of each layer.
+fn fill_ratios(air: &[u32], gas: &[u32], k: usize, q: &mut [u64])
+    requires { ⌜ RatiosNeed k (now air) (now gas) (now q) ⌝ }
+    ensures { λ r. ⌜ AreRatios k (now (air .entry)) (now (gas .entry)) (now (q .exit)) ⌝ }
 {
-    let mut q = [0u64; 32];
     let mut i = 0;
     while i < k {
-        let m = air[i];
-        let t = gas[i];
-        q[i] = ratio(m, t);
+        q[i] = ratio(Air(air[i]), Tracer(gas[i]));
         i += 1;
     }
-    q
 }
 
-// The mismatch of each layer with those above and below it: none in a cap's column, and none in the top and bottom layers.
-pub fn mismatches(q: [u64; 32], cap: bool, k: usize) -> [Mismatch; 32]
-    requires { ⌜ k ≤ 32 ⌝ }
-    ensures { λ r. ⌜ AreMismatches cap k q r ⌝ }
+// The mismatch of layer i with those above and below it: none in a cap's column, and none in the top and bottom layers.
+fn mismatch_at(q: &[u64], cap: bool, i: usize, k: usize) -> Mismatch
+    requires { ⌜ (k ≤ 32) × (k ≤ length (now q)) × (i < k) ⌝ }
+    ensures { λ r. ⌜ mismatchOf r ≡ slopeAt cap k (now (q .entry)) i ⌝ }
 {
     let plain = Mismatch {
         size: 0,
         positive: true,
     };
-    let mut d = [plain; 32];
-    if cap {
-        return d;
+    if cap | (i == 0) {
+        return plain;
     }
-    let mut i = 1;
-    while i + 1 < k {
-        let low = q[i - 1];
-        let high = q[i + 1];
-        d[i] = mismatch(low, q[i], high);
-        i += 1;
+    if i + 1 < k {} else {
+        return plain;
     }
-    d
+    let low = q[i - 1];
+    let high = q[i + 1];
+    mismatch(low, q[i], high)
 }
 
 fn plus(a: Tracer, b: Tracer) -> Tracer
@@ -172,19 +161,12 @@ fn minus(a: Tracer, b: Tracer) -> Tracer
     Tracer(a.0 - b.0)
 }
 
-// A tracer's amounts in the k new layers; 0 past them.
+// A tracer's amounts in the k new layers, by the ratios of the old ones.
 // The walk goes down the column once: a step passes old layer i, or the lower edge of new layer j where that is reached first.
-pub fn new_tracer(
-    air: [Air; 32],
-    gas: [Tracer; 32],
-    d: [Mismatch; 32],
-    e: [u64; 33],
-    k: usize,
-) -> [Tracer; 32]
-    requires { ⌜ WalkNeed k air gas d e ⌝ }
-    ensures { λ r. ⌜ IsWalk k air gas d e r ⌝ }
+fn new_tracer(air: &[u32], gas: &[u32], q: &[u64], cap: bool, e: &[u64], k: usize, new: &mut [u32])
+    requires { ⌜ WalkNeed k (now air) (now gas) (now q) (now e) (now new) ⌝ }
+    ensures { λ r. ⌜ IsRemapped cap k (now (air .entry)) (now (gas .entry)) (now (e .entry)) (now (new .exit)) ⌝ }
 {
-    let mut new = [Tracer(0); 32];
     let mut i = 0;
     let mut j = 0;
     let mut above: u64 = 0; // the air of the old layers passed
@@ -193,37 +175,39 @@ pub fn new_tracer(
     while j < k {
         let m = air[i];
         let t = gas[i];
-        let lower = above + (m.0 as u64);
+        let lower = above + (m as u64);
         let edge = e[j + 1];
         if lower < edge {
             above = lower;
-            whole = plus(whole, t);
+            whole = plus(whole, Tracer(t));
             i += 1;
             continue;
         }
         let inside = (edge - above) as u32; // the air of layer i above the edge
-        let next = plus(whole, low_piece(d[i], m, t, Air(inside)));
-        new[j] = minus(next, last);
+        let d = mismatch_at(q, cap, i, k);
+        let next = plus(whole, low_piece(d, Air(m), Tracer(t), Air(inside)));
+        let layer = minus(next, last);
+        new[j] = layer.0;
         last = next;
         j += 1;
     }
-    new
 }
 
-// A tracer's amounts in a column's k new layers, from the old ones; `cap` says whether the column is a cap's.
+// A tracer's amounts in a column's k new layers, from the old ones; `cap` says whether the column is a cap's, and q is filled on the way.
 pub fn remap_gas(
-    air: [Air; 32],
-    gas: [Tracer; 32],
+    air: &[u32],
+    gas: &[u32],
     cap: bool,
-    e: [u64; 33],
+    e: &[u64],
     k: usize,
-) -> [Tracer; 32]
-    requires { ⌜ GasNeed k air gas e ⌝ }
-    ensures { λ r. ⌜ IsRemapped cap k air gas e r ⌝ }
+    q: &mut [u64],
+    new: &mut [u32],
+)
+    requires { ⌜ GasNeed k (now air) (now gas) (now q) (now e) (now new) ⌝ }
+    ensures { λ r. ⌜ IsRemapped cap k (now (air .entry)) (now (gas .entry)) (now (e .entry)) (now (new .exit)) ⌝ }
 {
-    let q = ratios(air, gas, k);
-    let d = mismatches(q, cap, k);
-    new_tracer(air, gas, d, e, k)
+    fill_ratios(air, gas, k, q);
+    new_tracer(air, gas, q, cap, e, k, new);
 }
 
 // 1 where old layer i ends past the upper edge of new layer j, so that they share air, else 0.
@@ -234,17 +218,16 @@ fn shared(upper: u64, lower: u64) -> u32
 }
 
 // How many pairs of an old and a new layer share air, counted in the same walk.
-pub fn pairs(air: [Air; 32], e: [u64; 33], k: usize) -> u32
-    requires { ⌜ Spans k air e ⌝ }
-    ensures { λ r. ⌜ IsPairs k air e r ⌝ }
+pub fn pairs(air: &[u32], e: &[u64], k: usize) -> u32
+    requires { ⌜ Spans k (now air) (now e) ⌝ }
+    ensures { λ r. ⌜ IsPairs k (now (air .entry)) (now (e .entry)) r ⌝ }
 {
     let mut count: u32 = 0;
     let mut i = 0;
     let mut j = 0;
     let mut above: u64 = 0;
     while j < k {
-        let m = air[i];
-        let lower = above + (m.0 as u64);
+        let lower = above + (air[i] as u64);
         count += shared(e[j], lower);
         if lower < e[j + 1] {
             above = lower;

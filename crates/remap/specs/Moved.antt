@@ -2,25 +2,20 @@
 -- Assumes nothing.
 use Prim.Native.Nat.{ℕ, suc, _+_, _*_, _/_, _%_, _≤_, _<_}
 use mathlib.Core.List.{List}
-use mathlib.Core.Bool.{Bool, true, _||_}
+use mathlib.Core.Bool.{Bool, _||_}
 use mathlib.Core.Path.{_≡_, sym, ap, ap₂, _∙_}
-use native.Mathlib.Nat.{le-trans}
 use native.Mathlib.Numerals.{add-one}
 use native.Mathlib.Omega.{arith}
 use lib.Dec.{eqb}
 use lib.ListN.{length}
-use Rattle.units.specs.declared.Air.{Air}
-use Rattle.units.specs.declared.Tracer.{Tracer}
 use Rattle.model.specs.Limits.{totalLimit}
 use Rattle.model.specs.Basic.{at, tab, sum}
-use Rattle.model.specs.World.{airFits}
 use Rattle.model.specs.Remap.{airAbove, newAir, newTracer, layers}
 use Rattle.model.specs.Laws.Basic.{at-tab, sum-tab, sum-columns, term-le-sum}
 use Rattle.model.specs.Laws.Column.{Edges}
-use Rattle.row.specs.Row.{airAt, gasAt, airRow, gasRow}
-use Rattle.column.specs.Column.{IsNewAir, Served}
+use Rattle.column.specs.Column.{firsts, IsNewAir, Served}
 use Rattle.column.specs.Gas.{GasNeed, IsRemapped}
-use Rattle.remap.specs.Columns.{ColumnNeed, columnOf, columnSet, cell-room}
+use Rattle.remap.specs.Columns.{ColumnNeed, columnOf, columnSet}
 use Rattle.remap.specs.Served.{LoadNeed, IsColumn, ColumnsNeed, columnSum, load-need, column-spans, column-served, column-edges}
 use Rattle.remap.specs.Upto.{Upto, column-left, upto-more}
 
@@ -69,18 +64,18 @@ module _ (air table : List ℕ) (cells k : ℕ) (need : AirNeed air table cells 
   same : columnOf k cells now c ≡ columnOf k cells air c
   same = column-left k cells (airNew k cells table air) air (need .columns .long) c h now upto
 
-  module _ (a : List Air) (e : List ℕ) (is : IsColumn now table c cells k a e) where
+  module _ (a e : List ℕ) (is : IsColumn now table c cells k a e) where
     edges-now : Edges k table (columnSum k cells now c)
     edges-now = rw same (need .edges c h)
 
     pub air-served : Served k e
     air-served = column-served (need .columns .fit) (need .columns .some) is edges-now
 
-    pub air-more : (new : List Air) (next : List ℕ) → IsNewAir k e new → next ≡ columnSet cells now c (airAt new) k → Upto k cells (airNew k cells table air) air (c + 1) next
+    pub air-more : (new next : List ℕ) → IsNewAir k e new → next ≡ columnSet cells now c (at new) k → Upto k cells (airNew k cells table air) air (c + 1) next
     air-more new next made stored =
-        upto-more k cells (airNew k cells table air) air (need .columns .long) c h now upto (airAt new) next stored
+        upto-more k cells (airNew k cells table air) air (need .columns .long) c h now upto (at new) next stored
         (λ i p.
-        sym (at-tab k (airAt new) i p) ∙ ap (λ (l : List ℕ). at l i) (made .is table _ (is .edgesAre)) ∙
+        sym (at-tab k (at new) i p) ∙ ap (λ (l : List ℕ). at l i) (made .is table _ (is .edgesAre)) ∙
         at-tab k (newAir table (columnSum k cells now c)) i p ∙
         ap (λ (l : List ℕ). newAir table (airAbove l k) i) same)
 
@@ -92,27 +87,30 @@ module _ (gas air table : List ℕ) (cells k : ℕ) (need : TracerNeed gas air t
   same-gas : columnOf k cells now c ≡ columnOf k cells gas c
   same-gas = column-left k cells (gasNew k cells table air gas) gas (need .long) c h now upto
 
-  module _ (a : List Air) (e : List ℕ) (is : IsColumn air table c cells k a e) (old : List Tracer) (loaded : gasRow k old ≡ columnOf k cells now c) where
-    column-total : sum k (gasAt old) ≤ totalLimit
+  module _ (a e : List ℕ) (is : IsColumn air table c cells k a e) (old : List ℕ) (loaded : firsts k old ≡ columnOf k cells now c) where
+    column-total : sum k (at old) ≤ totalLimit
     column-total =
-        let own : sum k (gasAt old) ≡ sum k (λ i. at gas (i * cells + c)) = sym (sum-tab k (gasAt old)) ∙ ap (λ (l : List ℕ). sum k (at l)) (loaded ∙ same-gas) ∙ sum-tab k (λ i. at gas (i * cells + c)) in
+        let own : sum k (at old) ≡ sum k (λ i. at gas (i * cells + c)) = sym (sum-tab k (at old)) ∙ ap (λ (l : List ℕ). sum k (at l)) (loaded ∙ same-gas) ∙ sum-tab k (λ i. at gas (i * cells + c)) in
         let whole = sum-columns k cells (at gas) in
         let term : sum k (λ i. at gas (i * cells + c)) ≤ sum cells (λ c. sum k (λ i. at gas (i * cells + c))) = term-le-sum cells (λ c. sum k (λ i. at gas (i * cells + c))) c h in
         omega (arith, own, whole, term, need .total)
 
-    pub gas-need : GasNeed k a old e
-    gas-need =
+    pub gas-need : (q new : List ℕ) → k ≤ length old → k ≤ length q → k ≤ length new → GasNeed k a old q e new
+    gas-need q new roomGas roomRatios room =
         record {
           spans = column-spans (need .moves .columns .fit) (need .moves .columns .some) is (need .moves .edges c h);
           total = column-total;
+          roomGas = roomGas;
+          roomRatios = roomRatios;
+          room = room;
         }
 
-    pub gas-more : (cap : Bool) (new : List Tracer) (next : List ℕ) → cap ≡ eqb c 0 || eqb (c + 1) cells → IsRemapped cap k a old e new → next ≡ columnSet cells now c (gasAt new) k → Upto k cells (gasNew k cells table air gas) gas (c + 1) next
+    pub gas-more : (cap : Bool) (new next : List ℕ) → cap ≡ eqb c 0 || eqb (c + 1) cells → IsRemapped cap k a old e new → next ≡ columnSet cells now c (at new) k → Upto k cells (gasNew k cells table air gas) gas (c + 1) next
     gas-more cap new next cap-is made stored =
-        upto-more k cells (gasNew k cells table air gas) gas (need .long) c h now upto (gasAt new) next stored
+        upto-more k cells (gasNew k cells table air gas) gas (need .long) c h now upto (at new) next stored
         (λ i p.
-        sym (at-tab k (gasAt new) i p) ∙
+        sym (at-tab k (at new) i p) ∙
         ap (λ (l : List ℕ). at l i) (made .is table (column-edges (need .moves .columns .fit) (need .moves .columns .some) is (need .moves .edges c h))) ∙
-        at-tab k (newTracer table (airAbove (airRow k a) k) (layers cap k (airRow k a) (gasRow k old))) i p ∙
+        at-tab k (newTracer table (airAbove (firsts k a) k) (layers cap k (firsts k a) (firsts k old))) i p ∙
         ap₂ (λ (x y : List ℕ). newTracer table (airAbove x k) (layers cap k x y) i) (is .airIs) (loaded ∙ same-gas) ∙
         ap (λ (b : Bool). newTracer table (columnSum k cells air c) (layers b k (columnOf k cells air c) (columnOf k cells gas c)) i) (cap-is ∙ ap (λ (n : ℕ). eqb c 0 || eqb n cells) (add-one c)))

@@ -6,17 +6,15 @@ use mathlib.Core.Bool.{Bool, true, false, _&&_, true≢false}
 use mathlib.Core.Path.{_≡_, sym, ap, ap₂, _∙_}
 use native.Mathlib.Omega.{arith}
 use lib.ListN.{length}
-use Rattle.units.specs.declared.Air.{Air}
 use Rattle.model.specs.Limits.{airLimit}
-use Rattle.model.specs.Basic.{at, tab, sum, every}
+use Rattle.model.specs.Basic.{at, sum, every}
 use Rattle.model.specs.World.{airFits}
 use Rattle.model.specs.Remap.{airAbove, edgesServe, columnCount}
 use Rattle.model.specs.Step.{tableFits}
-use Rattle.model.specs.Laws.Basic.{at-tab, every-at, every-none, every-more, every-false, sum-none, sum-more}
+use Rattle.model.specs.Laws.Basic.{at-tab, every-none, every-more, every-false, sum-none, sum-more}
 use Rattle.model.specs.Laws.Substep.{air-bounds}
 use Rattle.model.specs.Laws.Column.{Edges, edges-serve}
-use Rattle.row.specs.Row.{airAt, airRow}
-use Rattle.column.specs.Column.{AirNeed, IsAirSum, EdgesNeed, AreEdges, IsServing, Served}
+use Rattle.column.specs.Column.{firsts, AirNeed, IsAirSum, AreEdges, IsServing, Served}
 use Rattle.column.specs.Gas.{Spans, IsPairs}
 use Rattle.remap.specs.Columns.{ColumnNeed, columnOf, cell-room}
 
@@ -32,26 +30,30 @@ abbrev pub columnSum : ℕ → ℕ → List ℕ → ℕ → ℕ
 columnSum k cells air c = airAbove (columnOf k cells air c) k
 
 -- a has the column's air, e the table's edges in it
-pub record IsColumn (air table : List ℕ) (c cells k : ℕ) (a : List Air) (e : List ℕ) : Type 0 where
-  pub airIs : airRow k a ≡ columnOf k cells air c
-  pub least : (i : ℕ) → i < k → 1 ≤ airAt a i
-  pub most : (i : ℕ) → i < k → airAt a i ≤ airLimit
+pub record IsColumn (air table : List ℕ) (c cells k : ℕ) (a e : List ℕ) : Type 0 where
+  pub roomAir : k ≤ length a
+  pub roomEdges : k < length e
+  pub airIs : firsts k a ≡ columnOf k cells air c
+  pub least : (i : ℕ) → i < k → 1 ≤ at a i
+  pub most : (i : ℕ) → i < k → at a i ≤ airLimit
   pub edgesAre : AreEdges table (columnSum k cells air c) k e
 
-module _ {air table : List ℕ} {c cells k : ℕ} (need : LoadNeed air table c cells k) (a : List Air) (is : airRow k a ≡ columnOf k cells air c) where
-  loaded-at : (i : ℕ) → i < k → airAt a i ≡ at air (i * cells + c)
+module _ {air table : List ℕ} {c cells k : ℕ} (need : LoadNeed air table c cells k) (a : List ℕ) (is : firsts k a ≡ columnOf k cells air c) where
+  loaded-at : (i : ℕ) → i < k → at a i ≡ at air (i * cells + c)
   loaded-at i h =
-      sym (at-tab k (airAt a) i h) ∙ ap (λ (l : List ℕ). at l i) is ∙ at-tab k (λ i. at air (i * cells + c)) i h
+      sym (at-tab k (at a) i h) ∙ ap (λ (l : List ℕ). at l i) is ∙ at-tab k (λ i. at air (i * cells + c)) i h
 
-  loaded-bounds : (i : ℕ) → i < k → (1 ≤ airAt a i) × (airAt a i ≤ airLimit)
+  loaded-bounds : (i : ℕ) → i < k → (1 ≤ at a i) × (at a i ≤ airLimit)
   loaded-bounds i h = rw (loaded-at i h) (air-bounds _ (need .airIn i h))
 
-  pub air-need : AirNeed k a
-  air-need = record { fit = need .column .fit; most = λ i h. loaded-bounds i h .1 }
+  pub air-need : k ≤ length a → AirNeed k a
+  air-need room = record { fit = need .column .fit; room = room; most = λ i h. loaded-bounds i h .1 }
 
-  pub column-is : {P : ℕ} {e : List ℕ} → IsAirSum k a P → AreEdges table P k e → IsColumn air table c cells k a e
-  column-is {P} {e} sums edges =
+  pub column-is : {P : ℕ} {e : List ℕ} → k ≤ length a → k < length e → IsAirSum k a P → AreEdges table P k e → IsColumn air table c cells k a e
+  column-is {P} {e} roomAir roomEdges sums edges =
       record {
+        roomAir = roomAir;
+        roomEdges = roomEdges;
         airIs = is;
         least = λ i h. loaded-bounds i h .0;
         most = λ i h. loaded-bounds i h .1;
@@ -59,12 +61,14 @@ module _ {air table : List ℕ} {c cells k : ℕ} (need : LoadNeed air table c c
       }
 
 -- edges that serve, as the functions of one column need them
-module _ {air table : List ℕ} {c cells k : ℕ} {a : List Air} {e : List ℕ} (fit : k ≤ 32) (some : 1 ≤ k) (is : IsColumn air table c cells k a e) (edges : Edges k table (columnSum k cells air c)) where
+module _ {air table : List ℕ} {c cells k : ℕ} {a e : List ℕ} (fit : k ≤ 32) (some : 1 ≤ k) (is : IsColumn air table c cells k a e) (edges : Edges k table (columnSum k cells air c)) where
   pub column-spans : Spans k a e
   column-spans =
       record {
         some = some;
         fit = fit;
+        roomAir = is .roomAir;
+        roomEdges = is .roomEdges;
         least = is .least;
         most = is .most;
         first = is .edgesAre .is 0 (omega arith) ∙ edges .first;
@@ -76,12 +80,13 @@ module _ {air table : List ℕ} {c cells k : ℕ} {a : List Air} {e : List ℕ} 
   column-served =
       record {
         fit = fit;
+        room = is .roomEdges;
         rises = λ j h. rw (is .edgesAre .is j (omega arith), is .edgesAre .is (suc j) (omega arith)) (edges .rises j h);
         most = λ j h. rw (is .edgesAre .is j (omega arith), is .edgesAre .is (suc j) (omega arith)) (edges .most j h);
       }
 
-  -- the edges, of the array's own air
-  pub column-edges : AreEdges table (airAbove (airRow k a) k) k e
+  -- the edges, of the loaded air
+  pub column-edges : AreEdges table (airAbove (firsts k a) k) k e
   column-edges = rw (is .airIs) (is .edgesAre)
 
 -- ---- all columns
@@ -128,7 +133,7 @@ module _ (air table : List ℕ) (cells k : ℕ) (need : ColumnsNeed air table ce
   pub upto-start : ServedUpto air table cells k 0 0
   upto-start = record { inside = omega arith; serve = every-none _; counted = sym (sum-none _); few = omega arith }
 
-  module _ (c : ℕ) (h : c < cells) (a : List Air) (e : List ℕ) (is : IsColumn air table c cells k a e) where
+  module _ (c : ℕ) (h : c < cells) (a e : List ℕ) (is : IsColumn air table c cells k a e) where
     pub not-served : (r : Bool) → IsServing k e r → r ≡ false → AreServed air table cells k false 0
     not-served r serving fails =
         record {

@@ -1,9 +1,11 @@
 // The remap of all columns.
 ghost use mathlib.Core.Path.{_≡_};
 ghost use mathlib.Core.Bool.{_||_};
-ghost use Prim.Native.Nat.{_+_, _<_};
+ghost use Prim.Native.Nat.{_+_, _≤_, _<_};
 ghost use lib.Dec.{eqb};
-ghost use Rattle.row.specs.Row.{airAt, gasAt, airRow, gasRow};
+ghost use lib.ListN.{length};
+ghost use Rattle.model.specs.Basic.{at};
+ghost use Rattle.column.specs.Column.{firsts};
 ghost use Rattle.remap.specs.Columns.{ColumnNeed, columnOf, columnSet};
 ghost use Rattle.remap.specs.Served.{LoadNeed, IsColumn, ColumnsNeed, AreServed};
 ghost use Rattle.remap.specs.Moved.{AirNeed, TracerNeed, airMoved, gasMoved};
@@ -13,89 +15,60 @@ ghost use Rattle.model.specs.Step.{step, remap as remap-call};
 ghost use Rattle.units.specs.Answer.{Agrees};
 ghost use Rattle.units.specs.Grid.{worldOf};
 use column::air_sum;
-use column::edges;
 use column::edges_serve;
+use column::fill_edges;
 use column::new_air;
 use column::pairs;
 use column::remap_gas;
 use column::table_fits;
 use places::Lent;
 use places::common_places;
-use units::Air;
 use units::Answer;
 use units::Grid;
 use units::Refusal;
-use units::Tracer;
 use units::layer_cells;
 use units::number;
 
-// The column at place c of the lent air, k layers of `cells` places each, as an array.
-fn load_air(air: &[u32], c: usize, cells: usize, k: usize) -> [Air; 32]
-    requires { ⌜ ColumnNeed (now air) c cells k ⌝ }
-    ensures { λ r. ⌜ airRow k r ≡ columnOf k cells (now (air .entry)) c ⌝ }
+// Copies the column at place c of lent amounts, k layers of `cells` places each, to the first k entries of `column`.
+fn load(list: &[u32], c: usize, cells: usize, k: usize, column: &mut [u32])
+    requires { ⌜ ColumnNeed (now list) c cells k × (k ≤ length (now column)) ⌝ }
+    ensures { λ r. ⌜ firsts k (now (column .exit)) ≡ columnOf k cells (now (list .entry)) c ⌝ }
 {
-    let mut column = [Air(0); 32];
     let mut i = 0;
     while i < k {
-        column[i] = Air(air[i * cells + c]);
+        column[i] = list[i * cells + c];
         i += 1;
     }
-    column
-}
-
-// The same of one tracer's lent amounts.
-fn load_gas(gas: &[u32], c: usize, cells: usize, k: usize) -> [Tracer; 32]
-    requires { ⌜ ColumnNeed (now gas) c cells k ⌝ }
-    ensures { λ r. ⌜ gasRow k r ≡ columnOf k cells (now (gas .entry)) c ⌝ }
-{
-    let mut column = [Tracer(0); 32];
-    let mut i = 0;
-    while i < k {
-        column[i] = Tracer(gas[i * cells + c]);
-        i += 1;
-    }
-    column
 }
 
 // Writes a column back.
-fn store_air(column: [Air; 32], air: &mut [u32], c: usize, cells: usize, k: usize)
-    requires { ⌜ ColumnNeed (now air) c cells k ⌝ }
-    ensures { λ r. ⌜ now (air .exit) ≡ columnSet cells (now (air .entry)) c (airAt column) k ⌝ }
+fn store(column: &[u32], list: &mut [u32], c: usize, cells: usize, k: usize)
+    requires { ⌜ ColumnNeed (now list) c cells k × (k ≤ length (now column)) ⌝ }
+    ensures { λ r. ⌜ now (list .exit) ≡ columnSet cells (now (list .entry)) c (at (now (column .entry))) k ⌝ }
 {
     let mut i = 0;
     while i < k {
-        let m = column[i];
-        air[i * cells + c] = m.0;
+        list[i * cells + c] = column[i];
         i += 1;
     }
 }
 
-fn store_gas(column: [Tracer; 32], gas: &mut [u32], c: usize, cells: usize, k: usize)
-    requires { ⌜ ColumnNeed (now gas) c cells k ⌝ }
-    ensures { λ r. ⌜ now (gas .exit) ≡ columnSet cells (now (gas .entry)) c (gasAt column) k ⌝ }
+// Loads a column's air, and fills the table's edges in it.
+fn load_column(
+    air: &[u32],
+    table: &[u32],
+    c: usize,
+    cells: usize,
+    k: usize,
+    a: &mut [u32],
+    e: &mut [u64],
+)
+    requires { ⌜ LoadNeed (now air) (now table) c cells k × (k ≤ length (now a)) × (k < length (now e)) ⌝ }
+    ensures { λ r. ⌜ IsColumn (now (air .entry)) (now (table .entry)) c cells k (now (a .exit)) (now (e .exit)) ⌝ }
 {
-    let mut i = 0;
-    while i < k {
-        let m = column[i];
-        gas[i * cells + c] = m.0;
-        i += 1;
-    }
-}
-
-// A column's air, and the table's edges in it.
-struct Column {
-    air: [Air; 32],
-    edges: [u64; 33],
-}
-
-fn load_column(air: &[u32], table: &[u32], c: usize, cells: usize, k: usize) -> Column
-    requires { ⌜ LoadNeed (now air) (now table) c cells k ⌝ }
-    ensures { λ r. ⌜ IsColumn (now (air .entry)) (now (table .entry)) c cells k (r .air) (r .edges) ⌝ }
-{
-    let a = load_air(air, c, cells, k);
+    load(air, c, cells, k, a);
     let p = air_sum(a, k);
-    let e = edges(table, p, k);
-    Column { air: a, edges: e }
+    fill_edges(table, p, k, e);
 }
 
 // Whether every column's edges serve; then the count of pairs in all columns.
@@ -109,19 +82,19 @@ fn columns_serve(air: &[u32], table: &[u32], cells: usize, k: usize) -> Serving
     requires { ⌜ ColumnsNeed (now air) (now table) cells k ⌝ }
     ensures { λ r. ⌜ AreServed (now (air .entry)) (now (table .entry)) cells k (r .ok) (r .count) ⌝ }
 {
+    let mut a = [0u32; 32];
+    let mut e = [0u64; 33];
     let mut count: u32 = 0;
     let mut c = 0;
     while c < cells {
-        let column = load_column(air, table, c, cells, k);
-        let a = column.air;
-        let e = column.edges;
-        if edges_serve(e, k) {} else {
+        load_column(air, table, c, cells, k, &mut a, &mut e);
+        if edges_serve(&e, k) {} else {
             return Serving {
                 ok: false,
                 count: 0,
             };
         }
-        count += pairs(a, e, k);
+        count += pairs(&a, &e, k);
         c += 1;
     }
     Serving { ok: true, count }
@@ -140,14 +113,18 @@ fn move_tracer(gas: &mut [u32], air: &[u32], table: &[u32], cells: usize, k: usi
     requires { ⌜ TracerNeed (now gas) (now air) (now table) cells k ⌝ }
     ensures { λ r. ⌜ now (gas .exit) ≡ gasMoved k cells (now (table .entry)) (now (air .entry)) (now (gas .entry)) ⌝ }
 {
+    let mut a = [0u32; 32];
+    let mut e = [0u64; 33];
+    let mut old = [0u32; 32];
+    let mut q = [0u64; 32];
+    let mut new = [0u32; 32];
     let mut c = 0;
     while c < cells {
-        let column = load_column(air, table, c, cells, k);
-        let a = column.air;
-        let e = column.edges;
-        let old = load_gas(gas, c, cells, k);
-        let new = remap_gas(a, old, is_cap(c, cells), e, k);
-        store_gas(new, gas, c, cells, k);
+        load_column(air, table, c, cells, k, &mut a, &mut e);
+        load(gas, c, cells, k, &mut old);
+        let cap = is_cap(c, cells);
+        remap_gas(&a, &old, cap, &e, k, &mut q, &mut new);
+        store(&new, gas, c, cells, k);
         c += 1;
     }
 }
@@ -157,11 +134,13 @@ fn move_air(air: &mut [u32], table: &[u32], cells: usize, k: usize)
     requires { ⌜ AirNeed (now air) (now table) cells k ⌝ }
     ensures { λ r. ⌜ now (air .exit) ≡ airMoved k cells (now (table .entry)) (now (air .entry)) ⌝ }
 {
+    let mut a = [0u32; 32];
+    let mut e = [0u64; 33];
     let mut c = 0;
     while c < cells {
-        let column = load_column(air, table, c, cells, k);
-        let e = column.edges;
-        store_air(new_air(e, k), air, c, cells, k);
+        load_column(air, table, c, cells, k, &mut a, &mut e);
+        new_air(&e, k, &mut a);
+        store(&a, air, c, cells, k);
         c += 1;
     }
 }

@@ -5,35 +5,30 @@ use mathlib.Core.Path.{_≡_, sym, ap, _∙_}
 use native.Mathlib.Omega.{arith}
 use Rattle.model.specs.Basic as model
 use Rattle.model.specs.Laws.Basic.{sum-none, sum-more, sum-tab}
-use Rattle.row.specs.Row.{airAt}
 use borrow.Author.Needs.{needs}
 use Rattle.column.proofs.air_sum.Statement.{statement}
 use Rattle.column.proofs.air_sum.Tie as tie
 
 abbrev Inv-loop : tie.InvT-loop
-Inv-loop k air sum₀ i₀ sum i = (i ≤ k) × (sum ≡ model.sum i (airAt air)) × (sum ≤ 65535 * i)
+Inv-loop air k sum₀ i₀ sum i = (i ≤ k) × (sum ≡ model.sum i (model.at air)) × (sum ≤ 65535 * i)
 
 abbrev μ-loop : tie.MeasureT-loop
-μ-loop k air sum₀ i₀ sum i = k - i
+μ-loop air k sum₀ i₀ sum i = k - i
 
 loop-holds : tie.Need-loop-holds Inv-loop μ-loop
 loop-holds c = (search needs, sym (sum-none _), search needs)
 
-mul-m : tie.Need-mul-m Inv-loop μ-loop
-mul-m c = search needs
+mul-sum : tie.Need-mul-sum Inv-loop μ-loop
+mul-sum c = search needs
 
-array-copy-out-m : tie.Need-array-copy-out-m Inv-loop μ-loop
-array-copy-out-m c = search needs
+shared-slice-read-sum : tie.Need-shared-slice-read-sum Inv-loop μ-loop
+shared-slice-read-sum c = search needs
 
 cast-sum : tie.Need-cast-sum Inv-loop μ-loop
-cast-sum c =
-    let start = c .before .before .before .before in
-    omega (arith, start .pre .most (c .before .before .before .loop .i) (omega arith))
+cast-sum c = omega (arith, c .before .before .before .pre .most (c .before .before .loop .i) (omega arith))
 
 add-sum : tie.Need-add-sum Inv-loop μ-loop
-add-sum c =
-    let start = c .before .before .before .before in
-    omega (arith, start .pre .most (c .before .before .before .loop .i) (omega arith))
+add-sum c = omega (arith, c .before .before .before .pre .most (c .before .before .loop .i) (omega arith))
 
 add-i : tie.Need-add-i Inv-loop μ-loop
 add-i c = search needs
@@ -43,10 +38,10 @@ loop-less c = search needs
 
 loop-again : tie.Need-loop-again Inv-loop μ-loop
 loop-again c =
-    let start = c .before .before .before .before in
-    let l = c .before .before .before .loop in (
+    let start = c .before .before .before in
+    let l = c .before .before .loop in (
       search needs,
-      omega (arith, sum-more (l .i) (airAt (start .args .t1)), l .inv .1),
+      omega (arith, sum-more (l .i) (model.at (start .args .air .now)), l .inv .1),
       omega (arith, start .pre .most (l .i) (omega arith)),
     )
 
@@ -56,7 +51,7 @@ returns c =
     let l = c .before .loop in
     let done : l .i ≡ a .k = omega arith in
     record {
-      is = l .inv .1 ∙ ap (λ n. model.sum n (airAt (a .t1))) done ∙ sym (sum-tab (a .k) (airAt (a .t1)));
+      is = l .inv .1 ∙ ap (λ n. model.sum n (model.at (a .air .now))) done ∙ sym (sum-tab (a .k) (model.at (a .air .now)));
       most = omega arith;
     }
 
@@ -67,8 +62,8 @@ air-sum-spec =
     Inv-loop
     μ-loop
     loop-holds
-    mul-m
-    array-copy-out-m
+    mul-sum
+    shared-slice-read-sum
     cast-sum
     add-sum
     add-i

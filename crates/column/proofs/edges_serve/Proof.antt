@@ -12,10 +12,10 @@ use Rattle.column.proofs.edges_serve.Statement.{statement}
 use Rattle.column.proofs.edges_serve.Tie as tie
 
 abbrev Inv-loop : tie.InvT-loop
-Inv-loop k e ok₀ j₀ ok j = (j ≤ k) × (ok ≡ every j (servesAt e))
+Inv-loop e k ok₀ j₀ ok j = (j ≤ k) × (ok ≡ every j (servesAt e))
 
 abbrev μ-loop : tie.MeasureT-loop
-μ-loop k e ok₀ j₀ ok j = k - j
+μ-loop e k ok₀ j₀ ok j = k - j
 
 loop-holds : tie.Need-loop-holds Inv-loop μ-loop
 loop-holds c = (search needs, sym (every-none _))
@@ -23,8 +23,8 @@ loop-holds c = (search needs, sym (every-none _))
 mul-layer-serves : tie.Need-mul-layer-serves Inv-loop μ-loop
 mul-layer-serves c = search needs
 
-array-read-layer-serves : tie.Need-array-read-layer-serves Inv-loop μ-loop
-array-read-layer-serves c = search needs
+shared-slice-read-layer-serves : tie.Need-shared-slice-read-layer-serves Inv-loop μ-loop
+shared-slice-read-layer-serves c = search needs
 
 add-layer-serves : tie.Need-add-layer-serves Inv-loop μ-loop
 add-layer-serves c = search needs
@@ -32,8 +32,8 @@ add-layer-serves c = search needs
 mul-layer-serves-2 : tie.Need-mul-layer-serves-2 Inv-loop μ-loop
 mul-layer-serves-2 c = search needs
 
-array-read-layer-serves-2 : tie.Need-array-read-layer-serves-2 Inv-loop μ-loop
-array-read-layer-serves-2 c = search needs
+shared-slice-read-layer-serves-2 : tie.Need-shared-slice-read-layer-serves-2 Inv-loop μ-loop
+shared-slice-read-layer-serves-2 c = search needs
 
 layer-serves-requires : tie.Need-layer-serves-requires Inv-loop μ-loop
 layer-serves-requires c κs = search needs
@@ -46,19 +46,19 @@ loop-less c = search needs
 
 loop-again : tie.Need-loop-again Inv-loop μ-loop
 loop-again c =
-    let a = c .before .before .before .args in
-    let l = c .before .before .loop in (
+    let a = c .before .before .before .before .before .before .args in
+    let l = c .before .before .before .before .loop in (
       search needs,
-      ap₂ _&&_ (l .inv .1) (c .layer-serves .ensures) ∙ sym (every-more (l .j) (servesAt (a .t1))),
+      ap₂ _&&_ (l .inv .1) (c .layer-serves .ensures) ∙ sym (every-more (l .j) (servesAt (a .e .now))),
     )
 
 returns : tie.Need-returns Inv-loop μ-loop
 returns c =
-    let a = c .before .before .args in
+    let a = c .before .before .before .args in
     let l = c .before .loop in
     let done : l .j ≡ a .k = omega arith in
-    let is : l .ok ≡ every (a .k) (servesAt (a .t1)) = l .inv .1 ∙ ap (λ (n : ℕ). every n (servesAt (a .t1))) done in
-    rw is (serving-is (a .k) (a .t1))
+    let is : l .ok ≡ every (a .k) (servesAt (a .e .now)) = l .inv .1 ∙ ap (λ (n : ℕ). every n (servesAt (a .e .now))) done in
+    rw is (serving-is (a .k) (a .e .now))
 
 pub edges-serve-spec : {M : Type 1} → statement M
 edges-serve-spec =
@@ -68,10 +68,10 @@ edges-serve-spec =
     μ-loop
     loop-holds
     mul-layer-serves
-    array-read-layer-serves
+    shared-slice-read-layer-serves
     add-layer-serves
     mul-layer-serves-2
-    array-read-layer-serves-2
+    shared-slice-read-layer-serves-2
     layer-serves-requires
     add-j
     loop-less

@@ -6,47 +6,46 @@ use native.Mathlib.Omega.{arith}
 use lib.ListN.{length}
 use Rattle.model.specs.Basic.{at}
 use Rattle.model.specs.Laws.Entries.{entries-more}
-use Rattle.row.specs.Row.{airAt}
 use Rattle.column.specs.Laws.{new-air-is, edge-steps}
 use borrow.Author.Needs.{needs}
 use Rattle.column.proofs.new_air.Statement.{statement}
 use Rattle.column.proofs.new_air.Tie as tie
 
 abbrev Inv-loop : tie.InvT-loop
-Inv-loop k e new₀ j₀ new j = (j ≤ k) × (length new ≡ 32) × ((t : ℕ) → t < j → airAt new t ≡ at e (t + 1) - at e t)
+Inv-loop e k new₀ j₀ new j = (j ≤ k) × (length new ≡ length new₀) × ((t : ℕ) → t < j → at new t ≡ at e (t + 1) - at e t)
 
 abbrev μ-loop : tie.MeasureT-loop
-μ-loop k e new₀ j₀ new j = k - j
+μ-loop e k new₀ j₀ new j = k - j
 
 loop-holds : tie.Need-loop-holds Inv-loop μ-loop
 loop-holds c = (search needs, search needs, λ t h. absurd (omega arith))
 
-add-layer : tie.Need-add-layer Inv-loop μ-loop
-add-layer c = search needs
-
-mul-layer : tie.Need-mul-layer Inv-loop μ-loop
-mul-layer c = search needs
-
-array-read-layer : tie.Need-array-read-layer Inv-loop μ-loop
-array-read-layer c = search needs
-
-mul-layer-2 : tie.Need-mul-layer-2 Inv-loop μ-loop
-mul-layer-2 c = search needs
-
-array-read-layer-2 : tie.Need-array-read-layer-2 Inv-loop μ-loop
-array-read-layer-2 c = search needs
-
-sub-layer : tie.Need-sub-layer Inv-loop μ-loop
-sub-layer c = omega (arith, edge-steps (c .before .before .pre) (c .before .loop .j) (omega arith))
-
-cast-layer : tie.Need-cast-layer Inv-loop μ-loop
-cast-layer c = omega (arith, edge-steps (c .before .before .pre) (c .before .loop .j) (omega arith))
+add-new : tie.Need-add-new Inv-loop μ-loop
+add-new c = search needs
 
 mul-new : tie.Need-mul-new Inv-loop μ-loop
 mul-new c = search needs
 
-array-set-from-new : tie.Need-array-set-from-new Inv-loop μ-loop
-array-set-from-new c = search needs
+shared-slice-read-new : tie.Need-shared-slice-read-new Inv-loop μ-loop
+shared-slice-read-new c = search needs
+
+mul-new-2 : tie.Need-mul-new-2 Inv-loop μ-loop
+mul-new-2 c = search needs
+
+shared-slice-read-new-2 : tie.Need-shared-slice-read-new-2 Inv-loop μ-loop
+shared-slice-read-new-2 c = search needs
+
+sub-new : tie.Need-sub-new Inv-loop μ-loop
+sub-new c = omega (arith, edge-steps (c .before .before .before .before .pre .0) (c .before .before .before .loop .j) (omega arith))
+
+cast-new : tie.Need-cast-new Inv-loop μ-loop
+cast-new c = omega (arith, edge-steps (c .before .before .before .before .pre .0) (c .before .before .before .loop .j) (omega arith))
+
+mul-new-3 : tie.Need-mul-new-3 Inv-loop μ-loop
+mul-new-3 c = search needs
+
+slice-write-new : tie.Need-slice-write-new Inv-loop μ-loop
+slice-write-new c = search needs
 
 add-j : tie.Need-add-j Inv-loop μ-loop
 add-j c = search needs
@@ -56,17 +55,20 @@ loop-less c = search needs
 
 loop-again : tie.Need-loop-again Inv-loop μ-loop
 loop-again c =
-    let a = c .before .before .args in
-    let l = c .before .loop in (
+    let a = c .before .before .before .before .args in
+    let l = c .before .before .before .loop in (
       search needs,
       search needs,
-      entries-more (record { 0 = 0 }) (l .new) (l .j) _ (λ t x. x .0 ≡ at (a .t1) (t + 1) - at (a .t1) t) (search needs) (l .inv .2) refl,
+      entries-more 0 (l .new) (l .j) _ (λ t x. x ≡ at (a .e .now) (t + 1) - at (a .e .now) t) (search needs) (l .inv .2) refl,
     )
+
+same-length : tie.Need-same-length Inv-loop μ-loop
+same-length c = search needs
 
 returns : tie.Need-returns Inv-loop μ-loop
 returns c =
     let a = c .before .before .args in
-    new-air-is (a .k) (a .t1) (c .before .loop .new) (λ t h. c .before .loop .inv .2 t (omega arith))
+    new-air-is (a .k) (a .e .now) (c .before .loop .new) (λ t h. c .before .loop .inv .2 t (omega arith))
 
 pub new-air-spec : {M : Type 1} → statement M
 new-air-spec =
@@ -75,16 +77,17 @@ new-air-spec =
     Inv-loop
     μ-loop
     loop-holds
-    add-layer
-    mul-layer
-    array-read-layer
-    mul-layer-2
-    array-read-layer-2
-    sub-layer
-    cast-layer
+    add-new
     mul-new
-    array-set-from-new
+    shared-slice-read-new
+    mul-new-2
+    shared-slice-read-new-2
+    sub-new
+    cast-new
+    mul-new-3
+    slice-write-new
     add-j
     loop-less
     loop-again
+    same-length
     returns)

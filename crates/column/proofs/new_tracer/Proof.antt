@@ -2,55 +2,49 @@
 -- The measure is what is left of old and new layers. Assumes nothing.
 use Prim.Native.Nat.{ℕ, _+_, _-_, _<_}
 use mathlib.Core.Path.{_≡_, refl, sym, ap₂, _∙_}
-use native.Mathlib.Numerals.{add-one}
 use native.Mathlib.Omega.{arith}
 use lib.ListN.{length}
 use Rattle.model.specs.Basic.{at, sum}
 use Rattle.model.specs.Laws.Basic.{sum-none, sum-more}
 use Rattle.model.specs.Laws.Entries.{entries-more}
-use Rattle.row.specs.Row.{gasAt}
-use Rattle.column.specs.Gas as gas-specs
-use Rattle.column.specs.Walk.{Place, place-start, pass-layer, pass-edge, next-fits, above-none, above-rises, next-above, gas-fits, walk-giver}
+use Rattle.column.specs.Walk as walk
+use Rattle.column.specs.Walk.{Place, place-start, pass-layer, pass-edge, next-fits, above-none, above-rises, next-above, gas-fits, walk-giver, remapped-is}
 use borrow.Author.Needs.{needs}
 use Rattle.column.proofs.new_tracer.Statement.{statement}
 use Rattle.column.proofs.new_tracer.Tie as tie
 
 abbrev Inv-loop : tie.InvT-loop
-Inv-loop k air gas d e new₀ i₀ j₀ above₀ whole₀ last₀ new i j above whole last =
+Inv-loop air gas q cap e k new₀ i₀ j₀ above₀ whole₀ last₀ new i j above whole last =
     Place k air e i j above
-    × (whole .0 ≡ sum i (gasAt gas))
-    × (last .0 ≡ gas-specs.above k air gas d (at e j))
-    × (length new ≡ 32)
-    × ((t : ℕ) → t < j → gasAt new t ≡ gas-specs.above k air gas d (at e (t + 1)) - gas-specs.above k air gas d (at e t))
+    × (whole .0 ≡ sum i (at gas))
+    × (last .0 ≡ walk.above cap k air gas q (at e j))
+    × (length new ≡ length new₀)
+    × ((t : ℕ) → t < j → at new t ≡ walk.above cap k air gas q (at e (t + 1)) - walk.above cap k air gas q (at e t))
 
 abbrev μ-loop : tie.MeasureT-loop
-μ-loop k air gas d e new₀ i₀ j₀ above₀ whole₀ last₀ new i j above whole last = (k - i) + (k - j)
+μ-loop air gas q cap e k new₀ i₀ j₀ above₀ whole₀ last₀ new i j above whole last = (k - i) + (k - j)
 
 loop-holds : tie.Need-loop-holds Inv-loop μ-loop
 loop-holds c =
-    let pre = c .pre in
-    (place-start (pre .spans), sym (sum-none _), sym (above-none pre), search needs, λ t h. absurd (omega arith))
+    (place-start (c .before .before .before .before .before .pre .column .spans), sym (sum-none _), sym (above-none (c .before .before .before .before .before .args .cap) (c .before .before .before .before .before .pre)), search needs, λ t h. absurd (omega arith))
 
 mul-m : tie.Need-mul-m Inv-loop μ-loop
 mul-m c = search needs
 
-array-copy-out-m : tie.Need-array-copy-out-m Inv-loop μ-loop
-array-copy-out-m c = search needs
+shared-slice-read-m : tie.Need-shared-slice-read-m Inv-loop μ-loop
+shared-slice-read-m c = search needs
 
 mul-t : tie.Need-mul-t Inv-loop μ-loop
 mul-t c = search needs
 
-array-copy-out-t : tie.Need-array-copy-out-t Inv-loop μ-loop
-array-copy-out-t c = search needs
+shared-slice-read-t : tie.Need-shared-slice-read-t Inv-loop μ-loop
+shared-slice-read-t c = search needs
 
 cast-lower : tie.Need-cast-lower Inv-loop μ-loop
-cast-lower c = search needs
+cast-lower c = omega (arith, c .before .before .before .before .before .before .before .before .before .pre .column .spans .most (c .before .before .before .loop .i) (c .before .before .before .loop .inv .0 .layer))
 
 add-lower : tie.Need-add-lower Inv-loop μ-loop
-add-lower c =
-    let loop = c .before .before .before .before .loop in
-    let start = c .before .before .before .before .before in
-    omega (arith, next-fits (start .pre .spans) (loop .inv .0))
+add-lower c = omega (arith, next-fits (c .before .before .before .before .before .before .before .before .before .pre .column .spans) (c .before .before .before .loop .inv .0))
 
 add-edge : tie.Need-add-edge Inv-loop μ-loop
 add-edge c = search needs
@@ -58,14 +52,13 @@ add-edge c = search needs
 mul-edge : tie.Need-mul-edge Inv-loop μ-loop
 mul-edge c = search needs
 
-array-read-edge : tie.Need-array-read-edge Inv-loop μ-loop
-array-read-edge c = search needs
+shared-slice-read-edge : tie.Need-shared-slice-read-edge Inv-loop μ-loop
+shared-slice-read-edge c = search needs
 
 plus-requires : tie.Need-plus-requires Inv-loop μ-loop
 plus-requires c κs =
-    let start = c .before .before .before .before .before .before in
     let l = c .before .before .before .before .before .loop in
-    omega (arith, gas-fits (start .pre) (l .i) (l .inv .0 .layer), l .inv .1)
+    omega (arith, gas-fits (c .before .before .before .before .before .before .before .before .before .before .before .args .cap) (c .before .before .before .before .before .before .before .before .before .before .before .pre) (l .i) (l .inv .0 .layer), l .inv .1)
 
 add-i : tie.Need-add-i Inv-loop μ-loop
 add-i c = search needs
@@ -75,56 +68,48 @@ loop-less c = search needs
 
 loop-again : tie.Need-loop-again Inv-loop μ-loop
 loop-again c =
-    let start = c .before .before .before .before .before .before .before in
+    let start = c .before .before .before .before .before .before .before .before .before .before .before .before in
     let l = c .before .before .before .before .before .before .loop in (
-      pass-layer (start .pre .spans) (l .inv .0) (omega arith) (c .before .if1 .taken),
-      omega (arith, c .plus .ensures, l .inv .1, sum-more (l .i) (gasAt (start .args .t2))),
+      pass-layer (start .pre .column .spans) (l .inv .0) (omega arith) (c .before .if1 .taken),
+      omega (arith, c .plus .ensures, l .inv .1, sum-more (l .i) (at (start .args .gas .now))),
       l .inv .2,
       l .inv .3,
       l .inv .4,
     )
 
 sub-inside : tie.Need-sub-inside Inv-loop μ-loop
-sub-inside c =
-    let l = c .before .before .before .before .before .loop in
-    omega (arith, l .inv .0 .ahead (omega arith))
+sub-inside c = omega (arith, c .before .before .before .before .before .loop .inv .0 .ahead (omega arith))
 
 cast-inside : tie.Need-cast-inside Inv-loop μ-loop
 cast-inside c =
-    let start = c .before .before .before .before .before .before in
     let l = c .before .before .before .before .before .loop in
-    omega (arith, start .pre .spans .most (l .i) (l .inv .0 .layer))
+    omega (arith, c .before .before .before .before .before .before .before .before .before .before .before .pre .column .spans .most (l .i) (l .inv .0 .layer))
 
-mul-low-piece : tie.Need-mul-low-piece Inv-loop μ-loop
-mul-low-piece c = search needs
-
-array-copy-out-low-piece : tie.Need-array-copy-out-low-piece Inv-loop μ-loop
-array-copy-out-low-piece c = search needs
+mismatch-at-requires : tie.Need-mismatch-at-requires Inv-loop μ-loop
+mismatch-at-requires c κs = search needs
 
 low-piece-requires : tie.Need-low-piece-requires Inv-loop μ-loop
 low-piece-requires c κs =
-    let start = c .before .before .before .before .before .before .before in
-    let l = c .before .before .before .before .before .before .loop in
-    walk-giver (start .pre) (l .inv .0) (omega arith) (c .before .if1 .left) _ refl
+    let start = c .before .before .before .before .before .before .before .before .before .before .before .before in
+    walk-giver (start .args .cap) (start .pre) (c .before .before .before .before .before .before .loop .inv .0) (omega arith) (c .before .if1 .left) _ (c .mismatch-at .ensures) _ _ _ refl refl refl
 
 plus-requires-2 : tie.Need-plus-requires-2 Inv-loop μ-loop
 plus-requires-2 c κs =
-    let start = c .before .before .before .before .before .before .before .before in
     let l = c .before .before .before .before .before .before .before .loop in
-    omega (arith, gas-fits (start .pre) (l .i) (l .inv .0 .layer), l .inv .1, c .low-piece .ensures .within)
+    omega (arith, gas-fits (c .before .before .before .before .before .before .before .before .before .before .before .before .before .args .cap) (c .before .before .before .before .before .before .before .before .before .before .before .before .before .pre) (l .i) (l .inv .0 .layer), l .inv .1, c .low-piece .ensures .within)
 
 minus-requires : tie.Need-minus-requires Inv-loop μ-loop
 minus-requires c κs =
-    let start = c .before .before .before .before .before .before .before .before .before in
+    let start = c .before .before .before .before .before .before .before .before .before .before .before .before .before .before in
     let l = c .before .before .before .before .before .before .before .before .loop in
-    let next = next-above (start .pre) (l .inv .0) (omega arith) (c .before .before .before .if1 .left) (l .inv .1) (c .before .low-piece .ensures .is) (c .plus2 .ensures) in
-    omega (arith, next, l .inv .2, above-rises (start .pre) (l .j) (omega arith))
+    let next = next-above (start .args .cap) (start .pre) (l .inv .0) (omega arith) (c .before .before .before .if1 .left) (c .before .before .mismatch-at .ensures) (l .inv .1) (c .before .low-piece .ensures .is) (c .plus2 .ensures) in
+    omega (arith, next, l .inv .2, above-rises (start .args .cap) (start .pre) (l .j) (omega arith))
 
 mul-new : tie.Need-mul-new Inv-loop μ-loop
 mul-new c = search needs
 
-array-set-from-new : tie.Need-array-set-from-new Inv-loop μ-loop
-array-set-from-new c = search needs
+slice-write-new : tie.Need-slice-write-new Inv-loop μ-loop
+slice-write-new c = search needs
 
 add-j : tie.Need-add-j Inv-loop μ-loop
 add-j c = search needs
@@ -134,22 +119,26 @@ loop-less-2 c = search needs
 
 loop-again-2 : tie.Need-loop-again-2 Inv-loop μ-loop
 loop-again-2 c =
-    let start = c .before .before .before .before .before .before .before .before .before .before in
+    let start = c .before .before .before .before .before .before .before .before .before .before .before .before .before .before .before in
     let l = c .before .before .before .before .before .before .before .before .before .loop in
-    let next = next-above (start .pre) (l .inv .0) (omega arith) (c .before .before .before .before .if1 .left) (l .inv .1) (c .before .before .low-piece .ensures .is) (c .before .plus2 .ensures) in
+    let next = next-above (start .args .cap) (start .pre) (l .inv .0) (omega arith) (c .before .before .before .before .if1 .left) (c .before .before .before .mismatch-at .ensures) (l .inv .1) (c .before .before .low-piece .ensures .is) (c .before .plus2 .ensures) in
     let a = start .args in
-    let G : ℕ → ℕ = gas-specs.above (a .k) (a .t1) (a .t2) (a .t3) in (
-      pass-edge (start .pre .spans) (l .inv .0) (omega arith),
+    let G : ℕ → ℕ = walk.above (a .cap) (a .k) (a .air .now) (a .gas .now) (a .q .now) in (
+      pass-edge (start .pre .column .spans) (l .inv .0) (omega arith),
       l .inv .1,
       next,
       search needs,
-      entries-more _ (l .new) (l .j) _ (λ t x. x .0 ≡ G (at (a .t4) (t + 1)) - G (at (a .t4) t)) (search needs) (l .inv .4) (c .minus .ensures ∙ ap₂ _-_ next (l .inv .2)),
+      entries-more _ (l .new) (l .j) _ (λ t x. x ≡ G (at (a .e .now) (t + 1)) - G (at (a .e .now) t)) (search needs) (l .inv .4) (c .minus .ensures ∙ ap₂ _-_ next (l .inv .2)),
     )
+
+same-length : tie.Need-same-length Inv-loop μ-loop
+same-length c = search needs
 
 returns : tie.Need-returns Inv-loop μ-loop
 returns c =
+    let start = c .before .before .before .before .before .before .before in
     let l = c .before .loop in
-    record { is = λ t h. rw (← add-one t) (l .inv .4 t (omega arith)) }
+    remapped-is (start .args .cap) (start .pre) (l .new) (λ t h. l .inv .4 t (omega arith))
 
 pub new-tracer-spec : {M : Type 1} → statement M
 new-tracer-spec =
@@ -159,28 +148,28 @@ new-tracer-spec =
     μ-loop
     loop-holds
     mul-m
-    array-copy-out-m
+    shared-slice-read-m
     mul-t
-    array-copy-out-t
+    shared-slice-read-t
     cast-lower
     add-lower
     add-edge
     mul-edge
-    array-read-edge
+    shared-slice-read-edge
     plus-requires
     add-i
     loop-less
     loop-again
     sub-inside
     cast-inside
-    mul-low-piece
-    array-copy-out-low-piece
+    mismatch-at-requires
     low-piece-requires
     plus-requires-2
     minus-requires
     mul-new
-    array-set-from-new
+    slice-write-new
     add-j
     loop-less-2
     loop-again-2
+    same-length
     returns)

@@ -11,35 +11,33 @@ use Rattle.column.proofs.pairs.Statement.{statement}
 use Rattle.column.proofs.pairs.Tie as tie
 
 abbrev Inv-loop : tie.InvT-loop
-Inv-loop k air e count₀ i₀ j₀ above₀ count i j above = Place k air e i j above × (count ≡ pairsTo k air e j + howMany i (sharesAt air e j)) × (count ≤ i + j)
+Inv-loop air e k count₀ i₀ j₀ above₀ count i j above = Place k air e i j above × (count ≡ pairsTo k air e j + howMany i (sharesAt air e j)) × (count ≤ i + j)
 
 abbrev μ-loop : tie.MeasureT-loop
-μ-loop k air e count₀ i₀ j₀ above₀ count i j above = (k - i) + (k - j)
+μ-loop air e k count₀ i₀ j₀ above₀ count i j above = (k - i) + (k - j)
 
 loop-holds : tie.Need-loop-holds Inv-loop μ-loop
 loop-holds c =
-    let a = c .args in
-    (place-start (c .pre), sym (pairs-start (a .k) (a .t1) (a .t2)), search needs)
+    let a = c .before .before .args in
+    (place-start (c .before .before .pre), sym (pairs-start (a .k) (a .air .now) (a .e .now)), search needs)
 
-mul-m : tie.Need-mul-m Inv-loop μ-loop
-mul-m c = search needs
+mul-lower : tie.Need-mul-lower Inv-loop μ-loop
+mul-lower c = search needs
 
-array-copy-out-m : tie.Need-array-copy-out-m Inv-loop μ-loop
-array-copy-out-m c = search needs
+shared-slice-read-lower : tie.Need-shared-slice-read-lower Inv-loop μ-loop
+shared-slice-read-lower c = search needs
 
 cast-lower : tie.Need-cast-lower Inv-loop μ-loop
-cast-lower c = search needs
+cast-lower c = omega (arith, c .before .before .before .before .before .pre .most (c .before .before .loop .i) (c .before .before .loop .inv .0 .layer))
 
 add-lower : tie.Need-add-lower Inv-loop μ-loop
-add-lower c =
-    let start = c .before .before .before .before in
-    omega (arith, next-fits (start .pre) (c .before .before .before .loop .inv .0))
+add-lower c = omega (arith, next-fits (c .before .before .before .before .before .pre) (c .before .before .loop .inv .0))
 
 mul-shared : tie.Need-mul-shared Inv-loop μ-loop
 mul-shared c = search needs
 
-array-read-shared : tie.Need-array-read-shared Inv-loop μ-loop
-array-read-shared c = search needs
+shared-slice-read-shared : tie.Need-shared-slice-read-shared Inv-loop μ-loop
+shared-slice-read-shared c = search needs
 
 shared-requires : tie.Need-shared-requires Inv-loop μ-loop
 shared-requires c κs = search needs
@@ -53,8 +51,8 @@ add-if1 c = search needs
 mul-if1 : tie.Need-mul-if1 Inv-loop μ-loop
 mul-if1 c = search needs
 
-array-read-if1 : tie.Need-array-read-if1 Inv-loop μ-loop
-array-read-if1 c = search needs
+shared-slice-read-if1 : tie.Need-shared-slice-read-if1 Inv-loop μ-loop
+shared-slice-read-if1 c = search needs
 
 add-i : tie.Need-add-i Inv-loop μ-loop
 add-i c = search needs
@@ -64,11 +62,11 @@ loop-less c = search needs
 
 loop-again : tie.Need-loop-again Inv-loop μ-loop
 loop-again c =
-    let start = c .before .before .before .before .before .before in
-    let l = c .before .before .before .before .before .loop in (
+    let start = c .before .before .before .before .before .before .before .before .before in
+    let l = c .before .before .before .before .before .before .loop in (
       pass-layer (start .pre) (l .inv .0) (omega arith) (c .if1 .taken),
-      pairs-more (start .pre) (l .inv .0) (omega arith) (l .inv .1) (c .before .shared .ensures),
-      omega (arith, c .before .shared .ensures),
+      pairs-more (start .pre) (l .inv .0) (omega arith) (l .inv .1) (c .before .before .shared .ensures),
+      omega (arith, c .before .before .shared .ensures),
     )
 
 add-j : tie.Need-add-j Inv-loop μ-loop
@@ -79,17 +77,17 @@ loop-less-2 c = search needs
 
 loop-again-2 : tie.Need-loop-again-2 Inv-loop μ-loop
 loop-again-2 c =
-    let start = c .before .before .before .before .before .before in
-    let l = c .before .before .before .before .before .loop in (
+    let start = c .before .before .before .before .before .before .before .before .before in
+    let l = c .before .before .before .before .before .before .loop in (
       pass-edge (start .pre) (l .inv .0) (omega arith),
-      pairs-edge (start .pre) (l .inv .0) (omega arith) (c .if1 .left) (pairs-more (start .pre) (l .inv .0) (omega arith) (l .inv .1) (c .before .shared .ensures)),
-      omega (arith, c .before .shared .ensures),
+      pairs-edge (start .pre) (l .inv .0) (omega arith) (c .if1 .left) (pairs-more (start .pre) (l .inv .0) (omega arith) (l .inv .1) (c .before .before .shared .ensures)),
+      omega (arith, c .before .before .shared .ensures),
     )
 
 returns : tie.Need-returns Inv-loop μ-loop
 returns c =
     let l = c .before .loop in
-    pairs-all (c .before .before .pre) (l .inv .0) (omega arith) (l .inv .1) (l .inv .2)
+    pairs-all (c .before .before .before .before .pre) (l .inv .0) (omega arith) (l .inv .1) (l .inv .2)
 
 pub pairs-spec : {M : Type 1} → statement M
 pairs-spec =
@@ -98,17 +96,17 @@ pairs-spec =
     Inv-loop
     μ-loop
     loop-holds
-    mul-m
-    array-copy-out-m
+    mul-lower
+    shared-slice-read-lower
     cast-lower
     add-lower
     mul-shared
-    array-read-shared
+    shared-slice-read-shared
     shared-requires
     add-count
     add-if1
     mul-if1
-    array-read-if1
+    shared-slice-read-if1
     add-i
     loop-less
     loop-again

@@ -5,19 +5,26 @@ use borrow.Author.Needs.{needs}
 use Rattle.remap.proofs.load_column.Statement.{statement}
 use Rattle.remap.proofs.load_column.Tie as tie
 
-load-air-requires : tie.Need-load-air-requires
-load-air-requires c κs = search needs
+load-requires : tie.Need-load-requires
+load-requires c κs = search needs
 
 air-sum-requires : tie.Need-air-sum-requires
-air-sum-requires c κs = air-need (c .before .before .before .pre) _ (c .load-air .ensures)
+air-sum-requires c κs = air-need (c .before .before .before .before .before .before .before .before .before .pre .0) _ (c .before .before .before .load .ensures) (search needs)
 
-edges-requires : tie.Need-edges-requires
-edges-requires c κs = search needs
+fill-edges-requires : tie.Need-fill-edges-requires
+fill-edges-requires c κs = search needs
+
+same-length : tie.Need-same-length
+same-length c = search needs
+
+same-length-2 : tie.Need-same-length-2
+same-length-2 c = search needs
 
 returns : tie.Need-returns
 returns c =
-    let start = c .before .before .before .before .before in
-    column-is (start .pre) _ (c .before .before .load-air .ensures) (c .before .air-sum .ensures) (c .edges .ensures)
+    column-is (c .before .before .before .before .before .before .before .before .before .before .before .before .before .before .pre .0) _ (c .before .before .before .before .before .before .before .before .load .ensures) (search needs) (search needs) (c .before .before .before .before .air-sum .ensures) (c .before .before .fill-edges .ensures)
 
 pub load-column-spec : {M : Type 1} → statement M
-load-column-spec = tie.close (tie.spec load-air-requires air-sum-requires edges-requires returns)
+load-column-spec =
+    tie.close
+    (tie.spec load-requires air-sum-requires fill-edges-requires same-length same-length-2 returns)

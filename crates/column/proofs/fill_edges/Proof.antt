@@ -1,4 +1,4 @@
--- `column::edges` meets its contract. The loop's invariant: the edges passed are the model's.
+-- `column::fill_edges` meets its contract. The loop's invariant: the edges passed are the model's.
 -- Assumes nothing.
 use Prim.Native.Nat.{ℕ, _+_, _-_, _≤_, _<_}
 use mathlib.Core.Path.{_≡_}
@@ -8,11 +8,11 @@ use Rattle.model.specs.Basic.{at}
 use Rattle.model.specs.Remap.{edge}
 use Rattle.model.specs.Laws.Entries.{entries-more}
 use borrow.Author.Needs.{needs}
-use Rattle.column.proofs.edges.Statement.{statement}
-use Rattle.column.proofs.edges.Tie as tie
+use Rattle.column.proofs.fill_edges.Statement.{statement}
+use Rattle.column.proofs.fill_edges.Tie as tie
 
 abbrev Inv-loop : tie.InvT-loop
-Inv-loop table p k e₀ j₀ e j = (j ≤ k + 1) × (length e ≡ 33) × ((t : ℕ) → t < j → at e t ≡ edge table p t)
+Inv-loop table p k e₀ j₀ e j = (j ≤ k + 1) × (length e ≡ length e₀) × ((t : ℕ) → t < j → at e t ≡ edge table p t)
 
 abbrev μ-loop : tie.MeasureT-loop
 μ-loop table p k e₀ j₀ e j = k + 1 - j
@@ -50,8 +50,8 @@ edge-of-requires c κs = search needs
 mul-e : tie.Need-mul-e Inv-loop μ-loop
 mul-e c = search needs
 
-array-write-e : tie.Need-array-write-e Inv-loop μ-loop
-array-write-e c = search needs
+slice-write-e : tie.Need-slice-write-e Inv-loop μ-loop
+slice-write-e c = search needs
 
 add-j : tie.Need-add-j Inv-loop μ-loop
 add-j c = search needs
@@ -62,18 +62,21 @@ loop-less c = search needs
 loop-again : tie.Need-loop-again Inv-loop μ-loop
 unfolding edge
 loop-again c =
-    let a = c .before .before .before .before .before .before .args in
+    let a = c .before .before .before .before .before .before .before .args in
     let l = c .before .before .before .before .loop in (
       search needs,
       search needs,
       entries-more 0 (l .e) (l .j) _ (λ t x. x ≡ edge (a .table .now) (a .p) t) (search needs) (l .inv .2) (c .edge-of .ensures),
     )
 
+same-length : tie.Need-same-length Inv-loop μ-loop
+same-length c = search needs
+
 returns : tie.Need-returns Inv-loop μ-loop
 returns c = record { is = λ t h. c .before .loop .inv .2 t (omega arith) }
 
-pub edges-spec : {M : Type 1} → statement M
-edges-spec =
+pub fill-edges-spec : {M : Type 1} → statement M
+fill-edges-spec =
     tie.close
     (tie.spec
     Inv-loop
@@ -89,8 +92,9 @@ edges-spec =
     shared-slice-read-edge-of-2
     edge-of-requires
     mul-e
-    array-write-e
+    slice-write-e
     add-j
     loop-less
     loop-again
+    same-length
     returns)

@@ -1,0 +1,73 @@
+-- `column::mismatch_at` meets its contract: the cases of `slopeAt`.
+-- Assumes nothing.
+use mathlib.Core.Path.{_∙_}
+use native.Mathlib.Omega.{arith}
+use Rattle.column.specs.Slopes.{slope-first, slope-last, slope-inner, not-first}
+use borrow.Author.Needs.{needs}
+use Rattle.column.proofs.mismatch_at.Statement.{statement}
+use Rattle.column.proofs.mismatch_at.Tie as tie
+
+returns : tie.Need-returns
+returns c =
+    let a = c .before .before .args in
+    slope-first (a .cap) (a .k) (a .q .now) (a .i) (c .if1 .taken)
+
+add-if2 : tie.Need-add-if2
+add-if2 c = search needs
+
+returns-2 : tie.Need-returns-2
+returns-2 c =
+    let a = c .before .before .before .args in
+    slope-last (a .cap) (a .k) (a .q .now) (a .i) (omega arith)
+
+sub-low : tie.Need-sub-low
+sub-low c =
+    let a = c .before .before .before .args in
+    omega (arith, not-first (a .cap) (a .k) (a .q .now) (a .i) (c .before .if1 .left))
+
+mul-low : tie.Need-mul-low
+mul-low c = search needs
+
+shared-slice-read-low : tie.Need-shared-slice-read-low
+shared-slice-read-low c = search needs
+
+add-high : tie.Need-add-high
+add-high c = search needs
+
+mul-high : tie.Need-mul-high
+mul-high c = search needs
+
+shared-slice-read-high : tie.Need-shared-slice-read-high
+shared-slice-read-high c = search needs
+
+mul-mismatch : tie.Need-mul-mismatch
+mul-mismatch c = search needs
+
+shared-slice-read-mismatch : tie.Need-shared-slice-read-mismatch
+shared-slice-read-mismatch c = search needs
+
+mismatch-requires : tie.Need-mismatch-requires
+mismatch-requires c κs = search needs
+
+returns-3 : tie.Need-returns-3
+returns-3 c =
+    let a = c .before .before .before .before .before .before .before .args in
+    c .mismatch .ensures .is ∙ slope-inner (a .cap) (a .k) (a .q .now) (a .i) (c .before .before .before .before .before .if1 .left) (omega arith)
+
+pub mismatch-at-spec : {M : Type 1} → statement M
+mismatch-at-spec =
+    tie.close
+    (tie.spec
+    returns
+    add-if2
+    returns-2
+    sub-low
+    mul-low
+    shared-slice-read-low
+    add-high
+    mul-high
+    shared-slice-read-high
+    mul-mismatch
+    shared-slice-read-mismatch
+    mismatch-requires
+    returns-3)

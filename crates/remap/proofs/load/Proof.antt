@@ -1,0 +1,83 @@
+-- `remap::load` meets its contract. The loop's invariant: the entries passed are those of the column.
+-- Assumes nothing.
+use Prim.Native.Nat.{ℕ, _+_, _*_, _-_, _≤_, _<_}
+use mathlib.Core.Path.{_≡_, refl}
+use native.Mathlib.Omega.{arith}
+use lib.ListN.{length}
+use Rattle.model.specs.Basic.{at}
+use Rattle.model.specs.Laws.Basic.{tab-ext}
+use Rattle.model.specs.Laws.Entries.{entries-more}
+use Rattle.remap.specs.Columns.{cell-room}
+use borrow.Author.Needs.{needs}
+use Rattle.remap.proofs.load.Statement.{statement}
+use Rattle.remap.proofs.load.Tie as tie
+
+abbrev Inv-loop : tie.InvT-loop
+Inv-loop list c cells k column₀ i₀ column i = (i ≤ k) × (length column ≡ length column₀) × ((n : ℕ) → n < i → at column n ≡ at list (n * cells + c))
+
+abbrev μ-loop : tie.MeasureT-loop
+μ-loop list c cells k column₀ i₀ column i = k - i
+
+loop-holds : tie.Need-loop-holds Inv-loop μ-loop
+loop-holds c = (search needs, search needs, λ n h. absurd (omega arith))
+
+mul-column : tie.Need-mul-column Inv-loop μ-loop
+mul-column c = omega (arith, cell-room (c .before .before .pre .0) (c .before .loop .i) (omega arith) .1)
+
+add-column : tie.Need-add-column Inv-loop μ-loop
+add-column c = omega (arith, cell-room (c .before .before .pre .0) (c .before .loop .i) (omega arith) .1)
+
+mul-column-2 : tie.Need-mul-column-2 Inv-loop μ-loop
+mul-column-2 c = omega (arith, cell-room (c .before .before .pre .0) (c .before .loop .i) (omega arith) .1)
+
+shared-slice-read-column : tie.Need-shared-slice-read-column Inv-loop μ-loop
+shared-slice-read-column c = omega (arith, cell-room (c .before .before .before .pre .0) (c .before .before .loop .i) (omega arith) .0)
+
+mul-column-3 : tie.Need-mul-column-3 Inv-loop μ-loop
+mul-column-3 c = search needs
+
+slice-write-column : tie.Need-slice-write-column Inv-loop μ-loop
+slice-write-column c = search needs
+
+add-i : tie.Need-add-i Inv-loop μ-loop
+add-i c = search needs
+
+loop-less : tie.Need-loop-less Inv-loop μ-loop
+loop-less c = search needs
+
+loop-again : tie.Need-loop-again Inv-loop μ-loop
+loop-again c =
+    let l = c .before .before .loop in
+    let a = c .before .before .before .args in (
+      search needs,
+      search needs,
+      entries-more 0 (l .column) (l .i) _ (λ n x. x ≡ at (a .list .now) (n * a .cells + a .c)) (search needs) (l .inv .2) refl,
+    )
+
+same-length : tie.Need-same-length Inv-loop μ-loop
+same-length c = search needs
+
+returns : tie.Need-returns Inv-loop μ-loop
+returns c =
+    let a = c .before .before .args in
+    let l = c .before .loop in
+    tab-ext (a .k) (at (l .column)) (λ i. at (a .list .now) (i * a .cells + a .c)) (λ n h. l .inv .2 n (omega arith))
+
+pub load-spec : {M : Type 1} → statement M
+load-spec =
+    tie.close
+    (tie.spec
+    Inv-loop
+    μ-loop
+    loop-holds
+    mul-column
+    add-column
+    mul-column-2
+    shared-slice-read-column
+    mul-column-3
+    slice-write-column
+    add-i
+    loop-less
+    loop-again
+    same-length
+    returns)
