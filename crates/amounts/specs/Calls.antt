@@ -2,7 +2,7 @@
 -- Assumes nothing.
 use Prim.Native.Nat.{ℕ, zero, suc, _+_, _*_, _-_, _≤_, _<_}
 use mathlib.Core.List.{List, [], _∷_}
-use mathlib.Core.Bool.{Bool, true, false, not}
+use mathlib.Core.Bool.{true, not}
 use mathlib.Core.Path.{_≡_, refl, sym, ap, ap₂, _∙_}
 use native.Mathlib.Nat.{le-trans, mul-le-mul, mul-le-mul-right}
 use native.Mathlib.Omega.{arith}
@@ -21,7 +21,7 @@ use Rattle.units.specs.declared.Refusal.the-variants.{Index, Emission, Withdraw
 use Rattle.units.specs.Answer.{numberOf, Agrees}
 use Rattle.units.specs.Agrees.{refused-agrees, place-agrees, accepted-agrees}
 use Rattle.places.specs.declared.Lent.the-variants.{Nothing}
-use Rattle.places.specs.Tested.{IsTested, Passed}
+use Rattle.places.specs.Tested.{IsTested}
 
 none-left : (w : World) → firstOf [] w ≡ 0
 unfolding firstOf

@@ -1,10 +1,10 @@
 -- 32 bits as a signed number: the law of the two branches of `signed`.
 -- Assumes nothing.
 use Prim.Native.Nat.{ℕ, zero, suc, _-_, _≤_, _<_}
-use mathlib.Core.Path.{_≡_, refl, _∙_, ap}
+use mathlib.Core.Path.{_≡_, refl, ap}
 use native.Mathlib.Omega.{arith}
 use borrow.Author.Tests.{lt-ltb, le-ltb}
-use lib.IntN.{ℤ, pos, negsuc, negℤ, _-ℤ_}
+use lib.IntN.{pos, negsuc, _-ℤ_}
 use Rattle.program.specs.Bytes.{signed}
 
 pub signed-low : (x : ℕ) → x < 2147483648 → signed x ≡ pos x

@@ -1,13 +1,13 @@
 -- Laws of a record carried out: from what the reader found to what is left, by the reader's answer.
 -- Assumes nothing.
-use Prim.Native.Nat.{ℕ, zero, suc, _-_, _≤_, _<_}
+use Prim.Native.Nat.{ℕ, _-_, _≤_, _<_}
 use mathlib.Core.List.{List, [], _∷_}
-use mathlib.Core.Bool.{Bool, true, false, false≢true}
+use mathlib.Core.Bool.{true, false≢true}
 use mathlib.Core.Path.{_≡_, refl, sym, _∙_, ap, ap₂, subst}
 use native.Mathlib.Omega.{arith}
-use lib.ListN.{length, take, drop, length-drop}
+use lib.ListN.{length, take, drop}
 use lib.Seq.{drop-cons}
-use Rattle.model.specs.Basic.{at, written}
+use Rattle.model.specs.Basic.{at}
 use Rattle.model.specs.World as model
 use Rattle.model.specs.Step.{Call}
 use Rattle.units.specs.declared.Grid as declared

@@ -10,7 +10,6 @@ use Rattle.model.specs.World as model
 use Rattle.model.specs.Step.{Call, load, step}
 use Rattle.units.specs.declared.Grid as declared
 use Rattle.units.specs.declared.Answer.{Answer}
-use Rattle.units.specs.Answer.{Agrees}
 use Rattle.units.specs.Grid.{gridOf, worldOf, in-range}
 use Rattle.program.specs.Bytes.{numbersAt}
 use Rattle.program.specs.Records as program
@@ -22,8 +21,8 @@ use Rattle.records.specs.Laws.{takes, taken-small, tracer-cells}
 use Rattle.records.specs.Found.{commandIs, kindOfCommand}
 use Rattle.calls.specs.Makes.{MakeNeed, LoadsInto}
 use Rattle.carry.specs.declared.Outcome as code
-use Rattle.carry.specs.declared.Outcome.the-variants.{Nothing, Next, Last}
-use Rattle.carry.specs.Outcome.{outcomeIs, TakesGrid, bodyWorld, AnswersLoad, TakeNeed, TakesLoad, TakesCall, CarryNeed, CarriesCommand, Leaves, worldAfter}
+use Rattle.carry.specs.declared.Outcome.the-variants.{Next, Last}
+use Rattle.carry.specs.Outcome.{TakesGrid, bodyWorld, AnswersLoad, TakeNeed, TakesLoad, TakesCall, CarryNeed, CarriesCommand, Leaves, worldAfter}
 
 -- ---- a grid's record: taken, or refused as the program's last line
 pub grid-taken : (byte : ℕ) (wanted : declared.Grid) (n : ℕ) → n ≡ program.gridRefusal (gridOf wanted) → n ≡ 0 → TakesGrid byte wanted (Next (record { kind = byte; answer = n; count = 0 }) (Gridded wanted))

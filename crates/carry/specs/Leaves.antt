@@ -1,18 +1,16 @@
 -- Laws of what a record leaves in the program's two buffers: a world written over their first entries, or nothing.
 -- Assumes nothing.
-use Prim.Native.Nat.{ℕ, zero, suc, _+_, _*_, _≤_}
+use Prim.Native.Nat.{ℕ, zero, suc, _+_, _*_}
 use mathlib.Core.List.{List, [], _++_}
 use mathlib.Core.Path.{_≡_, refl, sym, _∙_, ap, ap₂, subst}
 use native.Mathlib.Nat.{zero-add}
-use native.Mathlib.Omega.{arith}
 use lib.ListN.{length, take, drop}
-use lib.Seq.{take-at, length-take-le}
+use lib.Seq.{take-at}
 use Rattle.model.specs.Basic.{written}
 use Rattle.model.specs.World as model
 use Rattle.model.specs.Sweep.{swept}
 use Rattle.model.specs.Remap.{remapped}
 use Rattle.model.specs.Step.{Call, load, emission, withdrawal, zonal, meridional, remap, total, reading, accepted, refused, refusal, step, Result}
-use Rattle.model.specs.Laws.Basic.{length-tab}
 use Rattle.model.specs.Laws.Step.{step-accepted, step-refused}
 use Rattle.units.specs.declared.Grid as declared
 use Rattle.units.specs.declared.Answer.{Answer}
@@ -25,8 +23,8 @@ use Rattle.records.specs.declared.Stage.the-variants.{Gridded, Loaded}
 use Rattle.records.specs.Stage.{stateOf, held}
 use Rattle.records.specs.Found.{commandIs}
 use Rattle.lines.specs.declared.Line as lines
-use Rattle.carry.specs.declared.Outcome.the-variants.{Nothing, Next, Last}
-use Rattle.carry.specs.Outcome.{lineIs, outcomeIs, worldAfter, Leaves, bodyWorld, AnswersLoad}
+use Rattle.carry.specs.declared.Outcome.the-variants.{Next}
+use Rattle.carry.specs.Outcome.{lineIs, Leaves, bodyWorld, AnswersLoad}
 
 -- ---- a list written over the first entries
 written-none : (l : List ℕ) → l ≡ written l 0 []

@@ -1,15 +1,15 @@
 -- Document 01, "Range", and what "Lists" says it holds of: every cell after each substep of a sweep, and after a remap.
 -- Tests that compute, so that a claim with a smaller e can be shown to fail.
-use Prim.Native.Nat.{ℕ, zero, suc, _+_, _*_, _-_, _<_}
+use Prim.Native.Nat.{ℕ, suc, _+_, _*_, _-_, _<_}
 use mathlib.Core.List.{List}
-use mathlib.Core.Bool.{Bool, true, false, _&&_, _||_}
+use mathlib.Core.Bool.{Bool, true, _&&_, _||_}
 use mathlib.Core.Path.{_≡_}
 use lib.Dec.{ltb, eqb}
 use lib.IntN.{ℤ}
 use Rattle.model.specs.Basic.{at, some}
 use Rattle.model.specs.World.{Grid, layerCells}
 use Rattle.model.specs.Sweep.{Mesh, Sides, between, southCap, northCap, airAfter, gasAfter}
-use Rattle.model.specs.Remap.{Layer, column, columnAir, isCap, layers, newAir, newTracer, shareAir}
+use Rattle.model.specs.Remap.{column, columnAir, isCap, layers, newAir, newTracer, shareAir}
 
 -- "some cell there, with air M and tracer T, has T·M' < (T' + e)·M, and some cell there has T'·M < T·M' + e·M": `there` tells the cells, of n, that are in the neighbourhood; M' and T' are `newM` and `newT`
 unfoldable pub inRange : ℕ → (ℕ → Bool) → List ℕ → List ℕ → ℕ → ℕ → ℕ → Bool

@@ -1,6 +1,6 @@
 -- Document 01, "Remap of all columns". High side is down, so a layer's low end is its top.
 -- A column's old air and tracer amounts are lists of K numbers; a table is one flat list a, b, a, b, ..
-use Prim.Native.Nat.{ℕ, zero, suc, _+_, _*_, _-_, _/_, _%_, min, max}
+use Prim.Native.Nat.{ℕ, suc, _+_, _*_, _-_, _/_, _%_, min, max}
 use mathlib.Core.List.{List, [], _∷_}
 use mathlib.Core.Bool.{Bool, true, false, _&&_, _||_}
 use lib.Dec.{leb, ltb, eqb}

@@ -2,14 +2,14 @@
 -- Total: nothing is assumed of the world or of the call's arguments. A place's test is computed only when it is reached.
 use Prim.Native.Nat.{ℕ, zero, suc, _+_, _*_, _-_}
 use mathlib.Core.List.{List, [], _∷_, _++_}
-use mathlib.Core.Bool.{Bool, true, false, not, _&&_, _||_}
+use mathlib.Core.Bool.{Bool, true, false, not, _&&_}
 use lib.Dec.{leb, ltb, eqb}
 use lib.ListN.{length, set}
 use lib.IntN.{ℤ, natAbs}
 use Rattle.model.specs.Limits.{tableScale, totalLimit, zonalLimit, meridionalLimit, tableLimit}
 use Rattle.model.specs.Basic.{at, part, every}
 use Rattle.model.specs.World.{Grid, World, layerCells, worldCells, layerStart, rowStart, tracerStart, gas, gasTotal, airFits}
-use Rattle.model.specs.Sweep.{Mesh, ring, layer, flux, serves, substepCount, swept}
+use Rattle.model.specs.Sweep.{ring, layer, flux, serves, substepCount, swept}
 use Rattle.model.specs.Remap.{remapServes, remapCount, remapped}
 
 -- A call, with its arguments as lent

@@ -1,8 +1,8 @@
 -- A flux's size, as its two directions.
 -- Assumes nothing.
 use Prim.Native.Nat.{ℕ, suc}
-use mathlib.Core.Bool.{Bool, true, _&&_, and-true}
-use mathlib.Core.Path.{_≡_, refl, ap, ap₂, _∙_}
+use mathlib.Core.Bool.{Bool, _&&_, and-true}
+use mathlib.Core.Path.{_≡_, ap, ap₂, _∙_}
 use lib.Dec.{leb, leb·zero}
 use lib.IntN.{ℤ, pos, negsuc, natAbs}
 use Rattle.model.specs.Sweep.{forward, backward}

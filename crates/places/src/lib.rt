@@ -1,13 +1,12 @@
 // Places 1 to 4, which every call tests: the grid, the lent lengths, the air, the tracers' totals; and place 8, of both sweeps.
 // The tests of whole buffers have no early exit, so that the compiler can vectorise them, and each buffer is read once.
 ghost use mathlib.Core.Path.{_≡_};
-ghost use mathlib.Core.Bool.{_&&_};
-ghost use Prim.Native.Nat.{ℕ, _+_, _*_, _≤_, _<_};
-ghost use lib.ListN.{length, getD};
+ghost use Prim.Native.Nat.{_+_, _*_, _≤_, _<_};
+ghost use lib.ListN.{length};
 ghost use lib.Dec.{leb};
 ghost use lib.IntN.{natAbs};
 ghost use Rattle.model.specs.Limits.{totalLimit};
-ghost use Rattle.model.specs.Basic.{at, part, sum, every};
+ghost use Rattle.model.specs.Basic.{at, sum, every};
 ghost use Rattle.model.specs.World.{airFits};
 ghost use Rattle.model.specs.Sweep.{flux};
 ghost use Rattle.units.specs.Grid.{gridOf, worldOf, InRange};

@@ -2,10 +2,9 @@
 -- Assumes nothing.
 use Prim.Native.Nat.{ℕ, zero, suc, _+_}
 use mathlib.Core.List.{List, [], _∷_, _++_}
-use mathlib.Core.Bool.{Bool, true, false}
 use lib.ListN.{take, drop}
 use Rattle.program.specs.Bytes.{decimal}
-use Rattle.program.specs.Records.{State, start, Line, Reading, Outcome, none, onward, last, found, needed, outcomeOf}
+use Rattle.program.specs.Records.{State, start, Line, Reading, none, onward, last, found, needed, outcomeOf}
 
 -- A record that was read: what the reader found, and the line that it prints
 pub record Entry : Type 0 where

@@ -4,9 +4,9 @@ use Prim.Native.Nat.{ℕ, zero, suc, _+_}
 use mathlib.Core.List.{List, [], _∷_}
 use mathlib.Core.Bool.{Bool, true, false}
 use lib.Dec.{eqb}
-use Rattle.model.specs.World.{World, gasTotal}
+use Rattle.model.specs.World.{gasTotal}
 use Rattle.model.specs.Step.{Call, load, emission, withdrawal, zonal, meridional, remap, total, reading}
-use Rattle.program.specs.Records.{Command, setGrid, setWorld, make, Reading, nothing, fault, command}
+use Rattle.program.specs.Records.{setGrid, setWorld, make, Reading, nothing, fault, command}
 use Rattle.program.specs.Lines.{Entry}
 
 pub record Account : Type 0 where

@@ -2,20 +2,20 @@
 -- Assumes nothing.
 use Prim.Native.Nat.{ℕ, zero, suc, _+_, _*_, _-_, _≤_, _<_}
 use mathlib.Core.List.{List, [], _∷_}
-use mathlib.Core.Bool.{Bool, true, false, not, _||_, false≢true}
+use mathlib.Core.Bool.{Bool, true, false, not, false≢true}
 use mathlib.Core.Path.{_≡_, refl, sym, _∙_, ap, ap₂, subst}
 use native.Mathlib.Numerals.{add-one}
 use native.Mathlib.Omega.{arith}
 use native.Mathlib.Nat.{mul-le-mul, le-refl}
 use borrow.Author.Tests.{ltb-true, ltb-false, le-ltb, lt-ltb}
 use lib.Dec.{ltb}
-use lib.ListN.{length, getD, take, drop, length-drop}
+use lib.ListN.{length, take, drop, length-drop}
 use lib.Seq.{drop-cons, take-all}
 use Rattle.model.specs.Basic.{at}
 use Rattle.model.specs.World as model
 use Rattle.model.specs.Step.{gridFits}
 use Rattle.units.specs.declared.Grid as declared
-use Rattle.units.specs.Grid.{gridOf, InRange, in-range}
+use Rattle.units.specs.Grid.{gridOf, in-range}
 use Rattle.program.specs.Bytes.{number, numberAt}
 use Rattle.program.specs.Records as program
 use Rattle.program.specs.Laws.Records.{needed-none, needed-body, found-misplaced, found-short, found-command}

@@ -1,15 +1,14 @@
 -- A remap's places in order, what it finds, and what it leaves.
 -- Assumes nothing.
-use Prim.Native.Nat.{ℕ, _+_, _*_, _≤_, _<_}
+use Prim.Native.Nat.{ℕ, _+_, _*_, _≤_}
 use mathlib.Core.List.{List, [], _∷_}
 use mathlib.Core.Bool.{Bool, true, false, not}
-use mathlib.Core.Path.{_≡_, refl, sym, ap, _∙_}
+use mathlib.Core.Path.{_≡_, refl, ap, _∙_}
 use native.Mathlib.Omega.{arith}
 use borrow.Author.Tests.{eqb-true}
 use lib.Dec.{eqb}
 use lib.ListN.{length}
-use Rattle.model.specs.Basic.{every}
-use Rattle.model.specs.World.{World, layerCells, worldCells}
+use Rattle.model.specs.World.{World, layerCells}
 use Rattle.model.specs.Remap.{column, remapServes, remapCount, remapped, remappedAir, remappedGas}
 use Rattle.model.specs.Step.{Place, place, firstOf, step, ownPlaces, refusal, accepted, tableFits, remap}
 use Rattle.model.specs.Laws.Step.{Fits, passes, stops, own-refusal}

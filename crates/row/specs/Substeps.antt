@@ -10,7 +10,7 @@ use lib.IntN.{ℤ}
 use lib.ListN.{length}
 use Rattle.model.specs.Limits.{mostSubsteps}
 use Rattle.model.specs.Basic.{every}
-use Rattle.model.specs.Sweep.{Mesh, Flow, ring, parts, allowed, afterFlow, airAfter, serves, substepCount}
+use Rattle.model.specs.Sweep.{Mesh, ring, parts, allowed, afterFlow, airAfter, serves, substepCount}
 use Rattle.model.specs.Laws.Basic.{every-at, every-false, Smallest, none, found, smallest-is}
 use Rattle.model.specs.Laws.Chain.{count-only}
 use Rattle.model.specs.Laws.Ring.{ring-regular}

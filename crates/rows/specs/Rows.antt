@@ -6,13 +6,13 @@ use mathlib.Core.Path.{_≡_, sym, ap, _∙_}
 use native.Mathlib.Nat.{zero-mul, mul-le-mul, mul-le-mul-right}
 use native.Mathlib.Omega.{arith}
 use borrow.Rule.Slice.PartMut.{putMid}
-use lib.ListN.{length, length-append, length-drop, getD, set, replicate, drop, take-append-drop, drop-of-length-le, length-set}
+use lib.ListN.{length, length-append, length-drop, getD, set, drop, take-append-drop, drop-of-length-le}
 use lib.Seq.{drop-drop}
 use Rattle.model.specs.Basic.{part, written, joined, tabFrom, tab}
 use Rattle.model.specs.Laws.Basic.{length-part, length-tab, getD-tab, length-written, length-joined}
 use Rattle.model.specs.Laws.Entries.{entries-more, joined-more, written-middle}
 use Rattle.substep.specs.Lent.{part-lent, put-back, front-lent, front-back, length-front}
-use Rattle.rows.specs.Gas.{rowOf, Wide, wide-set, length-row}
+use Rattle.rows.specs.Gas.{rowOf, Wide, length-row}
 
 -- n tracers of `cells` cells each, and a row of w of them from cell `first` on
 pub record RowsFit (tracers : List ℕ) (first cells w n : ℕ) : Type 0 where

@@ -1,7 +1,6 @@
 // The row of every tracer: loaded from the lent amounts, carried through a sweep's substeps as an array of 8 arrays of 72 amounts, written back.
 // Every piece of a tracer is taken into a list before any amount changes.
 ghost use mathlib.Core.Path.{_≡_};
-ghost use lib.ListN.{length};
 ghost use Rattle.substep.specs.Faces.{flowOf};
 ghost use Rattle.rows.specs.Gas.{StepNeed, PiecesNeed, ArePieces, rowStepped, StepsNeed, AreSteps};
 ghost use Rattle.rows.specs.Rows.{RowsFit, AreRows, StoreNeed, storedRows};
@@ -56,20 +55,20 @@ fn step_gas(gas: &mut [u32], air: &[u32], up: &[u32], down: &[u32])
     pass_row(gas, &high, &low);
 }
 
-// The rows of the first n tracers after one substep.
+// The rows of the first `tracers` tracers after one substep.
 fn step_rows(
     mut rows: [[u32; 72]; 8],
     air: &[u32],
     up: &[u32],
     down: &[u32],
-    n: usize,
+    tracers: usize,
 ) -> [[u32; 72]; 8]
-    requires { ⌜ StepsNeed n rows (now air) (now up) (now down) ⌝ }
-    ensures { λ r. ⌜ AreSteps n rows (now (air .entry)) (now (up .entry)) (now (down .entry)) r ⌝ }
+    requires { ⌜ StepsNeed tracers rows (now air) (now up) (now down) ⌝ }
+    ensures { λ r. ⌜ AreSteps tracers rows (now (air .entry)) (now (up .entry)) (now (down .entry)) r ⌝ }
 {
     let w = air.len();
     let mut t = 0;
-    while t < n {
+    while t < tracers {
         let mut row = rows[t];
         step_gas(&mut row[0..w], air, up, down);
         rows[t] = row;

@@ -98,30 +98,6 @@ pub fn low_piece(d: Mismatch, have: Air, t: Tracer, m: Air) -> Tracer
     high_piece(opposite, have, t, m)
 }
 
-// The piece from a cell's high end; none where no air passes.
-pub fn high_given(d: Mismatch, have: Air, t: Tracer, m: Air) -> Tracer
-    requires { ⌜ Giver d have t m ⌝ }
-    ensures { λ p. ⌜ p .0 ≡ model.highPiece (mismatchOf d) (have .0) (t .0) (m .0) ⌝ }
-{
-    if m.0 == 0 {
-        Tracer(0)
-    } else {
-        high_piece(d, have, t, m)
-    }
-}
-
-// The piece from a cell's low end.
-pub fn low_given(d: Mismatch, have: Air, t: Tracer, m: Air) -> Tracer
-    requires { ⌜ Giver d have t m ⌝ }
-    ensures { λ p. ⌜ p .0 ≡ model.lowPiece (mismatchOf d) (have .0) (t .0) (m .0) ⌝ }
-{
-    if m.0 == 0 {
-        Tracer(0)
-    } else {
-        low_piece(d, have, t, m)
-    }
-}
-
 // The size of a negative flux is taken in 64 bits: that of -2^31 does not fit 32 bits with a sign.
 pub fn split(f: i32) -> Flux
     ensures { λ r. ⌜ IsSplit f r ⌝ }

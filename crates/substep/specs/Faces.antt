@@ -2,19 +2,18 @@
 -- Assumes nothing.
 use Prim.Native.Nat.{ℕ, _+_, _*_, _-_, _≤_, _<_}
 use mathlib.Core.List.{List}
-use mathlib.Core.Bool.{Bool, _&&_}
-use mathlib.Core.Path.{_≡_, refl, ap, ap₂, _∙_}
+use mathlib.Core.Bool.{_&&_}
+use mathlib.Core.Path.{_≡_, ap, ap₂}
 use native.Mathlib.Omega.{arith}
 use lib.Dec.{leb}
 use lib.IntN.{ℤ}
 use lib.ListN.{length, set}
 use Rattle.model.specs.Basic.{at}
 use Rattle.model.specs.World.{airFits}
-use Rattle.model.specs.Sweep.{Mesh, Flow, reversed, leaving, entering, afterFlow, allowed, parts, pieces}
+use Rattle.model.specs.Sweep.{Mesh, Flow, leaving, entering, afterFlow, allowed, parts, pieces}
 use Rattle.model.specs.Laws.Basic.{tab-ext, every-ext}
 use Rattle.model.specs.Laws.Entries.{entries-more}
 use Rattle.model.specs.Laws.Mesh.{Regular, leaving-times, entering-times}
-use Rattle.model.specs.Laws.Substep.{piece-up, piece-down}
 
 -- the flow that two lists hold
 abbrev pub flowOf : List ℕ → List ℕ → Flow

@@ -1,13 +1,12 @@
 -- A tracer's pieces in a substep, over any regular mesh: what a cell may give, and that what was taken is the model's.
 -- Assumes nothing.
-use Prim.Native.Nat.{ℕ, _+_, _*_, _≤_, _<_}
+use Prim.Native.Nat.{ℕ, _≤_, _<_}
 use mathlib.Core.List.{List}
 use mathlib.Core.Bool.{true}
-use mathlib.Core.Path.{_≡_, refl, sym, ap, _∙_}
+use mathlib.Core.Path.{_≡_, sym, ap, _∙_}
 use native.Mathlib.Nat.{le-trans}
 use native.Mathlib.Omega.{arith}
 use lib.ListN.{length}
-use Rattle.units.specs.declared.Air.{Air}
 use Rattle.model.specs.Limits.{airLimit, totalLimit}
 use Rattle.model.specs.Basic.{at, sum}
 use Rattle.model.specs.Scheme.{Mismatch, mismatch, highPiece, lowPiece}
@@ -16,7 +15,7 @@ use Rattle.model.specs.Laws.Basic.{term-le-sum}
 use Rattle.model.specs.Laws.Mesh.{Regular}
 use Rattle.model.specs.Laws.Range.{high-leaves, low-leaves}
 use Rattle.model.specs.Laws.Substep.{AirIn, Covers, air-bounds, allowed-is, piece-up, piece-down, pieces-covered, gas-after-flow-le}
-use Rattle.substep.specs.Faces.{flowOf, Same, same-leaving, same-after, stepped}
+use Rattle.substep.specs.Faces.{Same, same-leaving, same-after, stepped}
 use Rattle.substep.specs.Cells.{Moves}
 
 -- ---- a substep of one tracer: it is allowed, every cell's air is in range, and the mesh's tracer is within the limit

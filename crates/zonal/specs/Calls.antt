@@ -4,26 +4,24 @@ use Prim.Native.Nat.{ℕ, _+_, _-_, _≤_, _<_}
 use mathlib.Core.List.{List, [], _∷_}
 use mathlib.Core.Bool.{Bool, true, false, not}
 use mathlib.Core.Path.{_≡_, refl, sym, ap, ap₂, _∙_}
-use native.Mathlib.Omega.{arith}
-use borrow.Author.Tests.{lt-ltb, le-ltb, eq-eqb, ne-eqb, eqb-true}
+use borrow.Author.Tests.{lt-ltb, le-ltb, eq-eqb, ne-eqb}
 use lib.Dec.{leb, eqb}
 use lib.IntN.{ℤ, natAbs}
 use lib.ListN.{length}
 use Rattle.model.specs.Limits.{zonalLimit}
 use Rattle.model.specs.Basic.{part, every}
-use Rattle.model.specs.World.{World, worldCells, rowStart}
+use Rattle.model.specs.World.{World, rowStart}
 use Rattle.model.specs.Sweep.{ring, flux, substepCount}
-use Rattle.model.specs.Step.{Call, Place, place, firstOf, step, lentFits, ownPlaces, refusal, accepted, layerAbsent, rowAbsent, fluxTooLarge, rowAir, zonalCount, zonal}
+use Rattle.model.specs.Step.{Place, place, firstOf, step, ownPlaces, refusal, layerAbsent, rowAbsent, fluxTooLarge, rowAir, zonalCount, zonal}
 use Rattle.model.specs.Laws.Basic.{length-part}
 use Rattle.model.specs.Laws.Step.{Fits, passes, stops, own-refusal}
 use Rattle.units.specs.declared.Answer.{Answer}
 use Rattle.units.specs.declared.Answer.the-variants.{Accepted, Refused}
 use Rattle.units.specs.declared.Refusal.{Refusal}
-use Rattle.units.specs.declared.Refusal.the-variants.{Index, Fluxes, Zonal}
 use Rattle.units.specs.Answer.{refusalNumber, numberOf, Agrees}
-use Rattle.units.specs.Agrees.{refused-agrees, place-agrees, accepted-agrees}
+use Rattle.units.specs.Agrees.{refused-agrees, place-agrees}
 use Rattle.places.specs.declared.Lent.the-variants.{RowFluxes}
-use Rattle.places.specs.Tested.{IsTested, Passed}
+use Rattle.places.specs.Tested.{IsTested}
 use Rattle.substep.specs.Lent.{part-lent}
 use Rattle.row.specs.Substeps.{rowMesh, RowNeed}
 

@@ -1,14 +1,14 @@
 -- What a sweep leaves in all tracers, and in the world: the model's `swept`.
 -- Assumes nothing.
 use Prim.Native.Nat.{ℕ, suc, _+_, _*_, _-_, _≤_, _<_}
-use mathlib.Core.List.{List, []}
+use mathlib.Core.List.{List}
 use mathlib.Core.Bool.{true}
-use mathlib.Core.Path.{_≡_, refl, sym, ap, ap₂, _∙_}
+use mathlib.Core.Path.{_≡_, sym, ap, ap₂, _∙_}
 use native.Mathlib.Nat.{le-trans, mul-le-mul-right}
 use native.Mathlib.Omega.{arith}
 use borrow.Rule.Slice.PartMut.{putMid}
 use lib.IntN.{ℤ}
-use lib.ListN.{length, getD}
+use lib.ListN.{length}
 use Rattle.model.specs.Limits.{totalLimit}
 use Rattle.model.specs.Basic.{at, part, written, joined, tab, sum}
 use Rattle.model.specs.World.{World, worldCells, rowStart}
@@ -17,7 +17,6 @@ use Rattle.model.specs.Step.{step, accepted, rowAir, zonalCount, zonal}
 use Rattle.model.specs.Laws.Chain.{length-air-after}
 use Rattle.model.specs.Laws.Sweep.{Sweeps, cells-in}
 use Rattle.model.specs.Laws.Zonal.{zonal-sweeps}
-use Rattle.model.specs.Laws.Basic.{length-part, length-tab}
 use Rattle.model.specs.Laws.Entries.{joined-ext, part-part, part-sum-le}
 use Rattle.model.specs.Laws.Substep.{AirIn}
 use Rattle.units.specs.declared.Grid as declared

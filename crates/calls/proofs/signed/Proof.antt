@@ -1,11 +1,10 @@
 -- `calls::signed` meets its contract: below 2^31 the number itself, else -1 less what is missing to 2^32 - 1.
 -- Assumes nothing.
 use Prim.Native.Nat.{_-_}
-use mathlib.Core.Path.{_≡_, sym, _∙_}
+use mathlib.Core.Path.{sym, _∙_}
 use native.Mathlib.Omega.{arith}
 use lib.IntN.{negsuc}
 use mir.Syntax.{w32}
-use mir.Val.{SFits}
 use mir.Facts.{toZ-ofZ, toZ-pos}
 use Rattle.calls.specs.Signed.{signed-low, signed-high, less-one}
 use borrow.Author.Needs.{needs}

@@ -3,7 +3,6 @@
 use Prim.Native.Nat.{_*_}
 use mathlib.Core.Path.{sym, _∙_}
 use native.Mathlib.Omega.{arith}
-use lib.ListN.{length}
 use lib.Seq.{length-take-le}
 use Rattle.carry.specs.Laws.{small, make-need, amounts-few, air-room, tracers-room}
 use Rattle.carry.specs.Leaves.{call-leaves}

@@ -3,7 +3,7 @@
 use Prim.Native.Nat.{ℕ, _*_}
 use Prim.Native.String.{String}
 use mathlib.Core.List.{List, [], _∷_, _++_}
-use mathlib.Core.Path.{_≡_, refl}
+use mathlib.Core.Path.{refl}
 use lib.IntN.{ℤ, pos, negℤ}
 use lib.ListN.{replicate, set}
 use Rattle.model.specs.World.{Grid, World, worldCells}

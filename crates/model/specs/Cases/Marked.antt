@@ -3,11 +3,11 @@
 use Prim.Native.Nat.{ℕ}
 use Prim.Native.String.{String}
 use mathlib.Core.List.{List, [], _∷_, _++_}
-use mathlib.Core.Path.{_≡_, refl}
+use mathlib.Core.Path.{refl}
 use lib.IntN.{ℤ, pos, negℤ}
 use lib.ListN.{replicate}
 use Rattle.model.specs.World.{Grid, World}
-use Rattle.model.specs.Step.{Call, Result, emission, zonal, remap}
+use Rattle.model.specs.Step.{Call, emission, zonal, remap}
 use Rattle.model.specs.Cases.{Case, Hold, hold, computes}
 
 -- a grid, a world, four fluxes, six amounts: south cap, row of four, north cap

@@ -1,11 +1,11 @@
 -- Laws of the words of Basic.antt: sums, lists of values, every, some, smallest, a part of a list and a part written.
 -- Assumes nothing.
-use Prim.Native.Nat.{ℕ, zero, suc, _+_, _*_, _-_, _≤_, _<_, min}
+use Prim.Native.Nat.{ℕ, zero, suc, _+_, _*_, _-_, _≤_, _<_}
 use mathlib.Core.List.{List, [], _∷_, _++_, append-assoc}
 use mathlib.Core.Bool.{Bool, true, false, and-eq-true-iff, or-true, _&&_, _||_, false≢true}
 use mathlib.Core.Path.{_≡_, refl, sym, _∙_, ap, ap₂}
 use mathlib.Core.Logic.{_⊎_, inl, inr, ⊎-elim}
-use native.Mathlib.Nat.{zero-add, zero-mul, suc-mul, add-zero, add-assoc, mul-add, mul-zero, le-refl, add-suc, eq-or-lt-of-le}
+use native.Mathlib.Nat.{zero-add, zero-mul, suc-mul, add-zero, add-assoc, mul-zero, le-refl, add-suc, eq-or-lt-of-le}
 use native.Mathlib.Numerals.{add-one}
 use native.Mathlib.Omega.{arith}
 use borrow.Author.Tests.{ltb-true, ltb-false}

@@ -5,8 +5,8 @@ use mathlib.Core.List.{List, [], _∷_}
 use mathlib.Core.Path.{_≡_, refl, sym, _∙_, ap}
 use native.Mathlib.Omega.{arith}
 use lib.ListN.{length, take, drop, length-drop}
-use Rattle.program.specs.Records.{State, Line, Reading, nothing, fault, command, Outcome, none, onward, last, found, needed, outcomeOf}
-use Rattle.program.specs.Lines.{Entry, entry, entriesFrom, linesOf, run}
+use Rattle.program.specs.Records.{State, Line, Outcome, none, onward, last, found, needed, outcomeOf}
+use Rattle.program.specs.Lines.{entry, entriesFrom, linesOf, run}
 use Rattle.program.specs.Laws.Records.{found-taken}
 
 -- ---- the first record of some bytes

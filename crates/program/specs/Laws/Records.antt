@@ -1,21 +1,21 @@
 -- Laws of records: a record is decided by its kind and the bytes that it needs, whatever follows them.
 -- Assumes nothing.
 use Prim.Native.Nat.{ℕ, zero, suc, _+_, _*_, _≤_, _<_}
-use mathlib.Core.List.{List, [], _∷_}
+use mathlib.Core.List.{List, _∷_}
 use mathlib.Core.Bool.{Bool, true, false}
 use mathlib.Core.Logic.{_⊎_, inl, inr}
 use mathlib.Core.Path.{_≡_, refl, sym, _∙_, ap}
 use native.Mathlib.Omega.{arith}
 use native.Mathlib.Nat.{zero-add}
-use borrow.Author.Tests.{leb-true, le-leb, lt-leb}
-use lib.Dec.{leb, ltb, lit<}
-use lib.ListN.{length, take, drop, getD, length-take}
+use borrow.Author.Tests.{le-leb, lt-leb}
+use lib.Dec.{lit<}
+use lib.ListN.{length, take, drop}
 use lib.Seq.{getD-take, take-all, length-take-le}
 use Rattle.model.specs.Basic.{at, tab, tabFrom}
 use Rattle.model.specs.Laws.Entries.{part-part, below-or-not}
 use Rattle.model.specs.World.{Grid, worldCells}
 use Rattle.program.specs.Bytes.{number, numberAt, numbersAt, signed, fluxesAt}
-use Rattle.program.specs.Records.{Kind, unknown, gridKind, loadKind, emissionKind, withdrawalKind, zonalKind, meridionalKind, remapKind, totalKind, cellKind, kindOf, State, gridOf, inPlace, bodyLength, Command, commandOf, Reading, fault, command, found, needed}
+use Rattle.program.specs.Records.{Kind, unknown, gridKind, loadKind, emissionKind, withdrawalKind, zonalKind, meridionalKind, remapKind, totalKind, cellKind, kindOf, State, gridOf, inPlace, bodyLength, commandOf, fault, command, found, needed}
 
 -- ---- lists of values, entry by entry
 tabFrom-same : {A : Type 0} (i n : ℕ) (f g : ℕ → A) → ((j : ℕ) → i ≤ j → j < i + n → f j ≡ g j) → tabFrom i n f ≡ tabFrom i n g

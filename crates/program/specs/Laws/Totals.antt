@@ -9,7 +9,7 @@ use native.Mathlib.Omega.{arith}
 use lib.Dec.{eqb}
 use lib.ListN.{length}
 use Rattle.model.specs.World.{Grid, World, gasTotal}
-use Rattle.model.specs.Step.{Call, load, emission, withdrawal, zonal, meridional, remap, total, reading, ownPlaces, accepted, refused, refusal, step, Result}
+use Rattle.model.specs.Step.{Call, load, emission, withdrawal, zonal, meridional, remap, total, reading, ownPlaces, accepted, refused, step, Result}
 use Rattle.model.specs.Lists.{whenAccepted, emits, withdraws}
 use Rattle.model.specs.Laws.Step.{Fits, found as present, own-refusal, loaded-fits, step-accepted, step-refused, answer-is}
 use Rattle.model.specs.Laws.Entries.{below-or-not}
@@ -18,7 +18,7 @@ use Rattle.program.specs.Records.{Kind, unknown, gridKind, loadKind, emi
 use Rattle.program.specs.Lines.{Entry, entry, entriesFrom}
 use Rattle.program.specs.Laws.Lines.{firstOutcome, entries-none, entries-onward, entries-last}
 use Rattle.program.specs.Laws.Records.{found-misplaced, found-short, found-command}
-use Rattle.program.specs.Totals.{Account, account, when, booked, notedReading, noted, accountAfter}
+use Rattle.program.specs.Totals.{Account, when, booked, notedReading, noted, accountAfter}
 
 -- the account of tracer t says what the loaded world holds of it
 pub record Balanced (t : ℕ) (w : World) (a : Account) : Type 0 where

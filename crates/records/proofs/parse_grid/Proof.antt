@@ -1,7 +1,6 @@
 -- `records::parse_grid` meets its contract: each byte is its own number.
 -- Assumes nothing.
 use mathlib.Core.Path.{_∙_}
-use lib.Dec.{lit<}
 use native.Mathlib.Omega.{arith}
 use Rattle.records.specs.Laws.{number-one}
 use borrow.Author.Needs.{needs}

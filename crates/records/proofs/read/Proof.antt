@@ -3,7 +3,7 @@
 use mathlib.Core.Path.{sym, _∙_}
 use native.Mathlib.Omega.{arith}
 use Rattle.units.specs.Grid.{gridOf}
-use Rattle.records.specs.Stage.{kindIs, plainState}
+use Rattle.records.specs.Stage.{kindIs}
 use Rattle.records.specs.Laws.{stage-small, parse-need, finds-nothing, finds-misplaced, finds-short, finds-record}
 use borrow.Author.Needs.{needs}
 use Rattle.records.proofs.read.Statement.{statement}

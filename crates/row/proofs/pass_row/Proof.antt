@@ -1,13 +1,13 @@
 -- `row::pass_row` meets its contract. The loop's invariant: the columns passed have what the substep leaves there, the others what they had.
 -- Assumes nothing.
 use Prim.Native.Nat.{ℕ, _+_, _≤_, _-_}
-use mathlib.Core.Path.{_≡_, refl, _∙_, ap₂}
+use mathlib.Core.Path.{_≡_, _∙_, ap₂}
 use native.Mathlib.Omega.{arith}
 use lib.ListN.{length}
 use Rattle.model.specs.Basic.{at}
 use Rattle.model.specs.Sweep.{ring}
 use Rattle.substep.specs.Faces.{flowOf}
-use Rattle.substep.specs.Cells.{Exchange, Moved, moved-none, moved-exchange, moved-more, all-moved}
+use Rattle.substep.specs.Cells.{Moved, moved-none, moved-exchange, moved-more, all-moved}
 use Rattle.row.specs.Columns.{column}
 use borrow.Author.Needs.{needs}
 use Rattle.row.proofs.pass_row.Statement.{statement}

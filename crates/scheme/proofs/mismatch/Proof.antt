@@ -1,7 +1,7 @@
 -- `scheme::mismatch` meets its contract: twice the lesser distance is the lesser of the two limits, and the least and the greatest of the neighbours tell as much as those of all three.
 -- Assumes nothing.
 use Prim.Native.Nat.{ℕ, _*_, _-_, _/_, min, max}
-use mathlib.Core.Path.{_≡_, sym, _∙_, ap, ap₂}
+use mathlib.Core.Path.{_≡_, _∙_, ap, ap₂}
 use native.Mathlib.Omega.{arith}
 use lib.Dec.{leb}
 use Rattle.model.specs.Basic.{distance}
