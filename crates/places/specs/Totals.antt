@@ -1,6 +1,6 @@
 -- What `totals` needs and gives: the sums of the first n tracers over all cells.
 -- Assumes nothing.
-use Prim.Native.Nat.{ℕ, suc, _+_, _*_, _-_, _%_, _≤_, _<_}
+use Prim.Native.Nat.{ℕ, suc, _+_, _*_, _-_, _%_, _^_, _≤_, _<_}
 use mathlib.Core.List.{List}
 use mathlib.Core.Path.{_≡_, sym, _∙_, ap}
 use native.Mathlib.Nat.{add-sub-cancel-left, mod-eq-of-lt, mul-le-mul, mul-le-mul-right}
@@ -49,11 +49,17 @@ tracer-room {tracers} {cells} {n} fit t h =
 pub part-total : (l : List ℕ) (a n x : ℕ) → a + n ≤ length l → x ≡ sum (length (part l a (a + n - a))) (at (part l a (a + n - a))) → x ≡ sum n (at (part l a n))
 part-total l a n x h e = rw (add-sub-cancel-left a n, length-part l a n h) at e
 
--- ---- a block's sum in 32 bits: the bits of all amounts, and the sum of their last 20 bits
-pub block-more : (all low x s : ℕ) → (all < 1048576 → low ≡ s) → bitOr all x < 1048576 → low + x % 1048576 ≡ s + x
-block-more all low x s below h =
-    let e : x % 1048576 ≡ x = mod-eq-of-lt (omega (arith, or-above all x .1)) in
-    omega (arith, e, below (omega (arith, or-above all x .0)))
+-- ---- a block's sum in 32 bits: where the bits of all amounts passed are below 2^20, it is their sum, and none passed 32 bits
+pub record BlockSum (s t i : ℕ) : Type 0 where
+  pub is : s ≡ t
+  pub small : s ≤ i * 1048575
+
+pub block-more : (all s x t i : ℕ) → i < 4096 → (all < 1048576 → BlockSum s t i) → bitOr all x < 1048576 → BlockSum ((s + x) % 2 ^ 32) (t + x) (i + 1)
+block-more all s x t i few below h =
+    let old = below (omega (arith, or-above all x .0)) in
+    let fits : s + x < 2 ^ 32 = omega (arith, old .small, or-above all x .1) in
+    let e = mod-eq-of-lt fits in
+    record { is = omega (arith, e, old .is); small = omega (arith, e, old .small, or-above all x .1) }
 
 -- ---- the sum up to the end of a block
 pub sum-block : (l : List ℕ) (a e x : ℕ) → a ≤ e → e ≤ length l → x ≡ sum (length (part l a (e - a))) (at (part l a (e - a))) → sum e (at l) ≡ sum a (at l) + x

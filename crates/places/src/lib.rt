@@ -13,6 +13,7 @@ ghost use Rattle.units.specs.Grid.{gridOf, worldOf, InRange};
 ghost use Rattle.places.specs.Totals.{IsTotal, TracersFit, AreTotals};
 ghost use Rattle.places.specs.Tested.{lentServes, lengthsServe, IsTested};
 use scheme::split;
+use std::num::wrapping_add_u32;
 use units::Air;
 use units::Answer;
 use units::Grid;
@@ -57,23 +58,23 @@ fn wide_total(gas: &[u32]) -> u64
     sum
 }
 
-// The sum of a block of at most 4,096 amounts. `all` has the bits of every amount: where it is below 2^20, the sum of the
-// amounts' last 20 bits is their sum. Both fit 32 bits, so that the loop runs at the speed of memory.
+// The sum of a block of at most 4,096 amounts. `all` has the bits of every amount: where it is below 2^20, no sum passes
+// 32 bits. Both are of 32 bits, so that the loop runs at the speed of memory.
 fn block_total(gas: &[u32]) -> u64
     requires { ⌜ length (now gas) ≤ 4096 ⌝ }
     ensures { λ r. ⌜ IsTotal (now (gas .entry)) r ⌝ }
 {
     let mut all: u32 = 0;
-    let mut low: u32 = 0;
+    let mut sum: u32 = 0;
     let mut i = 0;
     while i < gas.len() {
         let x = gas[i];
         all = all | x;
-        low += x % 1048576;
+        sum = wrapping_add_u32(sum, x);
         i += 1;
     }
     if all < 1048576 {
-        low as u64
+        sum as u64
     } else {
         wide_total(gas)
     }
