@@ -8,23 +8,12 @@ use lib.Dec.{eqb}
 use lib.ListN.{length}
 use Rattle.model.specs.Limits.{airLimit, totalLimit}
 use Rattle.model.specs.Basic.{at, sum, tab}
-use Rattle.model.specs.Scheme.{Mismatch, ratio, mismatch, plain}
+use Rattle.model.specs.Scheme.{Mismatch, mismatch, plain}
 use Rattle.model.specs.Remap.{airAbove, layers, newTracer, columnCount}
+use Rattle.substep.specs.Pieces.{AreRatios}
 use Rattle.column.specs.Column.{firsts, AreEdges}
 
--- ---- ratios and mismatches
--- up to 32 layers, each with air
-pub record RatiosNeed (k : ℕ) (air gas q : List ℕ) : Type 0 where
-  pub fit : k ≤ 32
-  pub roomAir : k ≤ length air
-  pub roomGas : k ≤ length gas
-  pub room : k ≤ length q
-  pub least : (i : ℕ) → i < k → 1 ≤ at air i
-
--- q has the ratio of each layer
-pub record AreRatios (k : ℕ) (air gas q : List ℕ) : Type 0 where
-  pub is : (i : ℕ) → i < k → at q i ≡ ratio (at air i) (at gas i)
-
+-- ---- mismatches
 -- the mismatch of layer i by the layers' ratios
 unfoldable pub slopeAt : Bool → ℕ → List ℕ → ℕ → Mismatch
 slopeAt cap k q i =

@@ -15,7 +15,8 @@ use Rattle.model.specs.Laws.Basic.{at-tab}
 use Rattle.model.specs.Laws.Scheme.{mismatch-twice}
 use Rattle.model.specs.Laws.Column.{layerOf}
 use Rattle.column.specs.Column.{firsts}
-use Rattle.column.specs.Gas.{AreRatios, slopeAt}
+use Rattle.substep.specs.Pieces.{AreRatios}
+use Rattle.column.specs.Gas.{slopeAt}
 
 -- the layers that the lists hold
 abbrev pub layerAt : Bool → ℕ → List ℕ → List ℕ → List ℕ → ℕ → Layer

@@ -10,10 +10,10 @@ ghost use Rattle.model.specs.Limits.{airLimit, totalLimit, tableLimit, tableSca
 ghost use Rattle.model.specs.Step.{tableFits};
 ghost use Rattle.scheme.specs.Leaves.{mismatchOf};
 ghost use Rattle.column.specs.Column.{AirNeed, IsAirSum, EdgesNeed, AreEdges, IsServing, Served, IsNewAir};
-ghost use Rattle.column.specs.Gas.{RatiosNeed, AreRatios, slopeAt, Spans, WalkNeed, IsPairs, GasNeed, IsRemapped};
+ghost use Rattle.column.specs.Gas.{slopeAt, Spans, WalkNeed, IsPairs, GasNeed, IsRemapped};
 use scheme::low_piece;
 use scheme::mismatch;
-use scheme::ratio;
+use substep::fill_ratios;
 use units::Air;
 use units::Mismatch;
 use units::Tracer;
@@ -112,18 +112,6 @@ pub fn new_air(e: &[u64], k: usize, new: &mut [u32])
     while j < k {
         new[j] = (e[j + 1] - e[j]) as u32;
         j += 1;
-    }
-}
-
-// The ratio of each layer.
-fn fill_ratios(air: &[u32], gas: &[u32], k: usize, q: &mut [u64])
-    requires { ⌜ RatiosNeed k (now air) (now gas) (now q) ⌝ }
-    ensures { λ r. ⌜ AreRatios k (now (air .entry)) (now (gas .entry)) (now (q .exit)) ⌝ }
-{
-    let mut i = 0;
-    while i < k {
-        q[i] = ratio(Air(air[i]), Tracer(gas[i]));
-        i += 1;
     }
 }
 

@@ -34,7 +34,7 @@ pub record StepNeed (gas air up down : List ℕ) : Type 0 where
 pub record PiecesNeed (air gas q up down high low : List ℕ) : Type 0 where
   pub need : GasNeed (ring (length air)) (flowOf up down) air gas
   pub room : Room (length air) up down
-  pub ratios : AreRatios air gas q (length air)
+  pub ratios : AreRatios (length air) air gas q
   pub fit : length air ≤ length q
   pub pieceRoom : Room (length air) high low
 
@@ -51,9 +51,9 @@ module _ {gas air up down : List ℕ} (need : StepNeed gas air up down) where
   unfolding ring
   gas-long = need .need .gasLong
 
-  pub ratios-need : (room : ℕ) → length air ≤ room → HasAir air gas room
+  pub ratios-need : (q : List ℕ) → length air ≤ length q → HasAir (length air) air gas q
   unfolding ring
-  ratios-need room fit = has-air (need .need) room fit
+  ratios-need q room = has-air (need .need) q room
 
   pub length-stepped : length (rowStepped gas air up down) ≡ length air
   unfolding ring

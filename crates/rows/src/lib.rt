@@ -50,7 +50,7 @@ fn step_gas(gas: &mut [u32], air: &[u32], up: &[u32], down: &[u32])
     let mut q = [0u64; 72];
     let mut high = [0u32; 72];
     let mut low = [0u32; 72];
-    fill_ratios(air, &gas[..], &mut q);
+    fill_ratios(air, &gas[..], air.len(), &mut q);
     fill_pieces(air, &gas[..], &q, up, down, &mut high, &mut low);
     pass_row(gas, &high, &low);
 }

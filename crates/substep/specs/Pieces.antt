@@ -27,22 +27,24 @@ pub record GasNeed (mesh : Mesh) (flow : Flow) (air gas : List ℕ) : Type 0 whe
   pub total : sum (mesh .cells) (at gas) ≤ totalLimit
 
 -- ---- ratios
--- cells that have air, and room for their ratios
-pub record HasAir (air gas : List ℕ) (room : ℕ) : Type 0 where
-  pub long : length gas ≡ length air
-  pub fit : length air ≤ room
-  pub some : (c : ℕ) → c < length air → 0 < at air c
+-- n cells, each with air, and room for their ratios
+pub record HasAir (n : ℕ) (air gas q : List ℕ) : Type 0 where
+  pub airLong : n ≤ length air
+  pub gasLong : n ≤ length gas
+  pub room : n ≤ length q
+  pub some : (c : ℕ) → c < n → 0 < at air c
 
--- q has the ratio of each of the first n cells
-pub record AreRatios (air gas q : List ℕ) (n : ℕ) : Type 0 where
+-- q has the ratio of each of them
+pub record AreRatios (n : ℕ) (air gas q : List ℕ) : Type 0 where
   pub is : (c : ℕ) → c < n → at q c ≡ cellRatio air gas c
 
-pub has-air : {mesh : Mesh} {flow : Flow} {air gas : List ℕ} → GasNeed mesh flow air gas → (room : ℕ) → mesh .cells ≤ room → HasAir air gas room
-has-air {mesh} {flow} {air} need room fit =
+pub has-air : {mesh : Mesh} {flow : Flow} {air gas : List ℕ} → GasNeed mesh flow air gas → (q : List ℕ) → mesh .cells ≤ length q → HasAir (mesh .cells) air gas q
+has-air {mesh} {flow} {air} need q room =
     record {
-      long = need .gasLong ∙ sym (need .airLong);
-      fit = rw (need .airLong) fit;
-      some = λ c h. air-bounds (at air c) (need .airIn c (rw (need .airLong) at h)) .0;
+      airLong = omega (arith, need .airLong);
+      gasLong = omega (arith, need .gasLong);
+      room = room;
+      some = λ c h. air-bounds (at air c) (need .airIn c h) .0;
     }
 
 -- ---- a piece
@@ -74,7 +76,7 @@ module _ {mesh : Mesh} {flow : Flow} {air gas : List ℕ} (regular : Regular mes
   covers : Covers mesh flow air
   covers = allowed-is mesh flow air (need .permits) .covers
 
-  module _ (q : List ℕ) (ratios : AreRatios air gas q (mesh .cells)) (room : mesh .cells ≤ length q) {a c b : ℕ} (near : Neighbours mesh a c b) where
+  module _ (q : List ℕ) (ratios : AreRatios (mesh .cells) air gas q) (room : mesh .cells ≤ length q) {a c b : ℕ} (near : Neighbours mesh a c b) where
     piece-need : (m : ℕ) → m ≤ at air c → PieceNeed air gas q a c b m
     piece-need m part =
         let fits = air-bounds (at air c) (need .airIn c (near .own)) in

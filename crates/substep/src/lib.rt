@@ -34,13 +34,13 @@ pub fn fill_parts(fluxes: &[i32], n: u32, s: u32, up: &mut [u32], down: &mut [u3
     }
 }
 
-// The ratio of each cell.
-pub fn fill_ratios(air: &[u32], gas: &[u32], q: &mut [u64])
-    requires { ⌜ HasAir (now air) (now gas) (length (now q)) ⌝ }
-    ensures { λ r. ⌜ AreRatios (now (air .entry)) (now (gas .entry)) (now (q .exit)) (length (now (air .entry))) ⌝ }
+// The ratio of each of n cells.
+pub fn fill_ratios(air: &[u32], gas: &[u32], n: usize, q: &mut [u64])
+    requires { ⌜ HasAir n (now air) (now gas) (now q) ⌝ }
+    ensures { λ r. ⌜ AreRatios n (now (air .entry)) (now (gas .entry)) (now (q .exit)) ⌝ }
 {
     let mut c = 0;
-    while c < air.len() {
+    while c < n {
         q[c] = ratio(Air(air[c]), Tracer(gas[c]));
         c += 1;
     }

@@ -10,7 +10,7 @@ slice-aggregate-fill-ratios : tie.Need-slice-aggregate-fill-ratios
 slice-aggregate-fill-ratios c = search needs
 
 fill-ratios-requires : tie.Need-fill-ratios-requires
-fill-ratios-requires c κs = ratios-need (c .before .before .before .before .before .before .pre) 72 (c .before .before .before .before .before .before .pre .wide)
+fill-ratios-requires c κs = ratios-need (c .before .before .before .before .before .before .pre) _ (c .before .before .before .before .before .before .pre .wide)
 
 slice-aggregate-fill-pieces : tie.Need-slice-aggregate-fill-pieces
 slice-aggregate-fill-pieces c = search needs

@@ -12,25 +12,25 @@ use Rattle.substep.proofs.fill_ratios.Statement.{statement}
 use Rattle.substep.proofs.fill_ratios.Tie as tie
 
 abbrev Inv-loop : tie.InvT-loop
-Inv-loop air gas q₀ c₀ q c = (c ≤ length air) × (length q ≡ length q₀) × AreRatios air gas q c
+Inv-loop air gas n q₀ c₀ q c = (c ≤ n) × (length q ≡ length q₀) × AreRatios c air gas q
 
 abbrev μ-loop : tie.MeasureT-loop
-μ-loop air gas q₀ c₀ q c = length air - c
+μ-loop air gas n q₀ c₀ q c = n - c
 
 loop-holds : tie.Need-loop-holds Inv-loop μ-loop
 loop-holds c = (search needs, search needs, record { is = λ k h. absurd (omega arith) })
 
-mul-t5 : tie.Need-mul-t5 Inv-loop μ-loop
-mul-t5 c = search needs
+mul-t8 : tie.Need-mul-t8 Inv-loop μ-loop
+mul-t8 c = search needs
 
-shared-slice-read-t9 : tie.Need-shared-slice-read-t9 Inv-loop μ-loop
-shared-slice-read-t9 c = search needs
+shared-slice-read-t10 : tie.Need-shared-slice-read-t10 Inv-loop μ-loop
+shared-slice-read-t10 c = search needs
 
-mul-t11 : tie.Need-mul-t11 Inv-loop μ-loop
-mul-t11 c = search needs
+mul-t12 : tie.Need-mul-t12 Inv-loop μ-loop
+mul-t12 c = search needs
 
-shared-slice-read-t13 : tie.Need-shared-slice-read-t13 Inv-loop μ-loop
-shared-slice-read-t13 c = search needs
+shared-slice-read-t14 : tie.Need-shared-slice-read-t14 Inv-loop μ-loop
+shared-slice-read-t14 c = search needs
 
 ratio-requires : tie.Need-ratio-requires Inv-loop μ-loop
 ratio-requires c κs = c .before .before .before .before .before .before .before .pre .some _ (search needs)
@@ -71,10 +71,10 @@ fill-ratios-spec =
     Inv-loop
     μ-loop
     loop-holds
-    mul-t5
-    shared-slice-read-t9
-    mul-t11
-    shared-slice-read-t13
+    mul-t8
+    shared-slice-read-t10
+    mul-t12
+    shared-slice-read-t14
     ratio-requires
     mul-q
     slice-write-q
