@@ -98,7 +98,7 @@ pub record Begun (mesh : Mesh) (flow : Flow) (l : List ℕ) (c : ℕ) : Type 0 w
   pub moved : Moved mesh flow first l c
 
 -- then the first d are, whatever the amounts were before the first
-abbrev pub MovedOn : (mesh : Mesh) → Flow → List ℕ → ℕ → List ℕ → ℕ → Type 0
+abbrev pub MovedOn : Mesh → Flow → List ℕ → ℕ → List ℕ → ℕ → Type 0
 MovedOn mesh flow l c after d = (b : Begun mesh flow l c) → Moved mesh flow (b .first) after d
 
 abbrev pub begin : {mesh : Mesh} {flow : Flow} {l : List ℕ} {e o : ℕ} → Moves mesh flow l → Cell mesh flow 0 e o → (x : ℕ) → x ≡ at l 0 + e - o → Begun mesh flow (set l 0 x) 1

@@ -2,7 +2,7 @@
 // Cell 0 is the south cap, cell 1 + j the cell between face j and face w + j, and the last cell the north cap.
 // Every piece is taken into a list before any amount changes.
 ghost use mathlib.Core.Path.{_≡_};
-ghost use Prim.Native.Nat.{ℕ, _+_, _*_, _-_, _≤_, _<_};
+ghost use Prim.Native.Nat.{_+_, _*_, _≤_, _<_};
 ghost use lib.ListN.{length};
 ghost use Rattle.model.specs.Basic.{every};
 ghost use Rattle.model.specs.Sweep.{southOf, northOf, layer, afterFlow, allowed, pieces};

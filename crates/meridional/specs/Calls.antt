@@ -14,7 +14,7 @@ use Rattle.model.specs.Limits.{meridionalLimit}
 use Rattle.model.specs.Basic.{part, every}
 use Rattle.model.specs.World.{World, layerCells, layerStart}
 use Rattle.model.specs.Sweep.{Mesh, Flow, layer, flux, parts, allowed, airAfter, serves}
-use Rattle.model.specs.Step.{Call, Place, place, firstOf, step, ownPlaces, refusal, layerAbsent, fluxTooLarge, layerAir, meridional}
+use Rattle.model.specs.Step.{Place, place, firstOf, step, ownPlaces, refusal, layerAbsent, fluxTooLarge, layerAir, meridional}
 use Rattle.model.specs.Laws.Basic.{length-part}
 use Rattle.model.specs.Laws.Layer.{layer-regular}
 use Rattle.model.specs.Laws.Step.{Fits, passes, stops, own-refusal}
@@ -27,7 +27,7 @@ use Rattle.units.specs.Agrees.{refused-agrees, place-agrees}
 use Rattle.units.specs.Grid.{gridOf, InRange}
 use Rattle.places.specs.declared.Lent.the-variants.{LayerFluxes}
 use Rattle.places.specs.Tested.{IsTested}
-use Rattle.substep.specs.Faces.{Same, PartsNeed, AreParts, same-allowed}
+use Rattle.substep.specs.Faces.{Same, AreParts, same-allowed}
 use Rattle.substep.specs.Lent.{part-lent}
 use Rattle.layer.specs.Cells.{Size, Faces, Fit}
 
@@ -38,7 +38,7 @@ layer-size g range =
     record { columns = range .highW; cells = mul-le-mul {n₂ = 44} {m₂ = 72} (range .highR) (range .highW) }
 
 -- its fluxes
-faces-few : (g : declared.Grid) → InRange g → g .w * (g .r + 1) ≤ 3240
+pub faces-few : (g : declared.Grid) → InRange g → g .w * (g .r + 1) ≤ 3240
 faces-few g range =
     let rows : g .r + 1 ≤ 45 = omega (arith, range .highR) in
     mul-le-mul {n₂ = 72} {m₂ = 45} (range .highW) rows
@@ -57,16 +57,6 @@ module _ (g : declared.Grid) (range : InRange g) {up down : List ℕ} (rooms : R
   rooms-serve =
       let few = faces-few g range in
       record { high = omega (arith, rooms .high); low = omega (arith, rooms .low) }
-
-  pub parts-need : (n : ℕ) → n ≡ g .w * (g .r + 1) → PartsNeed n 1 1 (length up) (length down)
-  parts-need n e =
-      let few = faces-few g range in
-      record {
-        roomHigh = omega (arith, rooms .high);
-        roomLow = omega (arith, rooms .low);
-        first = omega arith;
-        last = omega arith;
-      }
 
   pub part-fit : (l : List ℕ) (first wide : ℕ) → wide ≡ layerCells (gridOf g) → first + wide ≤ length l → Fit (g .w) (g .r) (part l first (first + wide - first)) up down
   part-fit l first wide e inside =

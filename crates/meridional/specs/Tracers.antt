@@ -3,11 +3,11 @@
 use Prim.Native.Nat.{ℕ, suc, _+_, _*_, _-_, _≤_, _<_}
 use mathlib.Core.List.{List, [], _++_, append-assoc, append-nil}
 use mathlib.Core.Bool.{true}
-use mathlib.Core.Path.{_≡_, refl, sym, ap, ap₂, _∙_}
+use mathlib.Core.Path.{_≡_, sym, ap, ap₂, _∙_}
 use native.Mathlib.Nat.{le-trans, zero-mul, mul-le-mul, mul-le-mul-right}
 use native.Mathlib.Omega.{arith}
 use borrow.Rule.Slice.PartMut.{putMid}
-use lib.ListN.{length, length-append, length-drop, getD, take, drop, take-append-drop, drop-of-length-le}
+use lib.ListN.{length, length-append, length-drop, take, drop, take-append-drop, drop-of-length-le}
 use lib.Seq.{drop-drop, drop-append-add}
 use Rattle.model.specs.Limits.{totalLimit}
 use Rattle.model.specs.Basic.{at, part, written, joined, tabFrom, tab, sum}

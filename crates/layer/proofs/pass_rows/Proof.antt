@@ -1,6 +1,6 @@
 -- `layer::pass_rows` meets its contract. The loop's invariant: the south cap and the cells passed have their amount afterwards, the others what they had.
 -- Assumes nothing.
-use Prim.Native.Nat.{ℕ, _+_, _*_, _-_, _≤_}
+use Prim.Native.Nat.{_+_, _*_, _-_, _≤_}
 use mathlib.Core.Path.{_≡_}
 use native.Mathlib.Omega.{arith}
 use lib.ListN.{length}

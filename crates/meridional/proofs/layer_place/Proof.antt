@@ -1,13 +1,13 @@
 -- `meridional::layer_place` meets its contract: each answer from the tests that led there.
 -- Assumes nothing.
 use Prim.Native.Nat.{_+_, _≤_}
-use mathlib.Core.Path.{_≡_, refl, sym, _∙_}
+use mathlib.Core.Path.{refl, sym, _∙_}
 use native.Mathlib.Omega.{arith}
 use borrow.Author.Tests.{eqb-true}
 use lib.ListN.{length}
 use Rattle.units.specs.Grid.{worldOf, in-range}
 use Rattle.units.specs.declared.Refusal.the-variants.{Index, Fluxes, Meridional}
-use Rattle.meridional.specs.Calls.{place-common, place-refused, place-found, no-layer, flux-too-large, substep-refused, sweep-accepted, parts-need, part-fit, layer-lent, tested-serves}
+use Rattle.meridional.specs.Calls.{place-common, place-refused, place-found, no-layer, flux-too-large, substep-refused, sweep-accepted, faces-few, part-fit, layer-lent, tested-serves}
 use borrow.Author.Needs.{needs}
 use Rattle.meridional.proofs.layer_place.Statement.{statement}
 use Rattle.meridional.proofs.layer_place.Tie as tie
@@ -79,7 +79,14 @@ fill-parts-requires c κs =
     let args = c .before .before .before .before .before .before .before .before .before .before .before .before .before .before .before .args in
     let passed = c .before .before .before .before .before .before .before .before .before .before .common-places .ensures .passed (sym (c .before .before .before .before .before .before .before .before .before .number .ensures) ∙ c .before .before .before .before .before .before .before .before .if1 .taken) in
     let range = in-range (args .g) (passed .fits .grid) in
-    parts-need (args .g) range (c .before .before .before .before .before .before .before .before .before .before .before .before .before .before .before .pre) _ (eqb-true (length (args .fluxes .now)) _ (passed .lentFit))
+    let few = faces-few (args .g) range in
+    let long = eqb-true (length (args .fluxes .now)) _ (passed .lentFit) in
+    record {
+      roomHigh = omega (arith, c .before .before .before .before .before .before .before .before .before .before .before .before .before .before .before .pre);
+      roomLow = omega (arith, c .before .before .before .before .before .before .before .before .before .before .before .before .before .before .before .pre);
+      first = omega arith;
+      last = omega arith;
+    }
 
 mul-layer-allowed : tie.Need-mul-layer-allowed
 mul-layer-allowed c = search needs
