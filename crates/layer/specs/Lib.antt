@@ -1,2 +1,2 @@
 pub mod Cells
-pub mod Air
+pub mod Gas

@@ -1,104 +1,43 @@
-// The meridional substep of one layer with its two caps: what passes its faces, whether it is allowed, and its air.
+// The meridional substep of one layer with its two caps: whether it is allowed, and what it leaves in the air and in a tracer.
 // Cell 0 is the south cap, cell 1 + j the cell between face j and face w + j, and the last cell the north cap.
+// Every piece is taken into a list before any amount changes.
 ghost use mathlib.Core.Path.{_≡_};
-ghost use mathlib.Core.Bool.{_&&_};
-ghost use Prim.Native.Nat.{ℕ, _+_, _*_, _-_, _≤_};
-ghost use lib.Dec.{leb};
+ghost use Prim.Native.Nat.{_+_, _*_, _≤_, _<_};
 ghost use lib.ListN.{length};
 ghost use Rattle.model.specs.Basic.{every};
-ghost use Rattle.model.specs.World.{airFits};
-ghost use Rattle.model.specs.Sweep.{layer, afterFlow, allowed, parts};
-ghost use Rattle.row.specs.Row.{airAt};
-ghost use Rattle.layer.specs.Cells.{Faces, IsSum, Over, Exchange, Moves, Moved, cellAllowed};
-ghost use Rattle.layer.specs.Air.{flowOf, AirNeed};
-use scheme::split;
+ghost use Rattle.model.specs.Sweep.{southOf, northOf, layer, afterFlow, allowed, pieces};
+ghost use Rattle.substep.specs.Faces.{flowOf, Same, stepped};
+ghost use Rattle.substep.specs.Cells.{cellAllowed, Moves};
+ghost use Rattle.substep.specs.Pieces.{AreRatios, Neighbours};
+ghost use Rattle.layer.specs.Cells.{Size, Fit, CapFaces, IsSum, Begun, MovedOn};
+ghost use Rattle.layer.specs.Gas.{Step};
+use substep::amount_after;
+use substep::both;
+use substep::cell_allows;
+use substep::fill_ratios;
+use substep::high_end;
+use substep::low_end;
 use units::Air;
 
-// What passes each face of a layer northward and southward; 0 past the layer's faces.
-pub struct LayerFlow {
-    pub to_high: [Air; 3240],
-    pub to_low: [Air; 3240],
-}
-
-// A layer's fluxes, each in its direction.
-pub fn flow_of(fluxes: &[i32]) -> LayerFlow
-    requires { ⌜ length (now fluxes) ≤ 3240 ⌝ }
-    ensures { λ r. ⌜ flowOf r ≡ parts (now (fluxes .entry)) 1 1 ⌝ }
-{
-    let mut high = [Air(0); 3240];
-    let mut low = [Air(0); 3240];
-    let mut i = 0;
-    while i < fluxes.len() {
-        let x = fluxes[i];
-        let f = split(x);
-        let up = f.to_high;
-        let down = f.to_low;
-        high[i] = up;
-        low[i] = down;
-        i += 1;
-    }
-    LayerFlow {
-        to_high: high,
-        to_low: low,
-    }
-}
-
-// What passes some of a cap's faces, with one face more.
-fn with_face(total: u64, m: Air) -> u64
-    requires { ⌜ total ≤ 309237645240 ⌝ }
-    ensures { λ r. ⌜ (r ≡ total + m .0) × (r ≤ total + 4294967295) ⌝ }
-{
-    total + (m.0 as u64)
-}
-
-// The sum of the w entries from entry `first` on.
-fn air_sum(a: [Air; 3240], first: usize, w: usize) -> u64
-    requires { ⌜ Faces first w ⌝ }
-    ensures { λ r. ⌜ IsSum (airAt a) first w r ⌝ }
+// What passes the w faces of a cap, from face `first` on, in one direction.
+fn cap_sum(passes: &[u32], first: usize, w: usize) -> u64
+    requires { ⌜ CapFaces (length (now passes)) first w ⌝ }
+    ensures { λ r. ⌜ IsSum (now (passes .entry)) first w r ⌝ }
 {
     let mut total: u64 = 0;
     let mut i = 0;
     while i < w {
         let k = first + i;
-        total = with_face(total, a[k]);
+        total += passes[k] as u64;
         i += 1;
     }
     total
 }
 
-// Whether a cell gives no more air than it has, and then has 1 to 65,535.
-fn cell_allows(have: Air, enters: u64, leaves: u64) -> bool
-    requires { ⌜ enters ≤ 309237645240 ⌝ }
-    ensures { λ r. ⌜ r ≡ leb leaves (have .0) && airFits (have .0 + enters - leaves) ⌝ }
-{
-    let m = have.0 as u64;
-    if leaves <= m {
-        let after = m + enters - leaves;
-        (1 <= after) & (after <= 65535)
-    } else {
-        false
-    }
-}
-
-// The same for a cell between the caps.
-fn row_cell_allows(
-    have: Air,
-    from_south: Air,
-    from_north: Air,
-    to_south: Air,
-    to_north: Air,
-) -> bool
-    ensures { λ r. ⌜ r ≡ leb («to_south» .0 + «to_north» .0) (have .0) && airFits (have .0 + («from_south» .0 + «from_north» .0) - («to_south» .0 + «to_north» .0)) ⌝ }
-{
-    let enters = (from_south.0 as u64) + (from_north.0 as u64);
-    let leaves = (to_south.0 as u64) + (to_north.0 as u64);
-    cell_allows(have, enters, leaves)
-}
-
 // Whether every cell between the caps allows the substep.
-fn rows_allow(air: &[u32], f: LayerFlow, w: usize, rows: usize) -> bool
-    requires { ⌜ Over w rows (now air) ⌝ }
-    ensures { λ r. ⌜ r ≡ every (rows * w) (λ j. cellAllowed (layer w rows) (flowOf f) (now (air .entry)) (1 + j)) ⌝ }
+fn rows_allow(air: &[u32], up: &[u32], down: &[u32], w: usize, rows: usize) -> bool
+    requires { ⌜ Fit w rows (now air) (now up) (now down) ⌝ }
+    ensures { λ r. ⌜ r ≡ every (rows * w) (λ j. cellAllowed (layer w rows) (flowOf (now (up .entry)) (now (down .entry))) (now (air .entry)) (1 + j)) ⌝ }
 {
     let n = rows * w;
     let mut ok = true;
@@ -106,86 +45,139 @@ fn rows_allow(air: &[u32], f: LayerFlow, w: usize, rows: usize) -> bool
     while j < n {
         let c = 1 + j;
         let h = w + j;
-        ok = ok
-            & row_cell_allows(
-                Air(air[c]),
-                f.to_high[j],
-                f.to_low[h],
-                f.to_low[j],
-                f.to_high[h],
-            );
+        ok = ok & cell_allows(Air(air[c]), both(up[j], down[h]), both(down[j], up[h]));
         j += 1;
     }
     ok
 }
 
 // Whether the substep is allowed: by the south cap, the rows and the north cap.
-pub fn layer_allowed(air: &[u32], f: LayerFlow, w: usize, rows: usize) -> bool
-    requires { ⌜ Over w rows (now air) ⌝ }
-    ensures { λ r. ⌜ r ≡ allowed (layer w rows) (flowOf f) (now (air .entry)) ⌝ }
+pub fn layer_allowed(air: &[u32], up: &[u32], down: &[u32], w: usize, rows: usize) -> bool
+    requires { ⌜ Fit w rows (now air) (now up) (now down) ⌝ }
+    ensures { λ r. ⌜ r ≡ allowed (layer w rows) (flowOf (now (up .entry)) (now (down .entry))) (now (air .entry)) ⌝ }
 {
     let n = rows * w;
     let north = 1 + n;
-    let high = f.to_high;
-    let low = f.to_low;
-    let at_south = cell_allows(Air(air[0]), air_sum(low, 0, w), air_sum(high, 0, w));
-    let at_north = cell_allows(Air(air[north]), air_sum(high, n, w), air_sum(low, n, w));
-    at_south & rows_allow(air, f, w, rows) & at_north
+    let at_south = cell_allows(Air(air[0]), cap_sum(down, 0, w), cap_sum(up, 0, w));
+    let at_north = cell_allows(Air(air[north]), cap_sum(up, n, w), cap_sum(down, n, w));
+    at_south & rows_allow(air, up, down, w, rows) & at_north
 }
 
-// A cell's air with what enters it and without what leaves it.
-fn air_after(have: Air, enters: u64, leaves: u64) -> Air
-    requires { ⌜ Exchange (have .0) enters leaves ⌝ }
-    ensures { λ r. ⌜ r .0 ≡ have .0 + enters - leaves ⌝ }
-{
-    let after = (have.0 as u64) + enters - leaves;
-    Air(after as u32)
-}
-
-// The same for a cell between the caps.
-fn row_air_after(have: Air, from_south: Air, from_north: Air, to_south: Air, to_north: Air) -> Air
-    requires { ⌜ Exchange (have .0) («from_south» .0 + «from_north» .0) («to_south» .0 + «to_north» .0) ⌝ }
-    ensures { λ r. ⌜ r .0 ≡ have .0 + («from_south» .0 + «from_north» .0) - («to_south» .0 + «to_north» .0) ⌝ }
-{
-    let enters = (from_south.0 as u64) + (from_north.0 as u64);
-    let leaves = (to_south.0 as u64) + (to_north.0 as u64);
-    air_after(have, enters, leaves)
-}
-
-// Passes on the air of the cells between the caps.
-fn step_rows_air(air: &mut [u32], f: LayerFlow, w: usize, rows: usize)
-    requires { ⌜ Moves w rows (flowOf f) (now air) ⌝ }
-    ensures { λ r. ⌜ Moved w rows (flowOf f) (now (air .entry)) (now (air .exit)) (rows * w) ⌝ }
+// Passes on the amounts of the cells between the caps, after that of the south cap.
+fn pass_rows(amounts: &mut [u32], up: &[u32], down: &[u32], w: usize, rows: usize)
+    requires { ⌜ Fit w rows (now amounts) (now up) (now down) × Begun (layer w rows) (flowOf (now up) (now down)) (now amounts) 1 ⌝ }
+    ensures { λ r. ⌜ MovedOn (layer w rows) (flowOf (now (up .entry)) (now (down .entry))) (now (amounts .entry)) 1 (now (amounts .exit)) (1 + rows * w) ⌝ }
 {
     let n = rows * w;
     let mut j = 0;
     while j < n {
         let c = 1 + j;
         let h = w + j;
-        let m = row_air_after(
-            Air(air[c]),
-            f.to_high[j],
-            f.to_low[h],
-            f.to_low[j],
-            f.to_high[h],
-        );
-        air[c] = m.0;
+        amounts[c] = amount_after(amounts[c], both(up[j], down[h]), both(down[j], up[h]));
         j += 1;
     }
 }
 
-// A layer's air after an allowed substep.
-pub fn step_layer_air(air: &mut [u32], f: LayerFlow, w: usize, rows: usize)
-    requires { ⌜ AirNeed w rows (flowOf f) (now air) ⌝ }
-    ensures { λ r. ⌜ now (air .exit) ≡ afterFlow (layer w rows) (flowOf f) (now (air .entry)) ⌝ }
+// Passes on a layer's amounts, of air or of a tracer, by what passes each face.
+pub fn pass_layer(amounts: &mut [u32], up: &[u32], down: &[u32], w: usize, rows: usize)
+    requires { ⌜ Fit w rows (now amounts) (now up) (now down) × Moves (layer w rows) (flowOf (now up) (now down)) (now amounts) ⌝ }
+    ensures { λ r. ⌜ now (amounts .exit) ≡ afterFlow (layer w rows) (flowOf (now (up .entry)) (now (down .entry))) (now (amounts .entry)) ⌝ }
 {
     let n = rows * w;
     let north = 1 + n;
-    let high = f.to_high;
-    let low = f.to_low;
-    step_rows_air(air, f, w, rows);
-    let at_south = air_after(Air(air[0]), air_sum(low, 0, w), air_sum(high, 0, w));
-    let at_north = air_after(Air(air[north]), air_sum(high, n, w), air_sum(low, n, w));
-    air[0] = at_south.0;
-    air[north] = at_north.0;
+    amounts[0] = amount_after(amounts[0], cap_sum(down, 0, w), cap_sum(up, 0, w));
+    pass_rows(amounts, up, down, w, rows);
+    amounts[north] = amount_after(amounts[north], cap_sum(up, n, w), cap_sum(down, n, w));
+}
+
+// The cell south of a face, and the cell north of it, where n cells lie between the caps.
+fn south_of(w: usize, face: usize) -> usize
+    requires { ⌜ face ≤ 3240 ⌝ }
+    ensures { λ r. ⌜ r ≡ southOf w face ⌝ }
+{
+    if face < w { 0 } else { 1 + (face - w) }
+}
+
+fn north_of(n: usize, face: usize) -> usize
+    requires { ⌜ n ≤ 3168 ⌝ }
+    ensures { λ r. ⌜ r ≡ northOf n face ⌝ }
+{
+    if face < n { 1 + face } else { 1 + n }
+}
+
+// The two cells that a cell's mismatch is taken from.
+pub struct Near {
+    pub south: usize,
+    pub north: usize,
+}
+
+// A cap is its own neighbour on both sides, so that its mismatch is none.
+fn neighbours(w: usize, rows: usize, c: usize) -> Near
+    requires { ⌜ Size w rows × (c < 2 + rows * w) ⌝ }
+    ensures { λ b. ⌜ Neighbours (layer w rows) (b .south) c (b .north) ⌝ }
+{
+    if c == 0 {
+        return Near { south: c, north: c };
+    }
+    let n = rows * w;
+    let j = c - 1;
+    if j < n {
+        Near {
+            south: south_of(w, j),
+            north: north_of(n, w + j),
+        }
+    } else {
+        Near { south: c, north: c }
+    }
+}
+
+// The pieces through each face: from the high end of the cell south of it, and from the low end of the cell north of it.
+fn fill_pieces(
+    air: &[u32],
+    gas: &[u32],
+    q: &[u64],
+    up: &[u32],
+    down: &[u32],
+    w: usize,
+    rows: usize,
+    high: &mut [u32],
+    low: &mut [u32],
+)
+    requires { ⌜ Step w rows (now air) (now gas) (now up) (now down) (now q) (now high) (now low) × AreRatios (layer w rows .cells) (now air) (now gas) (now q) ⌝ }
+    ensures { λ r. ⌜ Same (layer w rows .faces) (flowOf (now (high .exit)) (now (low .exit))) (pieces (layer w rows) (flowOf (now (up .entry)) (now (down .entry))) (now (air .entry)) (now (gas .entry))) ⌝ }
+{
+    let n = rows * w;
+    let faces = w + n;
+    let mut i = 0;
+    while i < faces {
+        let s = south_of(w, i);
+        let t = north_of(n, i);
+        let a = neighbours(w, rows, s);
+        let b = neighbours(w, rows, t);
+        let p = high_end(air, gas, q, a.south, s, a.north, Air(up[i]));
+        let r = low_end(air, gas, q, b.south, t, b.north, Air(down[i]));
+        high[i] = p.0;
+        low[i] = r.0;
+        i += 1;
+    }
+}
+
+// A layer's tracer after an allowed substep; q, high and low are room for its ratios and pieces.
+pub fn step_layer_gas(
+    gas: &mut [u32],
+    air: &[u32],
+    up: &[u32],
+    down: &[u32],
+    w: usize,
+    rows: usize,
+    q: &mut [u64],
+    high: &mut [u32],
+    low: &mut [u32],
+)
+    requires { ⌜ Step w rows (now air) (now gas) (now up) (now down) (now q) (now high) (now low) ⌝ }
+    ensures { λ r. ⌜ now (gas .exit) ≡ stepped (layer w rows) (flowOf (now (up .entry)) (now (down .entry))) (now (air .entry)) (now (gas .entry)) ⌝ }
+{
+    fill_ratios(air, &gas[..], air.len(), q);
+    fill_pieces(air, &gas[..], q, up, down, w, rows, high, low);
+    pass_layer(gas, high, low, w, rows);
 }

@@ -14,8 +14,9 @@ use Rattle.model.specs.Limits.{meridionalLimit}
 use Rattle.model.specs.Basic.{part, every}
 use Rattle.model.specs.World.{World, layerCells, layerStart}
 use Rattle.model.specs.Sweep.{Mesh, Flow, layer, flux, parts, allowed, airAfter, serves}
-use Rattle.model.specs.Step.{Call, Place, place, firstOf, step, ownPlaces, refusal, layerAbsent, fluxTooLarge, layerAir, meridional}
+use Rattle.model.specs.Step.{Place, place, firstOf, step, ownPlaces, refusal, layerAbsent, fluxTooLarge, layerAir, meridional}
 use Rattle.model.specs.Laws.Basic.{length-part}
+use Rattle.model.specs.Laws.Layer.{layer-regular}
 use Rattle.model.specs.Laws.Step.{Fits, passes, stops, own-refusal}
 use Rattle.units.specs.declared.Grid as declared
 use Rattle.units.specs.declared.Answer.{Answer}
@@ -26,8 +27,9 @@ use Rattle.units.specs.Agrees.{refused-agrees, place-agrees}
 use Rattle.units.specs.Grid.{gridOf, InRange}
 use Rattle.places.specs.declared.Lent.the-variants.{LayerFluxes}
 use Rattle.places.specs.Tested.{IsTested}
-use Rattle.layer.specs.Cells.{Size, Over}
-use Rattle.rows.specs.Rows.{part-lent}
+use Rattle.substep.specs.Faces.{Same, AreParts, same-allowed}
+use Rattle.substep.specs.Lent.{part-lent}
+use Rattle.layer.specs.Cells.{Size, Faces, Fit}
 
 -- ---- sizes
 -- a layer in range
@@ -36,18 +38,33 @@ layer-size g range =
     record { columns = range .highW; cells = mul-le-mul {n₂ = 44} {m₂ = 72} (range .highR) (range .highW) }
 
 -- its fluxes
-pub faces-few : (g : declared.Grid) → InRange g → (n : ℕ) → n ≡ g .w * (g .r + 1) → n ≤ 3240
-faces-few g range n e =
+pub faces-few : (g : declared.Grid) → InRange g → g .w * (g .r + 1) ≤ 3240
+faces-few g range =
     let rows : g .r + 1 ≤ 45 = omega (arith, range .highR) in
-    rw e (mul-le-mul {n₂ = 72} {m₂ = 45} (range .highW) rows)
+    mul-le-mul {n₂ = 72} {m₂ = 45} (range .highW) rows
+
+-- two lists with room for what passes the faces of any layer
+pub record Rooms (up down : List ℕ) : Type 0 where
+  pub high : 3240 ≤ length up
+  pub low : 3240 ≤ length down
 
 -- a layer whose part of a list was lent as `&l[a..e]` with e = a + C
-pub part-over : (g : declared.Grid) → InRange g → (l : List ℕ) (first wide : ℕ) → wide ≡ layerCells (gridOf g) → first + wide ≤ length l → Over (g .w) (g .r) (part l first (first + wide - first))
-part-over g range l first wide e inside =
-    record {
-      size = layer-size g range;
-      long = ap length (part-lent l first wide) ∙ length-part l first wide inside ∙ e;
-    }
+pub part-long : (g : declared.Grid) (l : List ℕ) (first wide : ℕ) → wide ≡ layerCells (gridOf g) → first + wide ≤ length l → length (part l first (first + wide - first)) ≡ layerCells (gridOf g)
+part-long g l first wide e inside = ap length (part-lent l first wide) ∙ length-part l first wide inside ∙ e
+
+module _ (g : declared.Grid) (range : InRange g) {up down : List ℕ} (rooms : Rooms up down) where
+  pub rooms-serve : Faces (g .w) (g .r) up down
+  rooms-serve =
+      let few = faces-few g range in
+      record { high = omega (arith, rooms .high); low = omega (arith, rooms .low) }
+
+  pub part-fit : (l : List ℕ) (first wide : ℕ) → wide ≡ layerCells (gridOf g) → first + wide ≤ length l → Fit (g .w) (g .r) (part l first (first + wide - first)) up down
+  part-fit l first wide e inside =
+      record {
+        size = layer-size g range;
+        long = part-long g l first wide e inside;
+        faces = rooms-serve;
+      }
 
 -- the layer's air so lent
 pub layer-lent : (w : World) (k first wide : ℕ) → first ≡ layerStart (w .grid) k → wide ≡ layerCells (w .grid) → part (w .air) first (first + wide - first) ≡ layerAir w k
@@ -59,11 +76,17 @@ pub serves-one : (mesh : Mesh) (fluxes : List ℤ) (air : List ℕ) → serves m
 unfolding serves every airAfter
 serves-one mesh fluxes air = refl
 
+-- the parts of all fluxes, face by face
+pub same-faces : (W R : ℕ) (fluxes : List ℤ) {flow : Flow} → length fluxes ≡ W * (R + 1) → Same (length fluxes) flow (parts fluxes 1 1) → Same (layer W R .faces) flow (parts fluxes 1 1)
+unfolding layer
+same-faces W R fluxes long same = rw long at same
+
 -- so tested, over the lent air
-pub tested-serves : (w : World) (k : ℕ) (fluxes : List ℤ) (lent : List ℕ) (flow : Flow) (b : Bool) → lent ≡ layerAir w k → flow ≡ parts fluxes 1 1 → b ≡ allowed (layer (w .grid .W) (w .grid .R)) flow lent → serves (layer (w .grid .W) (w .grid .R)) fluxes (layerAir w k) 1 ≡ b
-tested-serves w k fluxes lent flow b same is e =
-    serves-one (layer (w .grid .W) (w .grid .R)) fluxes (layerAir w k) ∙
-    sym (e ∙ ap₂ (λ (f : Flow) (l : List ℕ). allowed (layer (w .grid .W) (w .grid .R)) f l) is same)
+pub tested-serves : (w : World) (k : ℕ) (fluxes : List ℤ) (lent : List ℕ) {flow : Flow} (b : Bool) → lent ≡ layerAir w k → length fluxes ≡ w .grid .W * (w .grid .R + 1) → Same (length fluxes) flow (parts fluxes 1 1) → b ≡ allowed (layer (w .grid .W) (w .grid .R)) flow lent → serves (layer (w .grid .W) (w .grid .R)) fluxes (layerAir w k) 1 ≡ b
+tested-serves w k fluxes lent {flow} b air long same e =
+    let mesh : Mesh = layer (w .grid .W) (w .grid .R) in
+    serves-one mesh fluxes (layerAir w k) ∙
+    sym (e ∙ ap (allowed mesh flow) air ∙ same-allowed mesh (layer-regular (w .grid .W) (w .grid .R)) (same-faces (w .grid .W) (w .grid .R) fluxes long same) (layerAir w k))
 
 -- ---- the places, from 5 on
 -- the substep is not allowed
@@ -108,32 +131,33 @@ module _ (w : World) (fits : Fits w) (k : ℕ) (fluxes : List ℤ) (lent : eqb (
       sweep-accepted z = past-fluxes ∙ passes (not-allowed k fluxes) _ w (ap not z) ∙ none-left w
 
 -- ---- what `layer_place` finds
-pub record LayerFound (w : World) (k : ℕ) (fluxes : List ℤ) (first : ℕ) : Type 0 where
+pub record LayerFound (w : World) (k : ℕ) (fluxes : List ℤ) (up down : List ℕ) (first : ℕ) : Type 0 where
   pub fits : Fits w
   pub long : length fluxes ≡ w .grid .W * (w .grid .R + 1)
   pub start : first ≡ layerStart (w .grid) k
+  pub passes : AreParts fluxes 1 1 up down
   pub accepting : refusal w (meridional k fluxes) ≡ 0
 
-pub record IsLayerPlace (w : World) (k : ℕ) (fluxes : List ℤ) (answer : Answer) (first : ℕ) : Type 0 where
+pub record IsLayerPlace (w : World) (k : ℕ) (fluxes : List ℤ) (up down : List ℕ) (answer : Answer) (first : ℕ) : Type 0 where
   pub refused : (numberOf answer ≡ 0 → ⊥) → Agrees (step w (meridional k fluxes)) answer (w .air) (w .tracers)
-  pub found : numberOf answer ≡ 0 → LayerFound w k fluxes first
+  pub found : numberOf answer ≡ 0 → LayerFound w k fluxes up down first
 
-module _ (w : World) (k : ℕ) (fluxes : List ℤ) (answer : Answer) (first : ℕ) where
-  pub place-common : (tested : Answer) (sums : List ℕ) → IsTested w (LayerFluxes (length fluxes)) tested sums → (numberOf tested ≡ 0 → ⊥) → answer ≡ tested → IsLayerPlace w k fluxes answer first
+module _ (w : World) (k : ℕ) (fluxes : List ℤ) (up down : List ℕ) (answer : Answer) (first : ℕ) where
+  pub place-common : (tested : Answer) (sums : List ℕ) → IsTested w (LayerFluxes (length fluxes)) tested sums → (numberOf tested ≡ 0 → ⊥) → answer ≡ tested → IsLayerPlace w k fluxes up down answer first
   place-common tested sums is nonzero e =
       record {
         refused = λ _. rw e (refused-agrees w (meridional k fluxes) tested (is .refused nonzero (meridional k fluxes) refl) nonzero (is .count));
         found = λ z. absurd (nonzero (rw e at z));
       }
 
-  pub place-refused : (p : Refusal) → (refusalNumber p ≡ 0 → ⊥) → answer ≡ Refused p → refusal w (meridional k fluxes) ≡ refusalNumber p → IsLayerPlace w k fluxes answer first
+  pub place-refused : (p : Refusal) → (refusalNumber p ≡ 0 → ⊥) → answer ≡ Refused p → refusal w (meridional k fluxes) ≡ refusalNumber p → IsLayerPlace w k fluxes up down answer first
   place-refused p nonzero e by =
       record {
         refused = λ _. rw e (place-agrees w (meridional k fluxes) p by nonzero);
         found = λ z. absurd (nonzero (rw e at z));
       }
 
-  pub place-found : answer ≡ Accepted 1 → LayerFound w k fluxes first → IsLayerPlace w k fluxes answer first
+  pub place-found : answer ≡ Accepted 1 → LayerFound w k fluxes up down first → IsLayerPlace w k fluxes up down answer first
   place-found e found =
       record {
         refused = λ nonzero. absurd (nonzero (ap numberOf e));

@@ -3,24 +3,27 @@
 use Prim.Native.Nat.{ℕ, suc, _+_, _*_, _-_, _≤_, _<_}
 use mathlib.Core.List.{List, [], _++_, append-assoc, append-nil}
 use mathlib.Core.Bool.{true}
-use mathlib.Core.Path.{_≡_, refl, sym, ap, ap₂, _∙_}
+use mathlib.Core.Path.{_≡_, sym, ap, ap₂, _∙_}
 use native.Mathlib.Nat.{le-trans, zero-mul, mul-le-mul, mul-le-mul-right}
 use native.Mathlib.Omega.{arith}
 use borrow.Rule.Slice.PartMut.{putMid}
-use lib.ListN.{length, length-append, length-drop, getD, take, drop, take-append-drop, drop-of-length-le}
+use lib.ListN.{length, length-append, length-drop, take, drop, take-append-drop, drop-of-length-le}
 use lib.Seq.{drop-drop, drop-append-add}
 use Rattle.model.specs.Limits.{totalLimit}
 use Rattle.model.specs.Basic.{at, part, written, joined, tabFrom, tab, sum}
 use Rattle.model.specs.World.{layerCells, worldCells}
-use Rattle.model.specs.Sweep.{Flow, layer, afterFlow, allowed, pieces}
+use Rattle.model.specs.Sweep.{Flow, layer, allowed}
 use Rattle.model.specs.Laws.Basic.{length-part, length-tab, getD-tab, length-written, length-joined}
 use Rattle.model.specs.Laws.Entries.{joined-more, written-middle, part-part, part-sum-le}
+use Rattle.model.specs.Laws.Layer.{layer-regular}
 use Rattle.model.specs.Laws.Substep.{AirIn, length-after-flow}
 use Rattle.units.specs.declared.Grid as declared
 use Rattle.units.specs.Grid.{gridOf, InRange, world-cells-few}
-use Rattle.layergas.specs.Gas.{GasNeed}
-use Rattle.rows.specs.Rows.{part-lent, put-back}
-use Rattle.meridional.specs.Calls.{layer-size}
+use Rattle.substep.specs.Faces.{flowOf, Same, stepped, same-stepped}
+use Rattle.substep.specs.Pieces.{GasNeed}
+use Rattle.substep.specs.Lent.{part-lent, put-back}
+use Rattle.layer.specs.Gas.{Step}
+use Rattle.meridional.specs.Calls.{Rooms, layer-size, rooms-serve}
 
 -- a layer's cells from cell `first` on, in tracers of the grid's lengths, and an allowed substep over the layer's air
 pub record TracersNeed (g : declared.Grid) (tracers air : List ℕ) (flow : Flow) (first : ℕ) : Type 0 where
@@ -32,16 +35,11 @@ pub record TracersNeed (g : declared.Grid) (tracers air : List ℕ) (flow : Flow
   pub permits : allowed (layer (g .w) (g .r)) flow air ≡ true
   pub total : (t : ℕ) → t < g .n → sum (worldCells (gridOf g)) (at (part tracers (t * worldCells (gridOf g)) (worldCells (gridOf g)))) ≤ totalLimit
 
--- a layer's tracer after the substep
-abbrev pub passedGas : declared.Grid → List ℕ → Flow → List ℕ → List ℕ
-passedGas g air flow gas =
-    afterFlow (layer (g .w) (g .r)) (pieces (layer (g .w) (g .r)) flow air gas) gas
-
 -- tracer t's amounts with its layer swept
 abbrev pub sweptOne : declared.Grid → List ℕ → List ℕ → Flow → ℕ → ℕ → List ℕ
 sweptOne g tracers air flow first t =
     let had : List ℕ = part tracers (t * worldCells (gridOf g)) (worldCells (gridOf g)) in
-    written had first (passedGas g air flow (part had first (layerCells (gridOf g))))
+    written had first (stepped (layer (g .w) (g .r)) flow air (part had first (layerCells (gridOf g))))
 
 -- those of the first n tracers
 abbrev pub sweptSome : declared.Grid → List ℕ → List ℕ → Flow → ℕ → ℕ → List ℕ
@@ -49,6 +47,16 @@ sweptSome g tracers air flow first n = joined (tab n (sweptOne g tracers air flo
 
 abbrev pub sweptTracers : declared.Grid → List ℕ → List ℕ → Flow → ℕ → List ℕ
 sweptTracers g tracers air flow first = sweptSome g tracers air flow first (g .n)
+
+-- flows that agree at every face of the layer sweep them alike
+pub swept-same : (g : declared.Grid) (tracers air : List ℕ) (first : ℕ) {one other : Flow} → Same (layer (g .w) (g .r) .faces) one other → sweptTracers g tracers air one first ≡ sweptTracers g tracers air other first
+swept-same g tracers air first same =
+    λ i.
+    joined
+    (tab (g .n)
+    (λ t.
+    let had : List ℕ = part tracers (t * worldCells (gridOf g)) (worldCells (gridOf g)) in
+    written had first (same-stepped (layer (g .w) (g .r)) (layer-regular (g .w) (g .r)) same air (part had first (layerCells (gridOf g))) i)))
 
 -- all amounts when the first t tracers are swept
 abbrev pub sweptUpTo : declared.Grid → List ℕ → List ℕ → Flow → ℕ → ℕ → List ℕ
@@ -91,7 +99,7 @@ module _ (g : declared.Grid) (tracers air : List ℕ) (flow : Flow) (first : ℕ
       let below : suc t * all ≤ g .n * all = mul-le-mul-right all h in
       length-part tracers (t * all) all (omega (arith, need .tracersLong))
 
-  length-passed : (gas : List ℕ) → length (passedGas g air flow gas) ≡ width
+  length-passed : (gas : List ℕ) → length (stepped (layer (g .w) (g .r)) flow air gas) ≡ width
   unfolding layer
   length-passed gas = length-after-flow (layer (g .w) (g .r)) _ gas
 
@@ -143,19 +151,20 @@ module _ (g : declared.Grid) (tracers air : List ℕ) (flow : Flow) (first : ℕ
     pub lent-inside : t * cells + first + wide ≤ length now
     lent-inside = rw (same, alike, e, length-up-to t (omega arith)) (layer-room t h .0)
 
-    pub lent-need : GasNeed (g .w) (g .r) flow air lent
+    pub lent-need : GasNeed (layer (g .w) (g .r)) flow air lent
+    unfolding layer
     lent-need =
         rw lent-is
         (record {
-          over = record { size = layer-size g (need .range); long = need .airLong };
-          long = length-part (gas-of t) first width (rw (length-gas-of t h) (need .inside));
+          airLong = need .airLong;
+          gasLong = length-part (gas-of t) first width (rw (length-gas-of t h) (need .inside));
           airIn = need .airIn;
           permits = need .permits;
           total = le-trans (part-sum-le all (gas-of t) first width (need .inside)) (need .total t h);
         })
 
     -- one more
-    pub swept-more : (new : List ℕ) → new ≡ passedGas g air flow lent → putMid (t * cells + first) (t * cells + first + wide - (t * cells + first)) now new ≡ sweptUpTo g tracers air flow first (t + 1)
+    pub swept-more : (new : List ℕ) → new ≡ stepped (layer (g .w) (g .r)) flow air lent → putMid (t * cells + first) (t * cells + first + wide - (t * cells + first)) now new ≡ sweptUpTo g tracers air flow first (t + 1)
     swept-more new f =
         let base = length-done t (omega arith) in
         let rest : drop (t * all) tracers ≡ gas-of t ++ drop ((t + 1) * all) tracers =
@@ -165,6 +174,18 @@ module _ (g : declared.Grid) (tracers air : List ℕ) (flow : Flow) (first : ℕ
         ap₂ (λ (l : List ℕ) (m : ℕ). written l (t * m + first) new) (e ∙ ap (λ (l : List ℕ). done t ++ l) rest) same ∙
         ap (λ (k : ℕ). written (done t ++ (gas-of t ++ drop ((t + 1) * all) tracers)) (k + first) new) (sym base) ∙
         written-middle (done t) (gas-of t) (drop ((t + 1) * all) tracers) new first (omega (arith, length-gas-of t h, need .inside)) ∙
-        ap (λ (r : List ℕ). done t ++ (written (gas-of t) first r ++ drop ((t + 1) * all) tracers)) (f ∙ ap (passedGas g air flow) lent-is) ∙
+        ap (λ (r : List ℕ). done t ++ (written (gas-of t) first r ++ drop ((t + 1) * all) tracers)) (f ∙ ap (stepped (layer (g .w) (g .r)) flow air) lent-is) ∙
         sym (append-assoc (done t) (one t) (drop ((t + 1) * all) tracers)) ∙
         ap (λ (l : List ℕ). l ++ drop ((t + 1) * all) tracers) (sym (joined-more t one))
+
+-- with the room that `sweep_tracers` declares
+pub step-need : (g : declared.Grid) → InRange g → {air gas up down q high low : List ℕ} → Rooms up down → length q ≡ 3170 → length high ≡ 3240 → length low ≡ 3240 → GasNeed (layer (g .w) (g .r)) (flowOf up down) air gas → Step (g .w) (g .r) air gas up down q high low
+step-need g range rooms ratios northward southward need =
+    let size = layer-size g range in
+    record {
+      size = size;
+      passes = rooms-serve g range rooms;
+      ratios = omega (arith, size .cells);
+      pieces = rooms-serve g range (record { high = omega arith; low = omega arith });
+      need = need;
+    }

@@ -3,17 +3,16 @@ ghost use mathlib.Core.Path.{_≡_};
 ghost use Rattle.model.specs.Step.{step, meridional as meridional-call};
 ghost use Rattle.units.specs.Answer.{Agrees};
 ghost use Rattle.units.specs.Grid.{worldOf};
-ghost use Rattle.layer.specs.Air.{flowOf};
-ghost use Rattle.meridional.specs.Calls.{IsLayerPlace};
+ghost use Rattle.substep.specs.Faces.{flowOf};
+ghost use Rattle.meridional.specs.Calls.{Rooms, IsLayerPlace};
 ghost use Rattle.meridional.specs.Tracers.{TracersNeed, sweptTracers};
-use layer::LayerFlow;
-use layer::flow_of;
 use layer::layer_allowed;
-use layer::step_layer_air;
-use layergas::step_layer_gas;
+use layer::pass_layer;
+use layer::step_layer_gas;
 use places::Lent;
 use places::common_places;
 use places::fluxes_fit;
+use substep::fill_parts;
 use units::Air;
 use units::Answer;
 use units::Grid;
@@ -35,8 +34,18 @@ fn no_layer(answer: Answer) -> LayerPlace
     LayerPlace { answer, first: 0 }
 }
 
-fn layer_place(g: Grid, air: &[u32], tracers: &[u32], layer: u32, fluxes: &[i32]) -> LayerPlace
-    ensures { λ p. ⌜ IsLayerPlace (worldOf g (now (air .entry)) (now (tracers .entry))) layer (now (fluxes .entry)) (p .answer) (p .first) ⌝ }
+// Where the call is accepted, up and down have what passes each face.
+fn layer_place(
+    g: Grid,
+    air: &[u32],
+    tracers: &[u32],
+    layer: u32,
+    fluxes: &[i32],
+    up: &mut [u32],
+    down: &mut [u32],
+) -> LayerPlace
+    requires { ⌜ Rooms (now up) (now down) ⌝ }
+    ensures { λ p. ⌜ IsLayerPlace (worldOf g (now (air .entry)) (now (tracers .entry))) layer (now (fluxes .entry)) (now (up .exit)) (now (down .exit)) (p .answer) (p .first) ⌝ }
 {
     let tested = common_places(g, air, tracers, Lent::LayerFluxes(fluxes.len()));
     let answer = tested.answer;
@@ -51,8 +60,8 @@ fn layer_place(g: Grid, air: &[u32], tracers: &[u32], layer: u32, fluxes: &[i32]
     }
     let first = layer_start(g, layer) as usize;
     let end = first + (layer_cells(g) as usize);
-    let f = flow_of(fluxes);
-    if layer_allowed(&air[first..end], f, g.w as usize, g.r as usize) {} else {
+    fill_parts(fluxes, 1, 1, up, down);
+    if layer_allowed(&air[first..end], up, down, g.w as usize, g.r as usize) {} else {
         return no_layer(Answer::Refused(Refusal::Meridional));
     }
     LayerPlace {
@@ -62,18 +71,31 @@ fn layer_place(g: Grid, air: &[u32], tracers: &[u32], layer: u32, fluxes: &[i32]
 }
 
 // The layer of every tracer, swept where it is lent; `air` is the layer's.
-fn sweep_tracers(g: Grid, tracers: &mut [u32], air: &[u32], f: LayerFlow, first: usize)
-    requires { ⌜ TracersNeed g (now tracers) (now air) (flowOf f) first ⌝ }
-    ensures { λ x. ⌜ now (tracers .exit) ≡ sweptTracers g (now (tracers .entry)) (now (air .entry)) (flowOf f) first ⌝ }
+fn sweep_tracers(g: Grid, tracers: &mut [u32], air: &[u32], up: &[u32], down: &[u32], first: usize)
+    requires { ⌜ Rooms (now up) (now down) × TracersNeed g (now tracers) (now air) (flowOf (now up) (now down)) first ⌝ }
+    ensures { λ x. ⌜ now (tracers .exit) ≡ sweptTracers g (now (tracers .entry)) (now (air .entry)) (flowOf (now (up .entry)) (now (down .entry))) first ⌝ }
 {
     let n = g.n as usize;
     let wide = layer_cells(g) as usize;
     let cells = world_cells(g) as usize;
+    let mut q = [0u64; 3170];
+    let mut high = [0u32; 3240];
+    let mut low = [0u32; 3240];
     let mut t = 0;
     while t < n {
         let a = t * cells + first;
         let e = a + wide;
-        step_layer_gas(&mut tracers[a..e], air, f, g.w as usize, g.r as usize);
+        step_layer_gas(
+            &mut tracers[a..e],
+            air,
+            up,
+            down,
+            g.w as usize,
+            g.r as usize,
+            &mut q,
+            &mut high,
+            &mut low,
+        );
         t += 1;
     }
 }
@@ -88,15 +110,16 @@ pub fn meridional(
 ) -> Answer
     ensures { λ x. ⌜ Agrees (step (worldOf g (now (air .entry)) (now (tracers .entry))) (meridional-call layer (now (fluxes .entry)))) x (now (air .exit)) (now (tracers .exit)) ⌝ }
 {
-    let place = layer_place(g, air, tracers, layer, fluxes);
+    let mut up = [0u32; 3240];
+    let mut down = [0u32; 3240];
+    let place = layer_place(g, air, tracers, layer, fluxes, &mut up, &mut down);
     let answer = place.answer;
     if number(answer) == 0 {} else {
         return answer;
     }
     let first = place.first;
     let end = first + (layer_cells(g) as usize);
-    let f = flow_of(fluxes);
-    sweep_tracers(g, tracers, &air[first..end], f, first);
-    step_layer_air(&mut air[first..end], f, g.w as usize, g.r as usize);
+    sweep_tracers(g, tracers, &air[first..end], &up, &down, first);
+    pass_layer(&mut air[first..end], &up, &down, g.w as usize, g.r as usize);
     Answer::Accepted(1)
 }

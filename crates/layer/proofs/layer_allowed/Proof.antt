@@ -2,8 +2,9 @@
 -- Assumes nothing.
 use mathlib.Core.Bool.{_&&_}
 use mathlib.Core.Path.{_∙_}
-use Rattle.layer.specs.Cells.{south-cell, north-cell, cell-allows, allowed-cells}
-use Rattle.layer.specs.Air.{flowOf}
+use Rattle.substep.specs.Faces.{flowOf}
+use Rattle.substep.specs.Cells.{cell-allows}
+use Rattle.layer.specs.Cells.{south-cell, north-cell, allowed-cells}
 use borrow.Author.Needs.{needs}
 use Rattle.layer.proofs.layer_allowed.Statement.{statement}
 use Rattle.layer.proofs.layer_allowed.Tie as tie
@@ -14,29 +15,29 @@ mul-n c = search needs
 add-north : tie.Need-add-north
 add-north c = search needs
 
-shared-slice-read-t12 : tie.Need-shared-slice-read-t12
-shared-slice-read-t12 c = search needs
+shared-slice-read-t11 : tie.Need-shared-slice-read-t11
+shared-slice-read-t11 c = search needs
 
-air-sum-requires : tie.Need-air-sum-requires
-air-sum-requires c κs = search needs
+cap-sum-requires : tie.Need-cap-sum-requires
+cap-sum-requires c κs = search needs
 
-air-sum-requires-2 : tie.Need-air-sum-requires-2
-air-sum-requires-2 c κs = search needs
+cap-sum-requires-2 : tie.Need-cap-sum-requires-2
+cap-sum-requires-2 c κs = search needs
 
 cell-allows-requires : tie.Need-cell-allows-requires
 cell-allows-requires c κs = search needs
 
-mul-t16 : tie.Need-mul-t16
-mul-t16 c = search needs
+mul-t15 : tie.Need-mul-t15
+mul-t15 c = search needs
 
-shared-slice-read-t12-2 : tie.Need-shared-slice-read-t12-2
-shared-slice-read-t12-2 c = search needs
+shared-slice-read-t11-2 : tie.Need-shared-slice-read-t11-2
+shared-slice-read-t11-2 c = search needs
 
-air-sum-requires-3 : tie.Need-air-sum-requires-3
-air-sum-requires-3 c κs = search needs
+cap-sum-requires-3 : tie.Need-cap-sum-requires-3
+cap-sum-requires-3 c κs = search needs
 
-air-sum-requires-4 : tie.Need-air-sum-requires-4
-air-sum-requires-4 c κs = search needs
+cap-sum-requires-4 : tie.Need-cap-sum-requires-4
+cap-sum-requires-4 c κs = search needs
 
 cell-allows-requires-2 : tie.Need-cell-allows-requires-2
 cell-allows-requires-2 c κs = search needs
@@ -46,14 +47,12 @@ rows-allow-requires c κs = search needs
 
 returns : tie.Need-returns
 returns c =
-    let start = c .before .before .before .before .before .before .before .before .before .before .before .before in
-    let air-sum = c .before .before .before .before .before .before .before .air-sum in
-    let air-sum2 = c .before .before .before .before .before .before .air-sum2 in
-    let cell-allows-here = c .before .before .before .before .before .cell-allows in
-    let a = start .args in
-    let south = cell-allows-here .ensures ∙ cell-allows (south-cell (a .w) (a .rows) (flowOf (a .f)) (air-sum .ensures) (air-sum2 .ensures)) (a .air .now) in
-    let north = c .before .cell-allows2 .ensures ∙ cell-allows (north-cell (a .w) (a .rows) (flowOf (a .f)) (c .before .before .before .air-sum3 .ensures) (c .before .before .air-sum4 .ensures)) (a .air .now) in
-    (λ i. south i && c .rows-allow .ensures i && north i) ∙ allowed-cells (a .w) (a .rows) (flowOf (a .f)) (a .air .now)
+    let a = c .before .before .before .before .before .before .before .before .before .before .before .before .args in
+    let up = a .up .now in
+    let down = a .down .now in
+    let south = c .before .before .before .before .before .cell-allows .ensures ∙ cell-allows (south-cell (a .w) (a .rows) up down (c .before .before .before .before .before .before .before .cap-sum .ensures) (c .before .before .before .before .before .before .cap-sum2 .ensures)) (a .air .now) in
+    let north = c .before .cell-allows2 .ensures ∙ cell-allows (north-cell (a .w) (a .rows) up down (c .before .before .before .cap-sum3 .ensures) (c .before .before .cap-sum4 .ensures)) (a .air .now) in
+    (λ i. south i && c .rows-allow .ensures i && north i) ∙ allowed-cells (a .w) (a .rows) (flowOf up down) (a .air .now)
 
 pub layer-allowed-spec : {M : Type 1} → statement M
 layer-allowed-spec =
@@ -61,14 +60,14 @@ layer-allowed-spec =
     (tie.spec
     mul-n
     add-north
-    shared-slice-read-t12
-    air-sum-requires
-    air-sum-requires-2
+    shared-slice-read-t11
+    cap-sum-requires
+    cap-sum-requires-2
     cell-allows-requires
-    mul-t16
-    shared-slice-read-t12-2
-    air-sum-requires-3
-    air-sum-requires-4
+    mul-t15
+    shared-slice-read-t11-2
+    cap-sum-requires-3
+    cap-sum-requires-4
     cell-allows-requires-2
     rows-allow-requires
     returns)

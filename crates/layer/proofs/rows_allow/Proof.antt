@@ -1,23 +1,24 @@
 -- `layer::rows_allow` meets its contract. The loop's invariant: `ok` is the test of the cells passed.
 -- Assumes nothing.
-use Prim.Native.Nat.{ℕ, _+_, _*_, _-_, _≤_}
+use Prim.Native.Nat.{_+_, _*_, _-_, _≤_}
 use mathlib.Core.Bool.{_&&_}
-use mathlib.Core.Path.{_≡_, sym, _∙_, ap, ap₂}
+use mathlib.Core.Path.{_≡_, sym, _∙_, ap₂}
 use native.Mathlib.Omega.{arith}
 use Rattle.model.specs.Basic.{every}
 use Rattle.model.specs.Sweep.{layer}
 use Rattle.model.specs.Laws.Basic.{every-none, every-more}
-use Rattle.layer.specs.Cells.{cellAllowed, row-cell, cell-allows}
-use Rattle.layer.specs.Air.{flowOf}
+use Rattle.substep.specs.Faces.{flowOf}
+use Rattle.substep.specs.Cells.{cellAllowed, cell-allows}
+use Rattle.layer.specs.Cells.{row-cell}
 use borrow.Author.Needs.{needs}
 use Rattle.layer.proofs.rows_allow.Statement.{statement}
 use Rattle.layer.proofs.rows_allow.Tie as tie
 
 abbrev Inv-loop : tie.InvT-loop
-Inv-loop air w rows f n ok₀ j₀ ok j = (j ≤ rows * w) × (ok ≡ every j (λ k. cellAllowed (layer w rows) (flowOf f) air (1 + k)))
+Inv-loop air up down w rows n ok₀ j₀ ok j = (j ≤ rows * w) × (ok ≡ every j (λ k. cellAllowed (layer w rows) (flowOf up down) air (1 + k)))
 
 abbrev μ-loop : tie.MeasureT-loop
-μ-loop air w rows f n ok₀ j₀ ok j = rows * w - j
+μ-loop air up down w rows n ok₀ j₀ ok j = rows * w - j
 
 mul-n : tie.Need-mul-n Inv-loop μ-loop
 mul-n c = search needs
@@ -37,32 +38,38 @@ mul-t12 c = search needs
 shared-slice-read-t14 : tie.Need-shared-slice-read-t14 Inv-loop μ-loop
 shared-slice-read-t14 c = search needs
 
-mul-row-cell-allows : tie.Need-mul-row-cell-allows Inv-loop μ-loop
-mul-row-cell-allows c = search needs
+mul-both : tie.Need-mul-both Inv-loop μ-loop
+mul-both c = search needs
 
-element-copy-out-row-cell-allows : tie.Need-element-copy-out-row-cell-allows Inv-loop μ-loop
-element-copy-out-row-cell-allows c = search needs
+shared-slice-read-both : tie.Need-shared-slice-read-both Inv-loop μ-loop
+shared-slice-read-both c = search needs
 
-mul-row-cell-allows-2 : tie.Need-mul-row-cell-allows-2 Inv-loop μ-loop
-mul-row-cell-allows-2 c = search needs
+mul-both-2 : tie.Need-mul-both-2 Inv-loop μ-loop
+mul-both-2 c = search needs
 
-element-copy-out-row-cell-allows-2 : tie.Need-element-copy-out-row-cell-allows-2 Inv-loop μ-loop
-element-copy-out-row-cell-allows-2 c = search needs
+shared-slice-read-both-2 : tie.Need-shared-slice-read-both-2 Inv-loop μ-loop
+shared-slice-read-both-2 c = search needs
 
-mul-row-cell-allows-3 : tie.Need-mul-row-cell-allows-3 Inv-loop μ-loop
-mul-row-cell-allows-3 c = search needs
+both-requires : tie.Need-both-requires Inv-loop μ-loop
+both-requires c κs = search needs
 
-element-copy-out-row-cell-allows-3 : tie.Need-element-copy-out-row-cell-allows-3 Inv-loop μ-loop
-element-copy-out-row-cell-allows-3 c = search needs
+mul-both-3 : tie.Need-mul-both-3 Inv-loop μ-loop
+mul-both-3 c = search needs
 
-mul-row-cell-allows-4 : tie.Need-mul-row-cell-allows-4 Inv-loop μ-loop
-mul-row-cell-allows-4 c = search needs
+shared-slice-read-both-3 : tie.Need-shared-slice-read-both-3 Inv-loop μ-loop
+shared-slice-read-both-3 c = search needs
 
-element-copy-out-row-cell-allows-4 : tie.Need-element-copy-out-row-cell-allows-4 Inv-loop μ-loop
-element-copy-out-row-cell-allows-4 c = search needs
+mul-both-4 : tie.Need-mul-both-4 Inv-loop μ-loop
+mul-both-4 c = search needs
 
-row-cell-allows-requires : tie.Need-row-cell-allows-requires Inv-loop μ-loop
-row-cell-allows-requires c κs = search needs
+shared-slice-read-both-4 : tie.Need-shared-slice-read-both-4 Inv-loop μ-loop
+shared-slice-read-both-4 c = search needs
+
+both-requires-2 : tie.Need-both-requires-2 Inv-loop μ-loop
+both-requires-2 c κs = search needs
+
+cell-allows-requires : tie.Need-cell-allows-requires Inv-loop μ-loop
+cell-allows-requires c κs = search needs
 
 add-j : tie.Need-add-j Inv-loop μ-loop
 add-j c = search needs
@@ -72,18 +79,16 @@ loop-less c = search needs
 
 loop-again : tie.Need-loop-again Inv-loop μ-loop
 loop-again c =
-    let l = c .before .before .before .before .before .before .before .loop in
-    let a = c .before .before .before .before .before .before .before .before .before .args in
-    let own = row-cell (a .w) (a .rows) (flowOf (a .t2)) (l .j) (omega arith) in (
-      search needs,
-      ap₂ _&&_ (l .inv .1) (c .row-cell-allows .ensures ∙ cell-allows own (a .air .now)) ∙ sym (every-more (l .j) _),
-    )
+    let l = c .before .before .before .before .before .before .before .before .before .loop in
+    let a = c .before .before .before .before .before .before .before .before .before .before .before .before .before .args in
+    let cell = row-cell (a .w) (a .rows) (a .up .now) (a .down .now) (l .j) (omega arith) (c .before .before .before .before .both .ensures .0) (c .before .both2 .ensures .0) in
+    (search needs, ap₂ _&&_ (l .inv .1) (c .cell-allows .ensures ∙ cell-allows cell (a .air .now)) ∙ sym (every-more (l .j) _))
 
 returns : tie.Need-returns Inv-loop μ-loop
 returns c =
-    let start = c .before .before .before in
+    let a = c .before .before .before .before .before .args in
     let l = c .before .loop in
-    let done : l .j ≡ start .args .rows * start .args .w = omega arith in
+    let done : l .j ≡ a .rows * a .w = omega arith in
     rw done at (l .inv .1)
 
 pub rows-allow-spec : {M : Type 1} → statement M
@@ -98,15 +103,17 @@ rows-allow-spec =
     add-h
     mul-t12
     shared-slice-read-t14
-    mul-row-cell-allows
-    element-copy-out-row-cell-allows
-    mul-row-cell-allows-2
-    element-copy-out-row-cell-allows-2
-    mul-row-cell-allows-3
-    element-copy-out-row-cell-allows-3
-    mul-row-cell-allows-4
-    element-copy-out-row-cell-allows-4
-    row-cell-allows-requires
+    mul-both
+    shared-slice-read-both
+    mul-both-2
+    shared-slice-read-both-2
+    both-requires
+    mul-both-3
+    shared-slice-read-both-3
+    mul-both-4
+    shared-slice-read-both-4
+    both-requires-2
+    cell-allows-requires
     add-j
     loop-less
     loop-again

@@ -3,11 +3,16 @@
 use mathlib.Core.Path.{refl, sym, _∙_}
 use native.Mathlib.Omega.{arith}
 use Rattle.units.specs.Grid.{in-range}
-use Rattle.meridional.specs.Calls.{faces-few}
 use Rattle.meridional.specs.World.{layer-near, layer-in-air, tracers-need, air-need, meridional-agrees}
 use borrow.Author.Needs.{needs}
 use Rattle.meridional.proofs.meridional.Statement.{statement}
 use Rattle.meridional.proofs.meridional.Tie as tie
+
+slice-aggregate-layer-place : tie.Need-slice-aggregate-layer-place
+slice-aggregate-layer-place c = search needs
+
+slice-aggregate-layer-place-2 : tie.Need-slice-aggregate-layer-place-2
+slice-aggregate-layer-place-2 c = search needs
 
 layer-place-requires : tie.Need-layer-place-requires
 layer-place-requires c κs = search needs
@@ -22,14 +27,12 @@ same-length-2 : tie.Need-same-length-2
 same-length-2 c = search needs
 
 returns : tie.Need-returns
-returns c = c .before .before .layer-place .ensures .refused (λ z. omega (arith, c .before .number .ensures))
+returns c = c .before .before .before .before .layer-place .ensures .refused (λ z. omega (arith, c .before .number .ensures))
 
 layer-cells-requires : tie.Need-layer-cells-requires
 layer-cells-requires c κs =
-    let start = c .before .before .before .before .before .before .before in
-    let args = start .args in
-    let zero = sym (c .before .number .ensures) ∙ c .if1 .taken in
-    let found = c .before .before .layer-place .ensures .found zero in
+    let args = c .before .before .before .before .before .before .before .before .before .before .before .args in
+    let found = c .before .before .before .before .layer-place .ensures .found (sym (c .before .number .ensures) ∙ c .if1 .taken) in
     in-range (args .g) (found .fits .grid)
 
 cast-end : tie.Need-cast-end
@@ -37,31 +40,15 @@ cast-end c = search needs
 
 add-end : tie.Need-add-end
 add-end c =
-    let start = c .before .before .before .before .before .before .before .before in
-    let args = start .args in
-    let zero = sym (c .before .before .number .ensures) ∙ c .before .if1 .taken in
-    let found = c .before .before .before .layer-place .ensures .found zero in
-    let wide = c .layer-cells .ensures .0 in
-    omega (arith, layer-near (args .g) (args .air .now) (args .tracers .now) (args .layer) (args .fluxes .now) _ found _ wide)
-
-flow-of-requires : tie.Need-flow-of-requires
-flow-of-requires c κs =
-    let start = c .before .before .before .before .before .before .before .before in
-    let args = start .args in
-    let zero = sym (c .before .before .number .ensures) ∙ c .before .if1 .taken in
-    let found = c .before .before .before .layer-place .ensures .found zero in
-    faces-few (args .g) (in-range (args .g) (found .fits .grid)) _ (found .long)
+    let args = c .before .before .before .before .before .before .before .before .before .before .before .before .args in
+    let found = c .before .before .before .before .before .layer-place .ensures .found (sym (c .before .before .number .ensures) ∙ c .before .if1 .taken) in
+    omega (arith, layer-near (args .g) (args .air .now) (args .tracers .now) (args .layer) (args .fluxes .now) _ _ _ found _ (c .layer-cells .ensures .0))
 
 mul-sweep-tracers : tie.Need-mul-sweep-tracers
 mul-sweep-tracers c =
-    let start = c .before .before .before .before .before .before .before .before .before .before in
-    let layer-place = c .before .before .before .before .before .layer-place in
-    let number = c .before .before .before .before .number in
-    let args = start .args in
-    let zero = sym (number .ensures) ∙ c .before .before .before .if1 .taken in
-    let found = layer-place .ensures .found zero in
-    let wide = c .before .before .layer-cells .ensures .0 in
-    omega (arith, layer-near (args .g) (args .air .now) (args .tracers .now) (args .layer) (args .fluxes .now) _ found _ wide)
+    let args = c .before .before .before .before .before .before .before .before .before .before .before .before .before .args in
+    let found = c .before .before .before .before .before .before .layer-place .ensures .found (sym (c .before .before .before .number .ensures) ∙ c .before .before .if1 .taken) in
+    omega (arith, layer-near (args .g) (args .air .now) (args .tracers .now) (args .layer) (args .fluxes .now) _ _ _ found _ (c .before .layer-cells .ensures .0))
 
 sub-sweep-tracers : tie.Need-sub-sweep-tracers
 sub-sweep-tracers c = search needs
@@ -71,75 +58,57 @@ part-sweep-tracers-start c = search needs
 
 part-sweep-tracers-end : tie.Need-part-sweep-tracers-end
 part-sweep-tracers-end c =
-    let start = c .before .before .before .before .before .before .before .before .before .before .before in
-    let layer-place = c .before .before .before .before .before .before .layer-place in
-    let number = c .before .before .before .before .before .number in
-    let args = start .args in
-    let zero = sym (number .ensures) ∙ c .before .before .before .before .if1 .taken in
-    let found = layer-place .ensures .found zero in
-    let wide = c .before .before .before .layer-cells .ensures .0 in
-    layer-in-air (args .g) (args .air .now) (args .tracers .now) (args .layer) (args .fluxes .now) _ found _ wide
+    let args = c .before .before .before .before .before .before .before .before .before .before .before .before .before .before .args in
+    let found = c .before .before .before .before .before .before .before .layer-place .ensures .found (sym (c .before .before .before .before .number .ensures) ∙ c .before .before .before .if1 .taken) in
+    layer-in-air (args .g) (args .air .now) (args .tracers .now) (args .layer) (args .fluxes .now) _ _ _ found _ (c .before .before .layer-cells .ensures .0)
+
+slice-aggregate-sweep-tracers : tie.Need-slice-aggregate-sweep-tracers
+slice-aggregate-sweep-tracers c = search needs
+
+slice-aggregate-sweep-tracers-2 : tie.Need-slice-aggregate-sweep-tracers-2
+slice-aggregate-sweep-tracers-2 c = search needs
 
 sweep-tracers-requires : tie.Need-sweep-tracers-requires
 sweep-tracers-requires c κs =
-    let start = c .before .before .before .before .before .before .before .before .before .before .before .before in
-    let layer-place = c .before .before .before .before .before .before .before .layer-place in
-    let number = c .before .before .before .before .before .before .number in
-    let layer-cells = c .before .before .before .before .layer-cells in
-    let args = start .args in
-    let zero = sym (number .ensures) ∙ c .before .before .before .before .before .if1 .taken in
-    let found = layer-place .ensures .found zero in
-    let wide = layer-cells .ensures .0 in
-    tracers-need (args .g) (args .air .now) (args .tracers .now) (args .layer) (args .fluxes .now) _ found _ wide _ (c .before .before .before .flow-of .ensures)
+    let args = c .before .before .before .before .before .before .before .before .before .before .before .before .before .before .before .before .before .args in
+    let found = c .before .before .before .before .before .before .before .before .before .before .layer-place .ensures .found (sym (c .before .before .before .before .before .before .before .number .ensures) ∙ c .before .before .before .before .before .before .if1 .taken) in
+    (record { high = search needs; low = search needs }, tracers-need (args .g) (args .air .now) (args .tracers .now) (args .layer) (args .fluxes .now) _ _ _ found _ (c .before .before .before .before .before .layer-cells .ensures .0))
 
-mul-step-layer-air : tie.Need-mul-step-layer-air
-mul-step-layer-air c =
-    let start = c .before .before .before .before .before .before .before .before .before .before .before .before .before .before .before in
-    let layer-place = c .before .before .before .before .before .before .before .before .before .before .layer-place in
-    let number = c .before .before .before .before .before .before .before .before .before .number in
-    let layer-cells = c .before .before .before .before .before .before .before .layer-cells in
-    let args = start .args in
-    let zero = sym (number .ensures) ∙ c .before .before .before .before .before .before .before .before .if1 .taken in
-    let found = layer-place .ensures .found zero in
-    let wide = layer-cells .ensures .0 in
-    omega (arith, layer-near (args .g) (args .air .now) (args .tracers .now) (args .layer) (args .fluxes .now) _ found _ wide)
+mul-pass-layer : tie.Need-mul-pass-layer
+mul-pass-layer c =
+    let args = c .before .before .before .before .before .before .before .before .before .before .before .before .before .before .before .before .before .before .before .before .args in
+    let found = c .before .before .before .before .before .before .before .before .before .before .before .before .before .layer-place .ensures .found (sym (c .before .before .before .before .before .before .before .before .before .before .number .ensures) ∙ c .before .before .before .before .before .before .before .before .before .if1 .taken) in
+    omega (arith, layer-near (args .g) (args .air .now) (args .tracers .now) (args .layer) (args .fluxes .now) _ _ _ found _ (c .before .before .before .before .before .before .before .before .layer-cells .ensures .0))
 
-sub-step-layer-air : tie.Need-sub-step-layer-air
-sub-step-layer-air c = search needs
+sub-pass-layer : tie.Need-sub-pass-layer
+sub-pass-layer c = search needs
 
-part-step-layer-air-start : tie.Need-part-step-layer-air-start
-part-step-layer-air-start c = search needs
+part-pass-layer-start : tie.Need-part-pass-layer-start
+part-pass-layer-start c = search needs
 
-part-step-layer-air-end : tie.Need-part-step-layer-air-end
-part-step-layer-air-end c =
-    let start = c .before .before .before .before .before .before .before .before .before .before .before .before .before .before .before in
-    let layer-place = c .before .before .before .before .before .before .before .before .before .before .layer-place in
-    let number = c .before .before .before .before .before .before .before .before .before .number in
-    let layer-cells = c .before .before .before .before .before .before .before .layer-cells in
-    let args = start .args in
-    let zero = sym (number .ensures) ∙ c .before .before .before .before .before .before .before .before .if1 .taken in
-    let found = layer-place .ensures .found zero in
-    let wide = layer-cells .ensures .0 in
-    layer-in-air (args .g) (args .air .now) (args .tracers .now) (args .layer) (args .fluxes .now) _ found _ wide
+part-pass-layer-end : tie.Need-part-pass-layer-end
+part-pass-layer-end c =
+    let args = c .before .before .before .before .before .before .before .before .before .before .before .before .before .before .before .before .before .before .before .before .args in
+    let found = c .before .before .before .before .before .before .before .before .before .before .before .before .before .layer-place .ensures .found (sym (c .before .before .before .before .before .before .before .before .before .before .number .ensures) ∙ c .before .before .before .before .before .before .before .before .before .if1 .taken) in
+    layer-in-air (args .g) (args .air .now) (args .tracers .now) (args .layer) (args .fluxes .now) _ _ _ found _ (c .before .before .before .before .before .before .before .before .layer-cells .ensures .0)
 
-cast-step-layer-air : tie.Need-cast-step-layer-air
-cast-step-layer-air c = search needs
+slice-aggregate-pass-layer : tie.Need-slice-aggregate-pass-layer
+slice-aggregate-pass-layer c = search needs
 
-cast-step-layer-air-2 : tie.Need-cast-step-layer-air-2
-cast-step-layer-air-2 c = search needs
+slice-aggregate-pass-layer-2 : tie.Need-slice-aggregate-pass-layer-2
+slice-aggregate-pass-layer-2 c = search needs
 
-step-layer-air-requires : tie.Need-step-layer-air-requires
-step-layer-air-requires c κs =
-    let start = c .before .before .before .before .before .before .before .before .before .before .before .before .before .before .before .before .before .before in
-    let layer-place = c .before .before .before .before .before .before .before .before .before .before .before .before .before .layer-place in
-    let number = c .before .before .before .before .before .before .before .before .before .before .before .before .number in
-    let layer-cells = c .before .before .before .before .before .before .before .before .before .before .layer-cells in
-    let flow-of = c .before .before .before .before .before .before .before .before .before .flow-of in
-    let args = start .args in
-    let zero = sym (number .ensures) ∙ c .before .before .before .before .before .before .before .before .before .before .before .if1 .taken in
-    let found = layer-place .ensures .found zero in
-    let wide = layer-cells .ensures .0 in
-    air-need (args .g) (args .air .now) (args .tracers .now) (args .layer) (args .fluxes .now) _ found _ wide _ (flow-of .ensures)
+cast-pass-layer : tie.Need-cast-pass-layer
+cast-pass-layer c = search needs
+
+cast-pass-layer-2 : tie.Need-cast-pass-layer-2
+cast-pass-layer-2 c = search needs
+
+pass-layer-requires : tie.Need-pass-layer-requires
+pass-layer-requires c κs =
+    let args = c .before .before .before .before .before .before .before .before .before .before .before .before .before .before .before .before .before .before .before .before .before .before .before .before .before .args in
+    let found = c .before .before .before .before .before .before .before .before .before .before .before .before .before .before .before .before .before .before .layer-place .ensures .found (sym (c .before .before .before .before .before .before .before .before .before .before .before .before .before .before .before .number .ensures) ∙ c .before .before .before .before .before .before .before .before .before .before .before .before .before .before .if1 .taken) in
+    air-need (args .g) (args .air .now) (args .tracers .now) (args .layer) (args .fluxes .now) _ _ _ found _ (c .before .before .before .before .before .before .before .before .before .before .before .before .before .layer-cells .ensures .0) (record { high = search needs; low = search needs })
 
 same-length-3 : tie.Need-same-length-3
 same-length-3 c = search needs
@@ -149,23 +118,17 @@ same-length-4 c = search needs
 
 returns-2 : tie.Need-returns-2
 returns-2 c =
-    let start = c .before .before .before .before .before .before .before .before .before .before .before .before .before .before .before .before .before .before .before .before .before in
-    let layer-place = c .before .before .before .before .before .before .before .before .before .before .before .before .before .before .before .before .layer-place in
-    let number = c .before .before .before .before .before .before .before .before .before .before .before .before .before .before .before .number in
-    let layer-cells = c .before .before .before .before .before .before .before .before .before .before .before .before .before .layer-cells in
-    let flow-of = c .before .before .before .before .before .before .before .before .before .before .before .before .flow-of in
-    let sweep-tracers = c .before .before .before .before .before .before .before .before .sweep-tracers in
-    let args = start .args in
-    let zero = sym (number .ensures) ∙ c .before .before .before .before .before .before .before .before .before .before .before .before .before .before .if1 .taken in
-    let found = layer-place .ensures .found zero in
-    let wide = layer-cells .ensures .0 in
-    rw (sweep-tracers .ensures)
-    (meridional-agrees (args .g) (args .air .now) (args .tracers .now) (args .layer) (args .fluxes .now) _ found _ wide _ (flow-of .ensures) _ _ refl refl (c .before .before .step-layer-air .ensures))
+    let args = c .before .before .before .before .before .before .before .before .before .before .before .before .before .before .before .before .before .before .before .before .before .before .before .before .before .before .before .before .args in
+    let found = c .before .before .before .before .before .before .before .before .before .before .before .before .before .before .before .before .before .before .before .before .before .layer-place .ensures .found (sym (c .before .before .before .before .before .before .before .before .before .before .before .before .before .before .before .before .before .before .number .ensures) ∙ c .before .before .before .before .before .before .before .before .before .before .before .before .before .before .before .before .before .if1 .taken) in
+    rw (c .before .before .before .before .before .before .before .before .before .before .sweep-tracers .ensures)
+    (meridional-agrees (args .g) (args .air .now) (args .tracers .now) (args .layer) (args .fluxes .now) _ _ _ found _ (c .before .before .before .before .before .before .before .before .before .before .before .before .before .before .before .before .layer-cells .ensures .0) _ _ refl refl (c .before .before .pass-layer .ensures))
 
 pub meridional-spec : {M : Type 1} → statement M
 meridional-spec =
     tie.close
     (tie.spec
+    slice-aggregate-layer-place
+    slice-aggregate-layer-place-2
     layer-place-requires
     number-requires
     same-length
@@ -174,19 +137,22 @@ meridional-spec =
     layer-cells-requires
     cast-end
     add-end
-    flow-of-requires
     mul-sweep-tracers
     sub-sweep-tracers
     part-sweep-tracers-start
     part-sweep-tracers-end
+    slice-aggregate-sweep-tracers
+    slice-aggregate-sweep-tracers-2
     sweep-tracers-requires
-    mul-step-layer-air
-    sub-step-layer-air
-    part-step-layer-air-start
-    part-step-layer-air-end
-    cast-step-layer-air
-    cast-step-layer-air-2
-    step-layer-air-requires
+    mul-pass-layer
+    sub-pass-layer
+    part-pass-layer-start
+    part-pass-layer-end
+    slice-aggregate-pass-layer
+    slice-aggregate-pass-layer-2
+    cast-pass-layer
+    cast-pass-layer-2
+    pass-layer-requires
     same-length-3
     same-length-4
     returns-2)

@@ -1,0 +1,103 @@
+-- `layer::pass_layer` meets its contract: the south cap is passed on, then the rows, then the north cap.
+-- Assumes nothing.
+use Prim.Native.Nat.{_+_, _*_}
+use mathlib.Core.Path.{_≡_}
+use native.Mathlib.Omega.{arith}
+use lib.ListN.{length-set}
+use Rattle.model.specs.Sweep.{layer}
+use Rattle.substep.specs.Cells.{moved-none, moved-exchange, moved-more, all-moved}
+use Rattle.layer.specs.Cells.{layer-cells, south-cell, north-cell, begin}
+use borrow.Author.Needs.{needs}
+use Rattle.layer.proofs.pass_layer.Statement.{statement}
+use Rattle.layer.proofs.pass_layer.Tie as tie
+
+mul-n : tie.Need-mul-n
+mul-n c = search needs
+
+add-north : tie.Need-add-north
+add-north c = search needs
+
+slice-read-amount-after : tie.Need-slice-read-amount-after
+slice-read-amount-after c = search needs
+
+cap-sum-requires : tie.Need-cap-sum-requires
+cap-sum-requires c κs = search needs
+
+cap-sum-requires-2 : tie.Need-cap-sum-requires-2
+cap-sum-requires-2 c κs = search needs
+
+amount-after-requires : tie.Need-amount-after-requires
+amount-after-requires c κs =
+    let a = c .before .before .before .before .before .before .args in
+    let moves = c .before .before .before .before .before .before .pre .1 in
+    moved-exchange moves (moved-none moves) (south-cell (a .w) (a .rows) (a .up .now) (a .down .now) (c .before .cap-sum .ensures) (c .cap-sum2 .ensures))
+
+slice-write-amounts : tie.Need-slice-write-amounts
+slice-write-amounts c = search needs
+
+pass-rows-requires : tie.Need-pass-rows-requires
+pass-rows-requires c κs =
+    let fit = c .before .before .before .before .before .before .before .before .pre .0 in (
+      record { size = fit .size; long = simp length-set (fit .long); faces = fit .faces },
+      begin (c .before .before .before .before .before .before .before .before .pre .1) (south-cell (c .before .before .before .before .before .before .before .before .args .w) (c .before .before .before .before .before .before .before .before .args .rows) (c .before .before .before .before .before .before .before .before .args .up .now) (c .before .before .before .before .before .before .before .before .args .down .now) (c .before .before .before .cap-sum .ensures) (c .before .before .cap-sum2 .ensures)) _ (c .before .amount-after .ensures),
+    )
+
+mul-amount-after : tie.Need-mul-amount-after
+mul-amount-after c = search needs
+
+slice-read-amount-after-2 : tie.Need-slice-read-amount-after-2
+slice-read-amount-after-2 c =
+    omega (arith, c .before .before .before .pass-rows .ensures (begin (c .before .before .before .before .before .before .before .before .before .before .before .before .pre .1) (south-cell (c .before .before .before .before .before .before .before .before .before .before .before .before .args .w) (c .before .before .before .before .before .before .before .before .before .before .before .before .args .rows) (c .before .before .before .before .before .before .before .before .before .before .before .before .args .up .now) (c .before .before .before .before .before .before .before .before .before .before .before .before .args .down .now) (c .before .before .before .before .before .before .before .cap-sum .ensures) (c .before .before .before .before .before .before .cap-sum2 .ensures)) _ (c .before .before .before .before .before .amount-after .ensures)) .long, c .before .before .before .before .before .before .before .before .before .before .before .before .pre .0 .long)
+
+cap-sum-requires-3 : tie.Need-cap-sum-requires-3
+cap-sum-requires-3 c κs = search needs
+
+cap-sum-requires-4 : tie.Need-cap-sum-requires-4
+cap-sum-requires-4 c κs = search needs
+
+amount-after-requires-2 : tie.Need-amount-after-requires-2
+amount-after-requires-2 c κs =
+    let a = c .before .before .before .before .before .before .before .before .before .before .before .before .before .before .args in
+    let begun = begin (c .before .before .before .before .before .before .before .before .before .before .before .before .before .before .pre .1) (south-cell (c .before .before .before .before .before .before .before .before .before .before .before .before .before .before .args .w) (c .before .before .before .before .before .before .before .before .before .before .before .before .before .before .args .rows) (c .before .before .before .before .before .before .before .before .before .before .before .before .before .before .args .up .now) (c .before .before .before .before .before .before .before .before .before .before .before .before .before .before .args .down .now) (c .before .before .before .before .before .before .before .before .before .cap-sum .ensures) (c .before .before .before .before .before .before .before .before .cap-sum2 .ensures)) _ (c .before .before .before .before .before .before .before .amount-after .ensures) in
+    moved-exchange (begun .moves) (c .before .before .before .before .before .pass-rows .ensures begun) (north-cell (a .w) (a .rows) (a .up .now) (a .down .now) (c .before .cap-sum3 .ensures) (c .cap-sum4 .ensures))
+
+mul-amounts : tie.Need-mul-amounts
+mul-amounts c = search needs
+
+slice-write-amounts-2 : tie.Need-slice-write-amounts-2
+slice-write-amounts-2 c =
+    omega (arith, c .before .before .before .before .before .before .pass-rows .ensures (begin (c .before .before .before .before .before .before .before .before .before .before .before .before .before .before .before .pre .1) (south-cell (c .before .before .before .before .before .before .before .before .before .before .before .before .before .before .before .args .w) (c .before .before .before .before .before .before .before .before .before .before .before .before .before .before .before .args .rows) (c .before .before .before .before .before .before .before .before .before .before .before .before .before .before .before .args .up .now) (c .before .before .before .before .before .before .before .before .before .before .before .before .before .before .before .args .down .now) (c .before .before .before .before .before .before .before .before .before .before .cap-sum .ensures) (c .before .before .before .before .before .before .before .before .before .cap-sum2 .ensures)) _ (c .before .before .before .before .before .before .before .before .amount-after .ensures)) .long, c .before .before .before .before .before .before .before .before .before .before .before .before .before .before .before .pre .0 .long)
+
+same-length : tie.Need-same-length
+same-length c =
+    simp length-set (c .before .before .before .before .before .before .pass-rows .ensures (begin (c .before .before .before .before .before .before .before .before .before .before .before .before .before .before .before .pre .1) (south-cell (c .before .before .before .before .before .before .before .before .before .before .before .before .before .before .before .args .w) (c .before .before .before .before .before .before .before .before .before .before .before .before .before .before .before .args .rows) (c .before .before .before .before .before .before .before .before .before .before .before .before .before .before .before .args .up .now) (c .before .before .before .before .before .before .before .before .before .before .before .before .before .before .before .args .down .now) (c .before .before .before .before .before .before .before .before .before .before .cap-sum .ensures) (c .before .before .before .before .before .before .before .before .before .cap-sum2 .ensures)) _ (c .before .before .before .before .before .before .before .before .amount-after .ensures)) .long)
+
+returns : tie.Need-returns
+returns c =
+    let a = c .before .before .before .before .before .before .before .before .before .before .before .before .before .before .before .args in
+    let begun = begin (c .before .before .before .before .before .before .before .before .before .before .before .before .before .before .before .pre .1) (south-cell (c .before .before .before .before .before .before .before .before .before .before .before .before .before .before .before .args .w) (c .before .before .before .before .before .before .before .before .before .before .before .before .before .before .before .args .rows) (c .before .before .before .before .before .before .before .before .before .before .before .before .before .before .before .args .up .now) (c .before .before .before .before .before .before .before .before .before .before .before .before .before .before .before .args .down .now) (c .before .before .before .before .before .before .before .before .before .before .cap-sum .ensures) (c .before .before .before .before .before .before .before .before .before .cap-sum2 .ensures)) _ (c .before .before .before .before .before .before .before .before .amount-after .ensures) in
+    let north = north-cell (a .w) (a .rows) (a .up .now) (a .down .now) (c .before .before .cap-sum3 .ensures) (c .before .cap-sum4 .ensures) in
+    let all : 1 + a .rows * a .w + 1 ≡ layer (a .w) (a .rows) .cells = omega (arith, layer-cells (a .w) (a .rows)) in
+    all-moved (begun .moves) (rw all at (moved-more (begun .moves) (c .before .before .before .before .before .before .pass-rows .ensures begun) north _ (c .amount-after2 .ensures)))
+
+pub pass-layer-spec : {M : Type 1} → statement M
+pass-layer-spec =
+    tie.close
+    (tie.spec
+    mul-n
+    add-north
+    slice-read-amount-after
+    cap-sum-requires
+    cap-sum-requires-2
+    amount-after-requires
+    slice-write-amounts
+    pass-rows-requires
+    mul-amount-after
+    slice-read-amount-after-2
+    cap-sum-requires-3
+    cap-sum-requires-4
+    amount-after-requires-2
+    mul-amounts
+    slice-write-amounts-2
+    same-length
+    returns)
