@@ -22,9 +22,9 @@
  *   puldeho_load               328
  *   puldeho_emission           440
  *   puldeho_withdrawal         376
- *   puldeho_zonal           31,536
- *   puldeho_meridional     183,408
- *   puldeho_remap           18,880
+ *   puldeho_zonal           25,552
+ *   puldeho_meridional      93,872
+ *   puldeho_remap           17,648
  *   puldeho_total              408
  *   puldeho_cell               376
  */
@@ -39,7 +39,7 @@ extern "C" {
 #endif
 
 /* The deepest stack of all calls, in bytes. */
-#define PULDEHO_STACK 183408
+#define PULDEHO_STACK 93872
 
 /* The numbers of the refusals. */
 enum puldeho_refusal {
