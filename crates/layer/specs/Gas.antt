@@ -1,6 +1,6 @@
 -- A tracer's pieces in a layer: each cell with the two neighbours that its mismatch is taken from.
 -- Assumes nothing.
-use Prim.Native.Nat.{ℕ, suc, _+_, _*_, _≤_, _<_}
+use Prim.Native.Nat.{ℕ, suc, _+_, _*_, _-_, _≤_, _<_}
 use mathlib.Core.List.{List}
 use mathlib.Core.Bool.{Bool}
 use mathlib.Core.Path.{_≡_, refl, sym, ap, ap₂, _∙_}
@@ -8,13 +8,13 @@ use native.Mathlib.Omega.{arith}
 use borrow.Author.Tests.{le-leb}
 use lib.ListN.{length}
 use Rattle.model.specs.Basic.{at}
-use Rattle.model.specs.Scheme.{plain, mismatch, highPiece, lowPiece}
-use Rattle.model.specs.Sweep.{southOf, northOf, layerSides, layer, pieces}
+use Rattle.model.specs.Scheme.{Mismatch, plain, mismatch, highPiece, lowPiece}
+use Rattle.model.specs.Sweep.{southOf, northOf, layer, cellMismatch, pieces}
 use Rattle.model.specs.Laws.Scheme.{mismatch-equal}
-use Rattle.model.specs.Laws.Layer.{sides-inner, sides-north, layer-regular}
-use Rattle.model.specs.Laws.Substep.{mismatch-between, mismatch-south, mismatch-north}
+use Rattle.model.specs.Laws.Layer.{sides-inner, sides-north, south-cap, south-inner, north-inner, north-cap, layer-regular}
+use Rattle.model.specs.Laws.Substep.{mismatch-between, mismatch-south, mismatch-north, piece-up, piece-down}
 use Rattle.substep.specs.Faces.{flowOf}
-use Rattle.substep.specs.Pieces.{GasNeed, AreRatios, Neighbours, PieceNeed, mismatchIn, high-need, high-is, low-need, low-is}
+use Rattle.substep.specs.Pieces.{GasNeed, AreRatios, Neighbours, PieceNeed, mismatchIn, high-need, low-need}
 use Rattle.layer.specs.Cells.{Size, Faces}
 
 -- ---- neighbours
@@ -25,37 +25,67 @@ mismatch-own q =
     ap₂ (λ (s : ℕ) (p : Bool). record { size = s; positive = p }) (mismatch-equal q q) (le-leb q q (omega arith))
 
 module _ (w rows : ℕ) where
-  pub near-south : Neighbours (layer w rows) 0 0 0
+  row-near : (j : ℕ) → j < rows * w → Neighbours (layer w rows) (southOf w j) (suc j) (northOf (rows * w) (w + j))
   unfolding layer
-  near-south =
-      record {
-        low = omega arith;
-        own = omega arith;
-        high = omega arith;
-        is = λ air gas. mismatch-south (layer w rows) air gas 0 0 w refl ∙ sym (mismatch-own _);
-      }
-
-  pub near-row : (j : ℕ) → j < rows * w → Neighbours (layer w rows) (southOf w j) (1 + j) (northOf (rows * w) (w + j))
-  unfolding layer
-  near-row j h =
-      let e : 1 + j ≡ suc j = omega arith in
+  row-near j h =
       record {
         low = layer-regular w rows .lowIn j (omega arith);
         own = omega arith;
         high = layer-regular w rows .highIn (w + j) (omega arith);
-        is = λ air gas. mismatch-between (layer w rows) air gas (1 + j) j (w + j) (ap (layerSides w (rows * w)) e ∙ sides-inner w (rows * w) j h);
+        is = λ air gas. mismatch-between (layer w rows) air gas (suc j) j (w + j) (sides-inner w (rows * w) j h);
       }
 
-  pub near-north : Neighbours (layer w rows) (1 + rows * w) (1 + rows * w) (1 + rows * w)
+  -- those of the cell south of face i
+  pub south-cap-near : (i : ℕ) → i < w → Neighbours (layer w rows) (southOf w i) (southOf w i) (southOf w i)
   unfolding layer
-  near-north =
-      let e : 1 + rows * w ≡ suc (rows * w) = omega arith in
-      record {
+  south-cap-near i h =
+      rw (south-cap w i h)
+      (record {
         low = omega arith;
         own = omega arith;
         high = omega arith;
-        is = λ air gas. mismatch-north (layer w rows) air gas (1 + rows * w) (rows * w) w (ap (layerSides w (rows * w)) e ∙ sides-north w (rows * w) (rows * w) (omega arith)) ∙ sym (mismatch-own _);
-      }
+        is = λ air gas. mismatch-south (layer w rows) air gas 0 0 w refl ∙ sym (mismatch-own _);
+      })
+
+  pub south-near : (i : ℕ) → w ≤ i → i < w + rows * w → Neighbours (layer w rows) (southOf w (i - w)) (southOf w i) (northOf (rows * w) i)
+  south-near i low high =
+      let e : w + (i - w) ≡ i = omega arith in
+      rw (south-inner w i low) (rw e at (row-near (i - w) (omega arith)))
+
+  -- those of the cell north of it
+  pub north-near : (i : ℕ) → i < rows * w → Neighbours (layer w rows) (southOf w i) (northOf (rows * w) i) (northOf (rows * w) (w + i))
+  north-near i h = rw (north-inner (rows * w) i h) (row-near i h)
+
+  pub north-cap-near : (i : ℕ) → rows * w ≤ i → Neighbours (layer w rows) (northOf (rows * w) i) (northOf (rows * w) i) (northOf (rows * w) i)
+  unfolding layer
+  north-cap-near i h =
+      rw (north-cap (rows * w) i h)
+      (record {
+        low = omega arith;
+        own = omega arith;
+        high = omega arith;
+        is = λ air gas. mismatch-north (layer w rows) air gas (suc (rows * w)) (rows * w) w (sides-north w (rows * w) (rows * w) (omega arith)) ∙ sym (mismatch-own _);
+      })
+
+-- ---- a piece through face i
+-- the cell c beside it can give m units of its air, whatever its neighbours
+pub record Gives (w rows : ℕ) (air gas q : List ℕ) (i c m : ℕ) : Type 0 where
+  pub size : Size w rows
+  pub face : i < w + rows * w
+  pub ratios : AreRatios (layer w rows .cells) air gas q
+  pub need : (a b : ℕ) → Neighbours (layer w rows) a c b → PieceNeed air gas q a c b m
+
+module _ {w rows : ℕ} {air gas q : List ℕ} {i c m : ℕ} (gives : Gives w rows air gas q i c m) {a b : ℕ} (near : Neighbours (layer w rows) a c b) where
+  own-mismatch : mismatchIn q a c b ≡ cellMismatch (layer w rows) air gas c
+  own-mismatch =
+      (λ k. mismatch (gives .ratios .is a (near .low) k) (gives .ratios .is c (near .own) k) (gives .ratios .is b (near .high) k)) ∙
+      sym (near .is air gas)
+
+  pub from-high : highPiece (mismatchIn q a c b) (at air c) (at gas c) m ≡ highPiece (cellMismatch (layer w rows) air gas c) (at air c) (at gas c) m
+  from-high = ap (λ (D : Mismatch). highPiece D (at air c) (at gas c) m) own-mismatch
+
+  pub from-low : lowPiece (mismatchIn q a c b) (at air c) (at gas c) m ≡ lowPiece (cellMismatch (layer w rows) air gas c) (at air c) (at gas c) m
+  from-low = ap (λ (D : Mismatch). lowPiece D (at air c) (at gas c) m) own-mismatch
 
 -- ---- a substep of one tracer, with room for its ratios and pieces
 pub record Step (w rows : ℕ) (air gas up down q high low : List ℕ) : Type 0 where
@@ -65,39 +95,41 @@ pub record Step (w rows : ℕ) (air gas up down q high low : List ℕ) : Type 0 
   pub pieces : Faces w rows high low
   pub need : GasNeed (layer w rows) (flowOf up down) air gas
 
--- ---- the cells beside a face
-module _ (w rows f : ℕ) (h : f < w + rows * w) {c : ℕ} where
-  pub south-in : c ≡ southOf w f → c < 2 + rows * w
-  unfolding layer
-  south-in e = rw e (layer-regular w rows .lowIn f (omega arith))
-
-  pub north-in : c ≡ northOf (rows * w) f → c < 2 + rows * w
-  unfolding layer
-  north-in e = rw e (layer-regular w rows .highIn f (omega arith))
-
-module _ {w rows : ℕ} {air gas up down q high low : List ℕ} (step : Step w rows air gas up down q high low) (ratios : AreRatios (layer w rows .cells) air gas q) {a c b : ℕ} (near : Neighbours (layer w rows) a c b) (f : ℕ) (h : f < w + rows * w) where
+module _ {w rows : ℕ} {air gas up down q high low : List ℕ} (step : Step w rows air gas up down q high low) (ratios : AreRatios (layer w rows .cells) air gas q) (i : ℕ) (h : i < w + rows * w) where
   room : layer w rows .cells ≤ length q
   unfolding layer
   room = step .ratios
 
-  face : f < layer w rows .faces
+  inside : i < layer w rows .faces
   unfolding layer
-  face = omega arith
+  inside = omega arith
 
-  -- the cell south of it gives from its high end
-  pub south-gives : c ≡ southOf w f → PieceNeed air gas q a c b (at up f)
+  -- the cell south of face i gives from its high end, the cell north of it from its low end
+  pub gives-north : Gives w rows air gas q i (southOf w i) (at up i)
   unfolding layer
-  south-gives e = high-need (layer-regular w rows) (step .need) q ratios room near f face (sym e)
+  gives-north =
+      record {
+        size = step .size;
+        face = h;
+        ratios = ratios;
+        need = λ a b near. high-need (layer-regular w rows) (step .need) q ratios room near i inside refl;
+      }
 
-  pub northward : c ≡ southOf w f → highPiece (mismatchIn q a c b) (at air c) (at gas c) (at up f) ≡ pieces (layer w rows) (flowOf up down) air gas .toHigh f
+  pub gives-south : Gives w rows air gas q i (northOf (rows * w) i) (at down i)
   unfolding layer
-  northward e = high-is (layer-regular w rows) (step .need) q ratios room near f face (sym e)
+  gives-south =
+      record {
+        size = step .size;
+        face = h;
+        ratios = ratios;
+        need = λ a b near. low-need (layer-regular w rows) (step .need) q ratios room near i inside refl;
+      }
 
-  -- the cell north of it from its low end
-  pub north-gives : c ≡ northOf (rows * w) f → PieceNeed air gas q a c b (at down f)
+  -- and so the model's pieces are
+  pub piece-north : highPiece (cellMismatch (layer w rows) air gas (southOf w i)) (at air (southOf w i)) (at gas (southOf w i)) (at up i) ≡ pieces (layer w rows) (flowOf up down) air gas .toHigh i
   unfolding layer
-  north-gives e = low-need (layer-regular w rows) (step .need) q ratios room near f face (sym e)
+  piece-north = sym (piece-up (layer w rows) (flowOf up down) air gas i (southOf w i) refl)
 
-  pub southward : c ≡ northOf (rows * w) f → lowPiece (mismatchIn q a c b) (at air c) (at gas c) (at down f) ≡ pieces (layer w rows) (flowOf up down) air gas .toLow f
+  pub piece-south : lowPiece (cellMismatch (layer w rows) air gas (northOf (rows * w) i)) (at air (northOf (rows * w) i)) (at gas (northOf (rows * w) i)) (at down i) ≡ pieces (layer w rows) (flowOf up down) air gas .toLow i
   unfolding layer
-  southward e = low-is (layer-regular w rows) (step .need) q ratios room near f face (sym e)
+  piece-south = sym (piece-down (layer w rows) (flowOf up down) air gas i (northOf (rows * w) i) refl)

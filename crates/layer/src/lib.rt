@@ -2,15 +2,16 @@
 // Cell 0 is the south cap, cell 1 + j the cell between face j and face w + j, and the last cell the north cap.
 // Every piece is taken into a list before any amount changes.
 ghost use mathlib.Core.Path.{_≡_};
-ghost use Prim.Native.Nat.{_+_, _*_, _≤_, _<_};
+ghost use Prim.Native.Nat.{_+_, _*_, _≤_};
 ghost use lib.ListN.{length};
-ghost use Rattle.model.specs.Basic.{every};
-ghost use Rattle.model.specs.Sweep.{southOf, northOf, layer, afterFlow, allowed, pieces};
+ghost use Rattle.model.specs.Basic.{at, every};
+ghost use Rattle.model.specs.Scheme.{highPiece, lowPiece};
+ghost use Rattle.model.specs.Sweep.{southOf, northOf, layer, afterFlow, allowed, cellMismatch, pieces};
 ghost use Rattle.substep.specs.Faces.{flowOf, Same, stepped};
 ghost use Rattle.substep.specs.Cells.{cellAllowed, Moves};
-ghost use Rattle.substep.specs.Pieces.{AreRatios, Neighbours};
-ghost use Rattle.layer.specs.Cells.{Size, Fit, CapFaces, IsSum, Begun, MovedOn};
-ghost use Rattle.layer.specs.Gas.{Step};
+ghost use Rattle.substep.specs.Pieces.{AreRatios};
+ghost use Rattle.layer.specs.Cells.{Fit, CapFaces, IsSum, Begun, MovedOn};
+ghost use Rattle.layer.specs.Gas.{Gives, Step};
 use substep::amount_after;
 use substep::both;
 use substep::cell_allows;
@@ -18,6 +19,7 @@ use substep::fill_ratios;
 use substep::high_end;
 use substep::low_end;
 use units::Air;
+use units::Tracer;
 
 // What passes the w faces of a cap, from face `first` on, in one direction.
 fn cap_sum(passes: &[u32], first: usize, w: usize) -> u64
@@ -105,33 +107,33 @@ fn north_of(n: usize, face: usize) -> usize
     if face < n { 1 + face } else { 1 + n }
 }
 
-// The two cells that a cell's mismatch is taken from.
-pub struct Near {
-    pub south: usize,
-    pub north: usize,
-}
-
-// A cap is its own neighbour on both sides, so that its mismatch is none.
-fn neighbours(w: usize, rows: usize, c: usize) -> Near
-    requires { ⌜ Size w rows × (c < 2 + rows * w) ⌝ }
-    ensures { λ b. ⌜ Neighbours (layer w rows) (b .south) c (b .north) ⌝ }
+// The piece of m units of air that pass face i northward, from the high end of the cell south of it.
+// The south cap is its own neighbour on both sides, so that its mismatch is none.
+fn northward(air: &[u32], gas: &[u32], q: &[u64], w: usize, rows: usize, i: usize, m: Air) -> Tracer
+    requires { ⌜ Gives w rows (now air) (now gas) (now q) i (southOf w i) (m .0) ⌝ }
+    ensures { λ p. ⌜ p .0 ≡ highPiece (cellMismatch (layer w rows) (now (air .entry)) (now (gas .entry)) (southOf w i)) (at (now (air .entry)) (southOf w i)) (at (now (gas .entry)) (southOf w i)) (m .0) ⌝ }
 {
-    if c == 0 {
-        return Near { south: c, north: c };
+    let c = south_of(w, i);
+    if i < w {
+        return high_end(air, gas, q, c, c, c, m);
     }
-    let n = rows * w;
-    let j = c - 1;
-    if j < n {
-        Near {
-            south: south_of(w, j),
-            north: north_of(n, w + j),
-        }
-    } else {
-        Near { south: c, north: c }
-    }
+    high_end(air, gas, q, south_of(w, i - w), c, north_of(rows * w, i), m)
 }
 
-// The pieces through each face: from the high end of the cell south of it, and from the low end of the cell north of it.
+// The same southward, from the low end of the cell north of it.
+fn southward(air: &[u32], gas: &[u32], q: &[u64], w: usize, rows: usize, i: usize, m: Air) -> Tracer
+    requires { ⌜ Gives w rows (now air) (now gas) (now q) i (northOf (rows * w) i) (m .0) ⌝ }
+    ensures { λ p. ⌜ p .0 ≡ lowPiece (cellMismatch (layer w rows) (now (air .entry)) (now (gas .entry)) (northOf (rows * w) i)) (at (now (air .entry)) (northOf (rows * w) i)) (at (now (gas .entry)) (northOf (rows * w) i)) (m .0) ⌝ }
+{
+    let n = rows * w;
+    let c = north_of(n, i);
+    if n <= i {
+        return low_end(air, gas, q, c, c, c, m);
+    }
+    low_end(air, gas, q, south_of(w, i), c, north_of(n, w + i), m)
+}
+
+// The pieces through each face, in both directions.
 fn fill_pieces(
     air: &[u32],
     gas: &[u32],
@@ -146,16 +148,11 @@ fn fill_pieces(
     requires { ⌜ Step w rows (now air) (now gas) (now up) (now down) (now q) (now high) (now low) × AreRatios (layer w rows .cells) (now air) (now gas) (now q) ⌝ }
     ensures { λ r. ⌜ Same (layer w rows .faces) (flowOf (now (high .exit)) (now (low .exit))) (pieces (layer w rows) (flowOf (now (up .entry)) (now (down .entry))) (now (air .entry)) (now (gas .entry))) ⌝ }
 {
-    let n = rows * w;
-    let faces = w + n;
+    let faces = w + rows * w;
     let mut i = 0;
     while i < faces {
-        let s = south_of(w, i);
-        let t = north_of(n, i);
-        let a = neighbours(w, rows, s);
-        let b = neighbours(w, rows, t);
-        let p = high_end(air, gas, q, a.south, s, a.north, Air(up[i]));
-        let r = low_end(air, gas, q, b.south, t, b.north, Air(down[i]));
+        let p = northward(air, gas, q, w, rows, i, Air(up[i]));
+        let r = southward(air, gas, q, w, rows, i, Air(down[i]));
         high[i] = p.0;
         low[i] = r.0;
         i += 1;

@@ -1,0 +1,47 @@
+-- `layer::northward` meets its contract: a cap is its own neighbour on both sides.
+-- Assumes nothing.
+use mathlib.Core.Path.{_∙_}
+use native.Mathlib.Omega.{arith}
+use Rattle.layer.specs.Gas.{south-cap-near, south-near, from-high}
+use borrow.Author.Needs.{needs}
+use Rattle.layer.proofs.northward.Statement.{statement}
+use Rattle.layer.proofs.northward.Tie as tie
+
+south-of-requires : tie.Need-south-of-requires
+south-of-requires c κs = search needs
+
+high-end-requires : tie.Need-high-end-requires
+high-end-requires c κs = rw (c .before .south-of .ensures) (c .before .before .before .before .before .pre .need _ _ (south-cap-near (c .before .before .before .before .before .args .w) (c .before .before .before .before .before .args .rows) (c .before .before .before .before .before .args .i) (omega arith)))
+
+returns : tie.Need-returns
+returns c = rw (c .before .before .south-of .ensures) at (c .high-end .ensures) ∙ from-high (c .before .before .before .before .before .before .pre) (south-cap-near (c .before .before .before .before .before .before .args .w) (c .before .before .before .before .before .before .args .rows) (c .before .before .before .before .before .before .args .i) (omega arith))
+
+south-of-requires-2 : tie.Need-south-of-requires-2
+south-of-requires-2 c κs = search needs
+
+mul-north-of : tie.Need-mul-north-of
+mul-north-of c = search needs
+
+north-of-requires : tie.Need-north-of-requires
+north-of-requires c κs = search needs
+
+high-end-requires-2 : tie.Need-high-end-requires-2
+high-end-requires-2 c κs =
+    rw (c .before .south-of2 .ensures, c .before .before .before .south-of .ensures, c .north-of .ensures) (c .before .before .before .before .before .before .before .pre .need _ _ (south-near (c .before .before .before .before .before .before .before .args .w) (c .before .before .before .before .before .before .before .args .rows) (c .before .before .before .before .before .before .before .args .i) (omega arith) (c .before .before .before .before .before .before .before .pre .face)))
+
+returns-2 : tie.Need-returns-2
+returns-2 c =
+    rw (c .before .before .south-of2 .ensures, c .before .before .before .before .south-of .ensures, c .before .north-of .ensures) at (c .high-end2 .ensures) ∙ from-high (c .before .before .before .before .before .before .before .before .pre) (south-near (c .before .before .before .before .before .before .before .before .args .w) (c .before .before .before .before .before .before .before .before .args .rows) (c .before .before .before .before .before .before .before .before .args .i) (omega arith) (c .before .before .before .before .before .before .before .before .pre .face))
+
+pub northward-spec : {M : Type 1} → statement M
+northward-spec =
+    tie.close
+    (tie.spec
+    south-of-requires
+    high-end-requires
+    returns
+    south-of-requires-2
+    mul-north-of
+    north-of-requires
+    high-end-requires-2
+    returns-2)
