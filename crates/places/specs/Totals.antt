@@ -3,12 +3,12 @@
 use Prim.Native.Nat.{ℕ, suc, _+_, _*_, _-_, _%_, _^_, _≤_, _<_}
 use mathlib.Core.List.{List}
 use mathlib.Core.Path.{_≡_, sym, _∙_, ap}
-use native.Mathlib.Nat.{add-sub-cancel-left, mod-eq-of-lt, mul-le-mul, mul-le-mul-right}
+use native.Mathlib.Nat.{le-refl, add-sub-cancel-left, mod-eq-of-lt, mul-le-mul, mul-le-mul-right}
 use native.Mathlib.Omega.{arith}
 use lib.Bits.{bitOr}
 use lib.ListN.{length, set}
 use Rattle.model.specs.Basic.{at, part, sum}
-use Rattle.model.specs.Laws.Basic.{length-part, at-part, sum-split, sum-ext}
+use Rattle.model.specs.Laws.Basic.{length-part, at-part, sum-none, sum-more, sum-split, sum-ext}
 use Rattle.model.specs.Laws.Entries.{entries-more}
 use Rattle.places.specs.Bits.{or-above}
 
@@ -49,17 +49,26 @@ tracer-room {tracers} {cells} {n} fit t h =
 pub part-total : (l : List ℕ) (a n x : ℕ) → a + n ≤ length l → x ≡ sum (length (part l a (a + n - a))) (at (part l a (a + n - a))) → x ≡ sum n (at (part l a n))
 part-total l a n x h e = rw (add-sub-cancel-left a n, length-part l a n h) at e
 
--- ---- a block's sum in 32 bits: where the bits of all amounts passed are below 2^20, it is their sum, and none passed 32 bits
+-- ---- a sum in 32 bits of i amounts below 2^20
 pub record BlockSum (s t i : ℕ) : Type 0 where
   pub is : s ≡ t
   pub small : s ≤ i * 1048575
 
-pub block-more : (all s x t i : ℕ) → i < 4096 → (all < 1048576 → BlockSum s t i) → bitOr all x < 1048576 → BlockSum ((s + x) % 2 ^ 32) (t + x) (i + 1)
-block-more all s x t i few below h =
-    let old = below (omega (arith, or-above all x .0)) in
-    let fits : s + x < 2 ^ 32 = omega (arith, old .small, or-above all x .1) in
+pub block-none : (f : ℕ → ℕ) → BlockSum 0 (sum 0 f) 0
+block-none f = record { is = sym (sum-none f); small = omega arith }
+
+pub block-more : (s x i : ℕ) (f : ℕ → ℕ) → i < 4096 → BlockSum s (sum i f) i → x ≡ f i → x < 1048576 → BlockSum ((s + x) % 2 ^ 32) (sum (i + 1) f) (i + 1)
+block-more s x i f few old own below =
+    let fits : s + x < 2 ^ 32 = omega (arith, old .small) in
     let e = mod-eq-of-lt fits in
-    record { is = omega (arith, e, old .is); small = omega (arith, e, old .small, or-above all x .1) }
+    record { is = omega (arith, e, old .is, own, sum-more i f); small = omega (arith, e, old .small) }
+
+-- the bits of three numbers, below 2^20
+pub bits-below : (all x y : ℕ) → bitOr (bitOr all x) y < 1048576 → (all < 1048576) × (x < 1048576) × (y < 1048576)
+bits-below all x y h =
+    let two = or-above (bitOr all x) y in
+    let one = or-above all x in
+    (omega (arith, two .0, one .0), omega (arith, two .0, one .1), omega (arith, two .1))
 
 -- ---- the sum up to the end of a block
 pub sum-block : (l : List ℕ) (a e x : ℕ) → a ≤ e → e ≤ length l → x ≡ sum (length (part l a (e - a))) (at (part l a (e - a))) → sum e (at l) ≡ sum a (at l) + x
@@ -69,3 +78,12 @@ sum-block l a e x h k is =
     ap (λ (m : ℕ). sum m (at l)) n ∙ sum-split a (e - a) (at l) ∙
     ap (λ (m : ℕ). sum a (at l) + m)
     (sym (is ∙ ap (λ (m : ℕ). sum m (at (part l a (e - a)))) size ∙ sum-ext (e - a) (at (part l a (e - a))) (λ i. at l (a + i)) (at-part l a (e - a))))
+
+-- two halves, and what is left behind them
+pub halves-total : (gas : List ℕ) (half x y r : ℕ) → half + half ≤ length gas → BlockSum x (sum half (at gas)) half → BlockSum y (sum half (λ k. at gas (half + k))) half → IsTotal (part gas (half + half) (length gas - (half + half))) r → IsTotal gas (x + y + r)
+halves-total gas half x y r fits first second rest =
+    let long = length-part gas (half + half) (length gas - (half + half)) (omega arith) in
+    record {
+      is = omega (arith, first .is, second .is, sum-split half half (at gas), sum-block gas (half + half) (length gas) r fits (le-refl _) (rest .is));
+      small = omega (arith, first .small, second .small, rest .small, long);
+    }

@@ -58,26 +58,31 @@ fn wide_total(gas: &[u32]) -> u64
     sum
 }
 
-// The sum of a block of at most 4,096 amounts. `all` has the bits of every amount: where it is below 2^20, no sum passes
-// 32 bits. Both are of 32 bits, so that the loop runs at the speed of memory.
+// The sum of a block of at most 4,096 amounts, its two halves side by side. `all` has the bits of the amounts summed: where it
+// is below 2^20, no sum passed 32 bits. Sums and bits are of 32 bits, so that the loop runs at the speed of memory.
 fn block_total(gas: &[u32]) -> u64
     requires { ⌜ length (now gas) ≤ 4096 ⌝ }
     ensures { λ r. ⌜ IsTotal (now (gas .entry)) r ⌝ }
 {
+    let half = gas.len() / 2;
     let mut all: u32 = 0;
-    let mut sum: u32 = 0;
+    let mut first: u32 = 0;
+    let mut second: u32 = 0;
     let mut i = 0;
-    while i < gas.len() {
+    while i < half {
         let x = gas[i];
-        all = all | x;
-        sum = wrapping_add_u32(sum, x);
+        let y = gas[half + i];
+        all = all | x | y;
+        first = wrapping_add_u32(first, x);
+        second = wrapping_add_u32(second, y);
         i += 1;
     }
-    if all < 1048576 {
-        sum as u64
-    } else {
-        wide_total(gas)
+    if all < 1048576 {} else {
+        return wide_total(gas);
     }
+    let end = half + half;
+    let rest = wide_total(&gas[end..]); // one amount, or none
+    (first as u64) + (second as u64) + rest
 }
 
 // Where the block that starts at entry a of n ends.

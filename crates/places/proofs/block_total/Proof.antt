@@ -1,24 +1,24 @@
--- `places::block_total` meets its contract. The loop's invariant: where no amount passed has a bit above the last 20, `sum` is their sum.
+-- `places::block_total` meets its contract. The loop's invariant: where no amount passed has a bit above the last 20, each half's sum is that of its amounts passed.
 -- Assumes nothing.
-use Prim.Native.Nat.{ℕ, _-_, _≤_, _<_}
-use mathlib.Core.Path.{_≡_, sym, _∙_, ap}
+use Prim.Native.Nat.{ℕ, _+_, _-_, _/_, _≤_, _<_}
+use mathlib.Core.Path.{_≡_, refl}
 use native.Mathlib.Omega.{arith}
 use lib.ListN.{length}
-use Rattle.model.specs.Basic.{at, sum as total}
-use Rattle.model.specs.Laws.Basic.{sum-none, sum-more}
-use Rattle.places.specs.Totals.{BlockSum, block-more}
+use Rattle.model.specs.Basic.{at, sum}
+use Rattle.places.specs.Totals.{BlockSum, block-none, block-more, bits-below, halves-total}
 use borrow.Author.Needs.{needs}
 use Rattle.places.proofs.block_total.Statement.{statement}
 use Rattle.places.proofs.block_total.Tie as tie
 
 abbrev Inv-loop : tie.InvT-loop
-Inv-loop gas all₀ sum₀ i₀ all sum i = (i ≤ length gas) × (all < 1048576 → BlockSum sum (total i (at gas)) i)
+Inv-loop gas half all₀ first₀ second₀ i₀ all first second i =
+    (i ≤ half) × (all < 1048576 → BlockSum first (sum i (at gas)) i × BlockSum second (sum i (λ k. at gas (half + k))) i)
 
 abbrev μ-loop : tie.MeasureT-loop
-μ-loop gas all₀ sum₀ i₀ all sum i = length gas - i
+μ-loop gas half all₀ first₀ second₀ i₀ all first second i = half - i
 
 loop-holds : tie.Need-loop-holds Inv-loop μ-loop
-loop-holds c = (search needs, λ h. record { is = sym (sum-none _); small = omega arith })
+loop-holds c = (search needs, λ h. (block-none _, block-none _))
 
 mul-x : tie.Need-mul-x Inv-loop μ-loop
 mul-x c = search needs
@@ -26,8 +26,20 @@ mul-x c = search needs
 shared-slice-read-x : tie.Need-shared-slice-read-x Inv-loop μ-loop
 shared-slice-read-x c = search needs
 
+add-y : tie.Need-add-y Inv-loop μ-loop
+add-y c = search needs
+
+mul-y : tie.Need-mul-y Inv-loop μ-loop
+mul-y c = search needs
+
+shared-slice-read-y : tie.Need-shared-slice-read-y Inv-loop μ-loop
+shared-slice-read-y c = search needs
+
 wrapping-add-u32-requires : tie.Need-wrapping-add-u32-requires Inv-loop μ-loop
 wrapping-add-u32-requires c κs = search needs
+
+wrapping-add-u32-requires-2 : tie.Need-wrapping-add-u32-requires-2 Inv-loop μ-loop
+wrapping-add-u32-requires-2 c κs = search needs
 
 add-i : tie.Need-add-i Inv-loop μ-loop
 add-i c = search needs
@@ -37,31 +49,61 @@ loop-less c = search needs
 
 loop-again : tie.Need-loop-again Inv-loop μ-loop
 loop-again c =
-    let turn = c .before .before .before .loop in
-    let gas = c .before .before .before .before .before .args .gas .now in (
+    let l = c .before .before .before .before .before .loop in
+    let gas = c .before .before .before .before .before .before .before .args .gas .now in
+    let half : ℕ = length gas / 2 in (
       search needs,
       λ h.
-          rw (c .wrapping-add-u32 .ensures, sum-more (turn .i) (at gas))
-          (block-more (turn .all) (turn .sum) (at gas (turn .i)) (total (turn .i) (at gas)) (turn .i) (search needs) (turn .inv .1) h),
+          let below = bits-below (l .all) (at gas (l .i)) (at gas (half + l .i)) h in
+          let old = l .inv .1 (below .0) in (
+            rw (c .before .wrapping-add-u32 .ensures) (block-more (l .first) (at gas (l .i)) (l .i) (at gas) (omega (arith, c .before .before .before .before .loop-test .taken, c .before .before .before .before .before .before .before .pre)) (old .0) refl (below .1)),
+            rw (c .wrapping-add-u322 .ensures) (block-more (l .second) (at gas (half + l .i)) (l .i) (λ k. at gas (half + k)) (omega (arith, c .before .before .before .before .loop-test .taken, c .before .before .before .before .before .before .before .pre)) (old .1) refl (below .2)),
+          ),
     )
-
-cast-result : tie.Need-cast-result Inv-loop μ-loop
-cast-result c = let done = c .before .before .loop .inv .1 (c .if1 .taken) in search needs
 
 wide-total-requires : tie.Need-wide-total-requires Inv-loop μ-loop
 wide-total-requires c κs = search needs
 
 returns : tie.Need-returns Inv-loop μ-loop
-returns c =
-    let end = c .before .before .loop in
-    let done = end .inv .1 (c .if1 .taken) in
-    record {
-      is = done .is ∙ ap (λ (n : ℕ). total n (at (c .before .before .before .before .args .gas .now))) (omega arith);
-      small = omega (arith, done .small);
-    }
+returns c = c .wide-total .ensures
+
+add-end : tie.Need-add-end Inv-loop μ-loop
+add-end c = search needs
+
+mul-wide-total : tie.Need-mul-wide-total Inv-loop μ-loop
+mul-wide-total c = search needs
+
+sub-wide-total : tie.Need-sub-wide-total Inv-loop μ-loop
+sub-wide-total c = search needs
+
+part-wide-total-start : tie.Need-part-wide-total-start Inv-loop μ-loop
+part-wide-total-start c = search needs
+
+part-wide-total-end : tie.Need-part-wide-total-end Inv-loop μ-loop
+part-wide-total-end c = search needs
+
+wide-total-requires-2 : tie.Need-wide-total-requires-2 Inv-loop μ-loop
+wide-total-requires-2 c κs = search needs
+
+cast-result : tie.Need-cast-result Inv-loop μ-loop
+cast-result c = let done = c .before .before .before .before .loop .inv .1 (c .before .before .if1 .taken) in search needs
+
+cast-result-2 : tie.Need-cast-result-2 Inv-loop μ-loop
+cast-result-2 c = let done = c .before .before .before .before .loop .inv .1 (c .before .before .if1 .taken) in search needs
+
+add-result : tie.Need-add-result Inv-loop μ-loop
+add-result c = let done = c .before .before .before .before .loop .inv .1 (c .before .before .if1 .taken) in search needs
+
+add-result-2 : tie.Need-add-result-2 Inv-loop μ-loop
+add-result-2 c = let done = c .before .before .before .before .loop .inv .1 (c .before .before .if1 .taken) in search needs
 
 returns-2 : tie.Need-returns-2 Inv-loop μ-loop
-returns-2 c = c .wide-total .ensures
+returns-2 c =
+    let l = c .before .before .before .before .loop in
+    let gas = c .before .before .before .before .before .before .args .gas .now in
+    let end : l .i ≡ length gas / 2 = omega arith in
+    let done = rw end at (l .inv .1 (c .before .before .if1 .taken)) in
+    halves-total gas (length gas / 2) (l .first) (l .second) _ (omega arith) (done .0) (done .1) (c .wide-total2 .ensures)
 
 pub block-total-spec : {M : Type 1} → statement M
 block-total-spec =
@@ -72,11 +114,24 @@ block-total-spec =
     loop-holds
     mul-x
     shared-slice-read-x
+    add-y
+    mul-y
+    shared-slice-read-y
     wrapping-add-u32-requires
+    wrapping-add-u32-requires-2
     add-i
     loop-less
     loop-again
-    cast-result
     wide-total-requires
     returns
+    add-end
+    mul-wide-total
+    sub-wide-total
+    part-wide-total-start
+    part-wide-total-end
+    wide-total-requires-2
+    cast-result
+    cast-result-2
+    add-result
+    add-result-2
     returns-2)
