@@ -32,3 +32,10 @@ tableLimit = 2097120
 -- "the smallest n from 1 to 16"
 abbrev pub mostSubsteps : ℕ
 mostSubsteps = 16
+
+-- "K·C above 2,048 or N above 2": the largest world that the runner program takes
+abbrev pub programCells : ℕ
+programCells = 2048
+
+abbrev pub programTracers : ℕ
+programTracers = 2

@@ -5,6 +5,7 @@ use mathlib.Core.List.{List, [], _∷_}
 use mathlib.Core.Bool.{Bool, true, false, not, _||_}
 use lib.Dec.{leb, ltb}
 use lib.ListN.{length, getD}
+use Rattle.model.specs.Limits.{programCells, programTracers}
 use Rattle.model.specs.Basic.{at}
 use Rattle.model.specs.World.{Grid, World, worldCells}
 use Rattle.model.specs.Step.{Call, load, emission, withdrawal, zonal, meridional, remap, total, reading, gridFits, step}
@@ -147,7 +148,7 @@ pub data Outcome : Type 0 where
 
 -- 15: "K·C above 2,048 or N above 2"
 abbrev pub tooLarge : Grid → Bool
-tooLarge g = ltb 2048 (worldCells g) || ltb 2 (g .N)
+tooLarge g = ltb programCells (worldCells g) || ltb programTracers (g .N)
 
 -- the refusal of a grid, 0 where it is accepted: "15 after 1"
 abbrev pub gridRefusal : Grid → ℕ

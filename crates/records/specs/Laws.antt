@@ -11,6 +11,7 @@ use borrow.Author.Tests.{ltb-true, ltb-false, le-ltb, lt-ltb}
 use lib.Dec.{ltb}
 use lib.ListN.{length, take, drop, length-drop}
 use lib.Seq.{drop-cons, take-all}
+use Rattle.model.specs.Limits.{programCells, programTracers}
 use Rattle.model.specs.Basic.{at}
 use Rattle.model.specs.World as model
 use Rattle.model.specs.Step.{gridFits}
@@ -33,14 +34,14 @@ module _ (g : model.Grid) where
   pub refused-range : gridFits g ≡ false → program.gridRefusal g ≡ 1
   refused-range e = rw (e, program.gridRefusal)
 
-  pub refused-cells : gridFits g ≡ true → 2048 < model.worldCells g → program.gridRefusal g ≡ 15
-  refused-cells e h = rw (e, program.gridRefusal, lt-ltb 2048 (model.worldCells g) h)
+  pub refused-cells : gridFits g ≡ true → programCells < model.worldCells g → program.gridRefusal g ≡ 15
+  refused-cells e h = rw (e, program.gridRefusal, lt-ltb programCells (model.worldCells g) h)
 
-  pub refused-tracers : gridFits g ≡ true → model.worldCells g ≤ 2048 → 2 < g .N → program.gridRefusal g ≡ 15
-  refused-tracers e h k = rw (e, program.gridRefusal, le-ltb 2048 (model.worldCells g) h, lt-ltb 2 (g .N) k)
+  pub refused-tracers : gridFits g ≡ true → model.worldCells g ≤ programCells → programTracers < g .N → program.gridRefusal g ≡ 15
+  refused-tracers e h k = rw (e, program.gridRefusal, le-ltb programCells (model.worldCells g) h, lt-ltb programTracers (g .N) k)
 
-  pub taken-grid : gridFits g ≡ true → model.worldCells g ≤ 2048 → g .N ≤ 2 → program.gridRefusal g ≡ 0
-  taken-grid e h k = rw (e, program.gridRefusal, le-ltb 2048 (model.worldCells g) h, le-ltb 2 (g .N) k)
+  pub taken-grid : gridFits g ≡ true → model.worldCells g ≤ programCells → g .N ≤ programTracers → program.gridRefusal g ≡ 0
+  taken-grid e h k = rw (e, program.gridRefusal, le-ltb programCells (model.worldCells g) h, le-ltb programTracers (g .N) k)
 
 -- ---- a byte other than 1 to 9 names no kind
 pub no-kind : (byte : ℕ) → (byte ≡ 1 → ⊥) → (byte ≡ 2 → ⊥) → (byte ≡ 3 → ⊥) → (byte ≡ 4 → ⊥) → (byte ≡ 5 → ⊥) → (byte ≡ 6 → ⊥) → (byte ≡ 7 → ⊥) → (byte ≡ 8 → ⊥) → (byte ≡ 9 → ⊥) → program.kindOf byte ≡ program.unknown
@@ -72,8 +73,8 @@ module _ (g : declared.Grid) (small : SmallGrid g) where
   pub row-cells : g .r * g .w ≤ 3168
   row-cells = mul-le-mul {n₂ = 44} {m₂ = 72} (small .highR) (small .highW)
 
-  pub tracer-cells : (cells : ℕ) → cells ≤ 2048 → g .n * cells ≤ 4096
-  tracer-cells cells few = mul-le-mul {n₂ = 2} {m₂ = 2048} (small .highN) few
+  pub tracer-cells : (cells : ℕ) → cells ≤ programCells → g .n * cells ≤ 4096
+  tracer-cells cells few = mul-le-mul {n₂ = 2} {m₂ = programCells} (small .highN) few
 
   -- the faces of a layer are its rows' cells and one row more
   pub layer-faces : g .w * (g .r + 1) ≡ g .r * g .w + g .w
@@ -104,13 +105,13 @@ number-four l a h =
 -- ---- a grid that the program takes
 pub record Takes (g : model.Grid) : Type 0 where
   pub fits : gridFits g ≡ true
-  pub cells : model.worldCells g ≤ 2048
-  pub tracers : g .N ≤ 2
+  pub cells : model.worldCells g ≤ programCells
+  pub tracers : g .N ≤ programTracers
 
 pub takes : (g : model.Grid) → program.gridRefusal g ≡ 0 → Takes g
-takes g e = go (gridFits g) (ltb 2048 (model.worldCells g)) (ltb 2 (g .N)) refl refl refl
+takes g e = go (gridFits g) (ltb programCells (model.worldCells g)) (ltb programTracers (g .N)) refl refl refl
   where
-    go : (a b d : Bool) → gridFits g ≡ a → ltb 2048 (model.worldCells g) ≡ b → ltb 2 (g .N) ≡ d → Takes g
+    go : (a b d : Bool) → gridFits g ≡ a → ltb programCells (model.worldCells g) ≡ b → ltb programTracers (g .N) ≡ d → Takes g
     go false b d p q r = absurd (omega (arith, refused-range g p))
     go true true d p q r = absurd (omega (arith, refused-cells g p (ltb-true _ _ q)))
     go true false true p q r = absurd (omega (arith, refused-tracers g p (ltb-false _ _ q) (ltb-true _ _ r)))
@@ -129,7 +130,7 @@ same-small g h e small =
       highR = rw (ap (λ (x : model.Grid). x .R) e) (small .highR);
       highK = rw (ap (λ (x : model.Grid). x .K) e) (small .highK);
       highN = rw (ap (λ (x : model.Grid). x .N) e) (small .highN);
-      cells = subst (λ (x : model.Grid). model.worldCells x ≤ 2048) (sym e) (small .cells);
+      cells = subst (λ (x : model.Grid). model.worldCells x ≤ programCells) (sym e) (small .cells);
     }
 
 pub stage-small : (stage : Stage) (g : declared.Grid) → gridOf g ≡ gridOfStage stage → stageRefusal stage ≡ 0 → SmallGrid g

@@ -4,6 +4,7 @@ use Prim.Native.Nat.{ℕ, zero, suc, _*_, _≤_}
 use mathlib.Core.List.{List, []}
 use mathlib.Core.Path.{_≡_}
 use lib.ListN.{take}
+use Rattle.model.specs.Limits.{programCells, programTracers}
 use Rattle.model.specs.World as model
 use Rattle.units.specs.declared.Grid as declared
 use Rattle.units.specs.Grid.{gridOf}
@@ -72,5 +73,5 @@ pub record SmallGrid (g : declared.Grid) : Type 0 where
   pub highW : g .w ≤ 72
   pub highR : g .r ≤ 44
   pub highK : g .k ≤ 32
-  pub highN : g .n ≤ 2
-  pub cells : model.worldCells (gridOf g) ≤ 2048
+  pub highN : g .n ≤ programTracers
+  pub cells : model.worldCells (gridOf g) ≤ programCells
