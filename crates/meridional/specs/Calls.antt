@@ -81,12 +81,25 @@ pub same-faces : (W R : ℕ) (fluxes : List ℤ) {flow : Flow} → length fluxes
 unfolding layer
 same-faces W R fluxes long same = rw long at same
 
+-- ---- what `layer_permits` needs and finds
+-- a layer's cells from cell `first` on, its fluxes, and room for what passes its faces
+pub record Layer (g : declared.Grid) (air : List ℕ) (first : ℕ) (fluxes : List ℤ) (up down : List ℕ) : Type 0 where
+  pub range : InRange g
+  pub inside : first + layerCells (gridOf g) ≤ length air
+  pub long : length fluxes ≡ g .w * (g .r + 1)
+  pub rooms : Rooms up down
+
+pub record IsPermit (g : declared.Grid) (air : List ℕ) (first : ℕ) (fluxes : List ℤ) (up down : List ℕ) (r : Bool) : Type 0 where
+  pub passes : AreParts fluxes 1 1 up down
+  pub serving : serves (layer (g .w) (g .r)) fluxes (part air first (layerCells (gridOf g))) 1 ≡ r
+
 -- so tested, over the lent air
-pub tested-serves : (w : World) (k : ℕ) (fluxes : List ℤ) (lent : List ℕ) {flow : Flow} (b : Bool) → lent ≡ layerAir w k → length fluxes ≡ w .grid .W * (w .grid .R + 1) → Same (length fluxes) flow (parts fluxes 1 1) → b ≡ allowed (layer (w .grid .W) (w .grid .R)) flow lent → serves (layer (w .grid .W) (w .grid .R)) fluxes (layerAir w k) 1 ≡ b
-tested-serves w k fluxes lent {flow} b air long same e =
-    let mesh : Mesh = layer (w .grid .W) (w .grid .R) in
-    serves-one mesh fluxes (layerAir w k) ∙
-    sym (e ∙ ap (allowed mesh flow) air ∙ same-allowed mesh (layer-regular (w .grid .W) (w .grid .R)) (same-faces (w .grid .W) (w .grid .R) fluxes long same) (layerAir w k))
+pub tested-serves : (g : declared.Grid) (air : List ℕ) (first wide : ℕ) (fluxes : List ℤ) {flow : Flow} (r : Bool) → wide ≡ layerCells (gridOf g) → length fluxes ≡ g .w * (g .r + 1) → Same (length fluxes) flow (parts fluxes 1 1) → r ≡ allowed (layer (g .w) (g .r)) flow (part air first (first + wide - first)) → serves (layer (g .w) (g .r)) fluxes (part air first (layerCells (gridOf g))) 1 ≡ r
+tested-serves g air first wide fluxes {flow} r alike long same e =
+    let mesh : Mesh = layer (g .w) (g .r) in
+    let lent = part-lent air first wide ∙ ap (part air first) alike in
+    serves-one mesh fluxes _ ∙
+    sym (e ∙ ap (allowed mesh flow) lent ∙ same-allowed mesh (layer-regular (g .w) (g .r)) (same-faces (g .w) (g .r) fluxes long same) _)
 
 -- ---- the places, from 5 on
 -- the substep is not allowed

@@ -4,7 +4,7 @@ ghost use Rattle.model.specs.Step.{step, meridional as meridional-call};
 ghost use Rattle.units.specs.Answer.{Agrees};
 ghost use Rattle.units.specs.Grid.{worldOf};
 ghost use Rattle.substep.specs.Faces.{flowOf};
-ghost use Rattle.meridional.specs.Calls.{Rooms, IsLayerPlace};
+ghost use Rattle.meridional.specs.Calls.{Rooms, Layer, IsPermit, IsLayerPlace};
 ghost use Rattle.meridional.specs.Tracers.{TracersNeed, sweptTracers};
 use layer::layer_allowed;
 use layer::pass_layer;
@@ -34,6 +34,23 @@ fn no_layer(answer: Answer) -> LayerPlace
     LayerPlace { answer, first: 0 }
 }
 
+// Fills up and down with what passes each face, and says whether the substep is allowed.
+fn layer_permits(
+    g: Grid,
+    air: &[u32],
+    first: usize,
+    fluxes: &[i32],
+    up: &mut [u32],
+    down: &mut [u32],
+) -> bool
+    requires { ⌜ Layer g (now air) first (now fluxes) (now up) (now down) ⌝ }
+    ensures { λ r. ⌜ IsPermit g (now (air .entry)) first (now (fluxes .entry)) (now (up .exit)) (now (down .exit)) r ⌝ }
+{
+    let end = first + (layer_cells(g) as usize);
+    fill_parts(fluxes, 1, 1, up, down);
+    layer_allowed(&air[first..end], up, down, g.w as usize, g.r as usize)
+}
+
 // Where the call is accepted, up and down have what passes each face.
 fn layer_place(
     g: Grid,
@@ -59,9 +76,7 @@ fn layer_place(
         return no_layer(Answer::Refused(Refusal::Fluxes));
     }
     let first = layer_start(g, layer) as usize;
-    let end = first + (layer_cells(g) as usize);
-    fill_parts(fluxes, 1, 1, up, down);
-    if layer_allowed(&air[first..end], up, down, g.w as usize, g.r as usize) {} else {
+    if layer_permits(g, air, first, fluxes, up, down) {} else {
         return no_layer(Answer::Refused(Refusal::Meridional));
     }
     LayerPlace {
