@@ -19,14 +19,14 @@
  *
  * What is assumed of the stack: that it has room for the call. The deepest stack in bytes, read from
  * the object code by tools/stack, return address and libc's functions included, arguments not:
- *   puldeho_load               328
- *   puldeho_emission           440
- *   puldeho_withdrawal         376
+ *   puldeho_load               336
+ *   puldeho_emission           448
+ *   puldeho_withdrawal         384
  *   puldeho_zonal           25,552
- *   puldeho_meridional      93,872
+ *   puldeho_meridional      93,920
  *   puldeho_remap           17,648
- *   puldeho_total              408
- *   puldeho_cell               376
+ *   puldeho_total              416
+ *   puldeho_cell               384
  */
 #ifndef PULDEHO_H
 #define PULDEHO_H
@@ -39,7 +39,7 @@ extern "C" {
 #endif
 
 /* The deepest stack of all calls, in bytes. */
-#define PULDEHO_STACK 93872
+#define PULDEHO_STACK 93920
 
 /* The numbers of the refusals. */
 enum puldeho_refusal {
