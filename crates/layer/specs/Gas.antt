@@ -3,18 +3,18 @@
 use Prim.Native.Nat.{ℕ, suc, _+_, _*_, _-_, _≤_, _<_}
 use mathlib.Core.List.{List}
 use mathlib.Core.Bool.{Bool}
-use mathlib.Core.Path.{_≡_, refl, sym, ap, ap₂, _∙_}
+use mathlib.Core.Path.{_≡_, refl, sym, ap₂, _∙_}
 use native.Mathlib.Omega.{arith}
 use borrow.Author.Tests.{le-leb}
 use lib.ListN.{length}
 use Rattle.model.specs.Basic.{at}
-use Rattle.model.specs.Scheme.{Mismatch, plain, mismatch, highPiece, lowPiece}
+use Rattle.model.specs.Scheme.{plain, mismatch, highPiece, lowPiece}
 use Rattle.model.specs.Sweep.{southOf, northOf, layer, cellMismatch, pieces}
 use Rattle.model.specs.Laws.Scheme.{mismatch-equal}
 use Rattle.model.specs.Laws.Layer.{sides-inner, sides-north, south-cap, south-inner, north-inner, north-cap, layer-regular}
 use Rattle.model.specs.Laws.Substep.{mismatch-between, mismatch-south, mismatch-north, piece-up, piece-down}
 use Rattle.substep.specs.Faces.{flowOf}
-use Rattle.substep.specs.Pieces.{GasNeed, AreRatios, Neighbours, PieceNeed, mismatchIn, high-need, low-need}
+use Rattle.substep.specs.Pieces.{GasNeed, AreRatios, Neighbours, PieceNeed, high-need, low-need}
 use Rattle.layer.specs.Cells.{Size, Faces}
 
 -- ---- neighbours
@@ -74,18 +74,6 @@ pub record Gives (w rows : ℕ) (air gas q : List ℕ) (i c m : ℕ) : Type 0 wh
   pub face : i < w + rows * w
   pub ratios : AreRatios (layer w rows .cells) air gas q
   pub need : (a b : ℕ) → Neighbours (layer w rows) a c b → PieceNeed air gas q a c b m
-
-module _ {w rows : ℕ} {air gas q : List ℕ} {i c m : ℕ} (gives : Gives w rows air gas q i c m) {a b : ℕ} (near : Neighbours (layer w rows) a c b) where
-  own-mismatch : mismatchIn q a c b ≡ cellMismatch (layer w rows) air gas c
-  own-mismatch =
-      (λ k. mismatch (gives .ratios .is a (near .low) k) (gives .ratios .is c (near .own) k) (gives .ratios .is b (near .high) k)) ∙
-      sym (near .is air gas)
-
-  pub from-high : highPiece (mismatchIn q a c b) (at air c) (at gas c) m ≡ highPiece (cellMismatch (layer w rows) air gas c) (at air c) (at gas c) m
-  from-high = ap (λ (D : Mismatch). highPiece D (at air c) (at gas c) m) own-mismatch
-
-  pub from-low : lowPiece (mismatchIn q a c b) (at air c) (at gas c) m ≡ lowPiece (cellMismatch (layer w rows) air gas c) (at air c) (at gas c) m
-  from-low = ap (λ (D : Mismatch). lowPiece D (at air c) (at gas c) m) own-mismatch
 
 -- ---- a substep of one tracer, with room for its ratios and pieces
 pub record Step (w rows : ℕ) (air gas up down q high low : List ℕ) : Type 0 where

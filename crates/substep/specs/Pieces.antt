@@ -72,6 +72,21 @@ pub record PieceNeed (air gas q : List ℕ) (a c b m : ℕ) : Type 0 where
 abbrev pub mismatchIn : List ℕ → ℕ → ℕ → ℕ → Mismatch
 mismatchIn q a c b = mismatch (at q a) (at q c) (at q b)
 
+-- it is the cell's
+module _ {mesh : Mesh} {air gas q : List ℕ} (ratios : AreRatios (mesh .cells) air gas q) {a c b : ℕ} (near : Neighbours mesh a c b) where
+  mismatch-is : mismatchIn q a c b ≡ cellMismatch mesh air gas c
+  mismatch-is =
+      (λ i. mismatch (ratios .is a (near .low) i) (ratios .is c (near .own) i) (ratios .is b (near .high) i)) ∙
+      sym (near .is air gas)
+
+  -- and so is the piece of m units of air
+  module _ (m : ℕ) where
+    pub piece-high : highPiece (mismatchIn q a c b) (at air c) (at gas c) m ≡ highPiece (cellMismatch mesh air gas c) (at air c) (at gas c) m
+    piece-high = ap (λ (D : Mismatch). highPiece D (at air c) (at gas c) m) mismatch-is
+
+    pub piece-low : lowPiece (mismatchIn q a c b) (at air c) (at gas c) m ≡ lowPiece (cellMismatch mesh air gas c) (at air c) (at gas c) m
+    piece-low = ap (λ (D : Mismatch). lowPiece D (at air c) (at gas c) m) mismatch-is
+
 module _ {mesh : Mesh} {flow : Flow} {air gas : List ℕ} (regular : Regular mesh) (need : GasNeed mesh flow air gas) where
   covers : Covers mesh flow air
   covers = allowed-is mesh flow air (need .permits) .covers
@@ -93,11 +108,6 @@ module _ {mesh : Mesh} {flow : Flow} {air gas : List ℕ} (regular : Regular mes
           ratio = ratios .is c (near .own);
         }
 
-    mismatch-is : mismatchIn q a c b ≡ cellMismatch mesh air gas c
-    mismatch-is =
-        (λ i. mismatch (ratios .is a (near .low) i) (ratios .is c (near .own) i) (ratios .is b (near .high) i)) ∙
-        sym (near .is air gas)
-
     -- the cell on the low side of face f gives from its high end
     module _ (f : ℕ) (h : f < mesh .faces) where
       pub high-need : mesh .lowCell f ≡ c → PieceNeed air gas q a c b (flow .toHigh f)
@@ -107,7 +117,7 @@ module _ {mesh : Mesh} {flow : Flow} {air gas : List ℕ} (regular : Regular mes
 
       pub high-is : mesh .lowCell f ≡ c → highPiece (mismatchIn q a c b) (at air c) (at gas c) (flow .toHigh f) ≡ pieces mesh flow air gas .toHigh f
       high-is at-face =
-          ap (λ (D : Mismatch). highPiece D (at air c) (at gas c) (flow .toHigh f)) mismatch-is ∙
+          piece-high ratios near (flow .toHigh f) ∙
           sym (piece-up mesh flow air gas f c at-face)
 
       -- the cell on its high side from its low end
@@ -118,7 +128,7 @@ module _ {mesh : Mesh} {flow : Flow} {air gas : List ℕ} (regular : Regular mes
 
       pub low-is : mesh .highCell f ≡ c → lowPiece (mismatchIn q a c b) (at air c) (at gas c) (flow .toLow f) ≡ pieces mesh flow air gas .toLow f
       low-is at-face =
-          ap (λ (D : Mismatch). lowPiece D (at air c) (at gas c) (flow .toLow f)) mismatch-is ∙
+          piece-low ratios near (flow .toLow f) ∙
           sym (piece-down mesh flow air gas f c at-face)
 
   -- ---- the pieces, once all are taken

@@ -38,7 +38,9 @@ shared-slice-read-t18 : tie.Need-shared-slice-read-t18 Inv-loop μ-loop
 shared-slice-read-t18 c = search needs
 
 northward-requires : tie.Need-northward-requires Inv-loop μ-loop
-northward-requires c κs = gives-north (c .before .before .before .before .before .before .before .before .before .before .pre .0) (c .before .before .before .before .before .before .before .before .before .before .pre .1) (c .before .before .loop .i) (omega arith)
+northward-requires c κs =
+    let start = c .before .before .before .before .before .before .before .before .before .before in
+    gives-north (start .pre .0) (start .pre .1) (c .before .before .loop .i) (omega arith)
 
 mul-t16-2 : tie.Need-mul-t16-2 Inv-loop μ-loop
 mul-t16-2 c = search needs
@@ -47,7 +49,9 @@ shared-slice-read-t18-2 : tie.Need-shared-slice-read-t18-2 Inv-loop μ-loop
 shared-slice-read-t18-2 c = search needs
 
 southward-requires : tie.Need-southward-requires Inv-loop μ-loop
-southward-requires c κs = gives-south (c .before .before .before .before .before .before .before .before .before .before .before .before .pre .0) (c .before .before .before .before .before .before .before .before .before .before .before .before .pre .1) (c .before .before .before .before .loop .i) (omega arith)
+southward-requires c κs =
+    let start = c .before .before .before .before .before .before .before .before .before .before .before .before in
+    gives-south (start .pre .0) (start .pre .1) (c .before .before .before .before .loop .i) (omega arith)
 
 mul-high : tie.Need-mul-high Inv-loop μ-loop
 mul-high c = search needs

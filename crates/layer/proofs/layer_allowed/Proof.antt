@@ -47,7 +47,8 @@ rows-allow-requires c κs = search needs
 
 returns : tie.Need-returns
 returns c =
-    let a = c .before .before .before .before .before .before .before .before .before .before .before .before .args in
+    let start = c .before .before .before .before .before .before .before .before .before .before .before .before in
+    let a = start .args in
     let up = a .up .now in
     let down = a .down .now in
     let south = c .before .before .before .before .before .cell-allows .ensures ∙ cell-allows (south-cell (a .w) (a .rows) up down (c .before .before .before .before .before .before .before .cap-sum .ensures) (c .before .before .before .before .before .before .cap-sum2 .ensures)) (a .air .now) in

@@ -2,7 +2,8 @@
 -- Assumes nothing.
 use mathlib.Core.Path.{_∙_}
 use native.Mathlib.Omega.{arith}
-use Rattle.layer.specs.Gas.{south-cap-near, south-near, from-high}
+use Rattle.substep.specs.Pieces.{piece-high}
+use Rattle.layer.specs.Gas.{south-cap-near, south-near}
 use borrow.Author.Needs.{needs}
 use Rattle.layer.proofs.northward.Statement.{statement}
 use Rattle.layer.proofs.northward.Tie as tie
@@ -11,10 +12,16 @@ south-of-requires : tie.Need-south-of-requires
 south-of-requires c κs = search needs
 
 high-end-requires : tie.Need-high-end-requires
-high-end-requires c κs = rw (c .before .south-of .ensures) (c .before .before .before .before .before .pre .need _ _ (south-cap-near (c .before .before .before .before .before .args .w) (c .before .before .before .before .before .args .rows) (c .before .before .before .before .before .args .i) (omega arith)))
+high-end-requires c κs =
+    let start = c .before .before .before .before .before in
+    let a = start .args in
+    rw (c .before .south-of .ensures) (start .pre .need _ _ (south-cap-near (a .w) (a .rows) (a .i) (omega arith)))
 
 returns : tie.Need-returns
-returns c = rw (c .before .before .south-of .ensures) at (c .high-end .ensures) ∙ from-high (c .before .before .before .before .before .before .pre) (south-cap-near (c .before .before .before .before .before .before .args .w) (c .before .before .before .before .before .before .args .rows) (c .before .before .before .before .before .before .args .i) (omega arith))
+returns c =
+    let start = c .before .before .before .before .before .before in
+    let a = start .args in
+    rw (c .before .before .south-of .ensures) at (c .high-end .ensures) ∙ piece-high (start .pre .ratios) (south-cap-near (a .w) (a .rows) (a .i) (omega arith)) _
 
 south-of-requires-2 : tie.Need-south-of-requires-2
 south-of-requires-2 c κs = search needs
@@ -27,11 +34,15 @@ north-of-requires c κs = search needs
 
 high-end-requires-2 : tie.Need-high-end-requires-2
 high-end-requires-2 c κs =
-    rw (c .before .south-of2 .ensures, c .before .before .before .south-of .ensures, c .north-of .ensures) (c .before .before .before .before .before .before .before .pre .need _ _ (south-near (c .before .before .before .before .before .before .before .args .w) (c .before .before .before .before .before .before .before .args .rows) (c .before .before .before .before .before .before .before .args .i) (omega arith) (c .before .before .before .before .before .before .before .pre .face)))
+    let start = c .before .before .before .before .before .before .before in
+    let a = start .args in
+    rw (c .before .south-of2 .ensures, c .before .before .before .south-of .ensures, c .north-of .ensures) (start .pre .need _ _ (south-near (a .w) (a .rows) (a .i) (omega arith) (start .pre .face)))
 
 returns-2 : tie.Need-returns-2
 returns-2 c =
-    rw (c .before .before .south-of2 .ensures, c .before .before .before .before .south-of .ensures, c .before .north-of .ensures) at (c .high-end2 .ensures) ∙ from-high (c .before .before .before .before .before .before .before .before .pre) (south-near (c .before .before .before .before .before .before .before .before .args .w) (c .before .before .before .before .before .before .before .before .args .rows) (c .before .before .before .before .before .before .before .before .args .i) (omega arith) (c .before .before .before .before .before .before .before .before .pre .face))
+    let start = c .before .before .before .before .before .before .before .before in
+    let a = start .args in
+    rw (c .before .before .south-of2 .ensures, c .before .before .before .before .south-of .ensures, c .before .north-of .ensures) at (c .high-end2 .ensures) ∙ piece-high (start .pre .ratios) (south-near (a .w) (a .rows) (a .i) (omega arith) (start .pre .face)) _
 
 pub northward-spec : {M : Type 1} → statement M
 northward-spec =

@@ -37,9 +37,11 @@ slice-write-amounts c = search needs
 
 pass-rows-requires : tie.Need-pass-rows-requires
 pass-rows-requires c κs =
-    let fit = c .before .before .before .before .before .before .before .before .pre .0 in (
+    let start = c .before .before .before .before .before .before .before .before in
+    let a = start .args in
+    let fit = start .pre .0 in (
       record { size = fit .size; long = simp length-set (fit .long); faces = fit .faces },
-      begin (c .before .before .before .before .before .before .before .before .pre .1) (south-cell (c .before .before .before .before .before .before .before .before .args .w) (c .before .before .before .before .before .before .before .before .args .rows) (c .before .before .before .before .before .before .before .before .args .up .now) (c .before .before .before .before .before .before .before .before .args .down .now) (c .before .before .before .cap-sum .ensures) (c .before .before .cap-sum2 .ensures)) _ (c .before .amount-after .ensures),
+      begin (start .pre .1) (south-cell (a .w) (a .rows) (a .up .now) (a .down .now) (c .before .before .before .cap-sum .ensures) (c .before .before .cap-sum2 .ensures)) _ (c .before .amount-after .ensures),
     )
 
 mul-amount-after : tie.Need-mul-amount-after
@@ -47,7 +49,9 @@ mul-amount-after c = search needs
 
 slice-read-amount-after-2 : tie.Need-slice-read-amount-after-2
 slice-read-amount-after-2 c =
-    omega (arith, c .before .before .before .pass-rows .ensures (begin (c .before .before .before .before .before .before .before .before .before .before .before .before .pre .1) (south-cell (c .before .before .before .before .before .before .before .before .before .before .before .before .args .w) (c .before .before .before .before .before .before .before .before .before .before .before .before .args .rows) (c .before .before .before .before .before .before .before .before .before .before .before .before .args .up .now) (c .before .before .before .before .before .before .before .before .before .before .before .before .args .down .now) (c .before .before .before .before .before .before .before .cap-sum .ensures) (c .before .before .before .before .before .before .cap-sum2 .ensures)) _ (c .before .before .before .before .before .amount-after .ensures)) .long, c .before .before .before .before .before .before .before .before .before .before .before .before .pre .0 .long)
+    let start = c .before .before .before .before .before .before .before .before .before .before .before .before in
+    let a = start .args in
+    omega (arith, c .before .before .before .pass-rows .ensures (begin (start .pre .1) (south-cell (a .w) (a .rows) (a .up .now) (a .down .now) (c .before .before .before .before .before .before .before .cap-sum .ensures) (c .before .before .before .before .before .before .cap-sum2 .ensures)) _ (c .before .before .before .before .before .amount-after .ensures)) .long, start .pre .0 .long)
 
 cap-sum-requires-3 : tie.Need-cap-sum-requires-3
 cap-sum-requires-3 c κs = search needs
@@ -57,8 +61,11 @@ cap-sum-requires-4 c κs = search needs
 
 amount-after-requires-2 : tie.Need-amount-after-requires-2
 amount-after-requires-2 c κs =
-    let a = c .before .before .before .before .before .before .before .before .before .before .before .before .before .before .args in
-    let begun = begin (c .before .before .before .before .before .before .before .before .before .before .before .before .before .before .pre .1) (south-cell (c .before .before .before .before .before .before .before .before .before .before .before .before .before .before .args .w) (c .before .before .before .before .before .before .before .before .before .before .before .before .before .before .args .rows) (c .before .before .before .before .before .before .before .before .before .before .before .before .before .before .args .up .now) (c .before .before .before .before .before .before .before .before .before .before .before .before .before .before .args .down .now) (c .before .before .before .before .before .before .before .before .before .cap-sum .ensures) (c .before .before .before .before .before .before .before .before .cap-sum2 .ensures)) _ (c .before .before .before .before .before .before .before .amount-after .ensures) in
+    let start = c .before .before .before .before .before .before .before .before .before .before .before .before .before .before in
+    let cap-sum-call = c .before .before .before .before .before .before .before .before .before .cap-sum in
+    let cap-sum2-call = c .before .before .before .before .before .before .before .before .cap-sum2 in
+    let a = start .args in
+    let begun = begin (start .pre .1) (south-cell (start .args .w) (start .args .rows) (start .args .up .now) (start .args .down .now) (cap-sum-call .ensures) (cap-sum2-call .ensures)) _ (c .before .before .before .before .before .before .before .amount-after .ensures) in
     moved-exchange (begun .moves) (c .before .before .before .before .before .pass-rows .ensures begun) (north-cell (a .w) (a .rows) (a .up .now) (a .down .now) (c .before .cap-sum3 .ensures) (c .cap-sum4 .ensures))
 
 mul-amounts : tie.Need-mul-amounts
@@ -66,16 +73,30 @@ mul-amounts c = search needs
 
 slice-write-amounts-2 : tie.Need-slice-write-amounts-2
 slice-write-amounts-2 c =
-    omega (arith, c .before .before .before .before .before .before .pass-rows .ensures (begin (c .before .before .before .before .before .before .before .before .before .before .before .before .before .before .before .pre .1) (south-cell (c .before .before .before .before .before .before .before .before .before .before .before .before .before .before .before .args .w) (c .before .before .before .before .before .before .before .before .before .before .before .before .before .before .before .args .rows) (c .before .before .before .before .before .before .before .before .before .before .before .before .before .before .before .args .up .now) (c .before .before .before .before .before .before .before .before .before .before .before .before .before .before .before .args .down .now) (c .before .before .before .before .before .before .before .before .before .before .cap-sum .ensures) (c .before .before .before .before .before .before .before .before .before .cap-sum2 .ensures)) _ (c .before .before .before .before .before .before .before .before .amount-after .ensures)) .long, c .before .before .before .before .before .before .before .before .before .before .before .before .before .before .before .pre .0 .long)
+    let start = c .before .before .before .before .before .before .before .before .before .before .before .before .before .before .before in
+    let cap-sum-call = c .before .before .before .before .before .before .before .before .before .before .cap-sum in
+    let cap-sum2-call = c .before .before .before .before .before .before .before .before .before .cap-sum2 in
+    let amount-after-call = c .before .before .before .before .before .before .before .before .amount-after in
+    let a = start .args in
+    omega (arith, c .before .before .before .before .before .before .pass-rows .ensures (begin (start .pre .1) (south-cell (a .w) (a .rows) (a .up .now) (a .down .now) (cap-sum-call .ensures) (cap-sum2-call .ensures)) _ (amount-after-call .ensures)) .long, start .pre .0 .long)
 
 same-length : tie.Need-same-length
 same-length c =
-    simp length-set (c .before .before .before .before .before .before .pass-rows .ensures (begin (c .before .before .before .before .before .before .before .before .before .before .before .before .before .before .before .pre .1) (south-cell (c .before .before .before .before .before .before .before .before .before .before .before .before .before .before .before .args .w) (c .before .before .before .before .before .before .before .before .before .before .before .before .before .before .before .args .rows) (c .before .before .before .before .before .before .before .before .before .before .before .before .before .before .before .args .up .now) (c .before .before .before .before .before .before .before .before .before .before .before .before .before .before .before .args .down .now) (c .before .before .before .before .before .before .before .before .before .before .cap-sum .ensures) (c .before .before .before .before .before .before .before .before .before .cap-sum2 .ensures)) _ (c .before .before .before .before .before .before .before .before .amount-after .ensures)) .long)
+    let start = c .before .before .before .before .before .before .before .before .before .before .before .before .before .before .before in
+    let cap-sum-call = c .before .before .before .before .before .before .before .before .before .before .cap-sum in
+    let cap-sum2-call = c .before .before .before .before .before .before .before .before .before .cap-sum2 in
+    let amount-after-call = c .before .before .before .before .before .before .before .before .amount-after in
+    let a = start .args in
+    simp length-set (c .before .before .before .before .before .before .pass-rows .ensures (begin (start .pre .1) (south-cell (a .w) (a .rows) (a .up .now) (a .down .now) (cap-sum-call .ensures) (cap-sum2-call .ensures)) _ (amount-after-call .ensures)) .long)
 
 returns : tie.Need-returns
 returns c =
-    let a = c .before .before .before .before .before .before .before .before .before .before .before .before .before .before .before .args in
-    let begun = begin (c .before .before .before .before .before .before .before .before .before .before .before .before .before .before .before .pre .1) (south-cell (c .before .before .before .before .before .before .before .before .before .before .before .before .before .before .before .args .w) (c .before .before .before .before .before .before .before .before .before .before .before .before .before .before .before .args .rows) (c .before .before .before .before .before .before .before .before .before .before .before .before .before .before .before .args .up .now) (c .before .before .before .before .before .before .before .before .before .before .before .before .before .before .before .args .down .now) (c .before .before .before .before .before .before .before .before .before .before .cap-sum .ensures) (c .before .before .before .before .before .before .before .before .before .cap-sum2 .ensures)) _ (c .before .before .before .before .before .before .before .before .amount-after .ensures) in
+    let start = c .before .before .before .before .before .before .before .before .before .before .before .before .before .before .before in
+    let cap-sum-call = c .before .before .before .before .before .before .before .before .before .before .cap-sum in
+    let cap-sum2-call = c .before .before .before .before .before .before .before .before .before .cap-sum2 in
+    let amount-after-call = c .before .before .before .before .before .before .before .before .amount-after in
+    let a = start .args in
+    let begun = begin (start .pre .1) (south-cell (start .args .w) (start .args .rows) (start .args .up .now) (start .args .down .now) (cap-sum-call .ensures) (cap-sum2-call .ensures)) _ (amount-after-call .ensures) in
     let north = north-cell (a .w) (a .rows) (a .up .now) (a .down .now) (c .before .before .cap-sum3 .ensures) (c .before .cap-sum4 .ensures) in
     let all : 1 + a .rows * a .w + 1 ≡ layer (a .w) (a .rows) .cells = omega (arith, layer-cells (a .w) (a .rows)) in
     all-moved (begun .moves) (rw all at (moved-more (begun .moves) (c .before .before .before .before .before .before .pass-rows .ensures begun) north _ (c .amount-after2 .ensures)))

@@ -2,7 +2,8 @@
 -- Assumes nothing.
 use mathlib.Core.Path.{_∙_}
 use native.Mathlib.Omega.{arith}
-use Rattle.layer.specs.Gas.{north-cap-near, north-near, from-low}
+use Rattle.substep.specs.Pieces.{piece-low}
+use Rattle.layer.specs.Gas.{north-cap-near, north-near}
 use borrow.Author.Needs.{needs}
 use Rattle.layer.proofs.southward.Statement.{statement}
 use Rattle.layer.proofs.southward.Tie as tie
@@ -14,10 +15,16 @@ north-of-requires : tie.Need-north-of-requires
 north-of-requires c κs = search needs
 
 low-end-requires : tie.Need-low-end-requires
-low-end-requires c κs = rw (c .before .north-of .ensures) (c .before .before .before .before .before .pre .need _ _ (north-cap-near (c .before .before .before .before .before .args .w) (c .before .before .before .before .before .args .rows) (c .before .before .before .before .before .args .i) (omega arith)))
+low-end-requires c κs =
+    let start = c .before .before .before .before .before in
+    let a = start .args in
+    rw (c .before .north-of .ensures) (start .pre .need _ _ (north-cap-near (a .w) (a .rows) (a .i) (omega arith)))
 
 returns : tie.Need-returns
-returns c = rw (c .before .before .north-of .ensures) at (c .low-end .ensures) ∙ from-low (c .before .before .before .before .before .before .pre) (north-cap-near (c .before .before .before .before .before .before .args .w) (c .before .before .before .before .before .before .args .rows) (c .before .before .before .before .before .before .args .i) (omega arith))
+returns c =
+    let start = c .before .before .before .before .before .before in
+    let a = start .args in
+    rw (c .before .before .north-of .ensures) at (c .low-end .ensures) ∙ piece-low (start .pre .ratios) (north-cap-near (a .w) (a .rows) (a .i) (omega arith)) _
 
 south-of-requires : tie.Need-south-of-requires
 south-of-requires c κs = search needs
@@ -30,11 +37,15 @@ north-of-requires-2 c κs = search needs
 
 low-end-requires-2 : tie.Need-low-end-requires-2
 low-end-requires-2 c κs =
-    rw (c .before .south-of .ensures, c .before .before .before .north-of .ensures, c .north-of2 .ensures) (c .before .before .before .before .before .before .before .pre .need _ _ (north-near (c .before .before .before .before .before .before .before .args .w) (c .before .before .before .before .before .before .before .args .rows) (c .before .before .before .before .before .before .before .args .i) (omega arith)))
+    let start = c .before .before .before .before .before .before .before in
+    let a = start .args in
+    rw (c .before .south-of .ensures, c .before .before .before .north-of .ensures, c .north-of2 .ensures) (start .pre .need _ _ (north-near (a .w) (a .rows) (a .i) (omega arith)))
 
 returns-2 : tie.Need-returns-2
 returns-2 c =
-    rw (c .before .before .south-of .ensures, c .before .before .before .before .north-of .ensures, c .before .north-of2 .ensures) at (c .low-end2 .ensures) ∙ from-low (c .before .before .before .before .before .before .before .before .pre) (north-near (c .before .before .before .before .before .before .before .before .args .w) (c .before .before .before .before .before .before .before .before .args .rows) (c .before .before .before .before .before .before .before .before .args .i) (omega arith))
+    let start = c .before .before .before .before .before .before .before .before in
+    let a = start .args in
+    rw (c .before .before .south-of .ensures, c .before .before .before .before .north-of .ensures, c .before .north-of2 .ensures) at (c .low-end2 .ensures) ∙ piece-low (start .pre .ratios) (north-near (a .w) (a .rows) (a .i) (omega arith)) _
 
 pub southward-spec : {M : Type 1} → statement M
 southward-spec =

@@ -38,9 +38,11 @@ part-layer-allowed-start c = search needs
 
 part-layer-allowed-end : tie.Need-part-layer-allowed-end
 part-layer-allowed-end c =
-    let args = c .before .before .before .before .before .before .before .before .before .before .before .args in
-    let wide = c .before .before .before .before .before .before .before .layer-cells .ensures .0 in
-    let inside : args .first + c .before .before .before .before .before .before .before .layer-cells .result ≤ length (args .air .now) = omega (arith, wide, c .before .before .before .before .before .before .before .before .before .before .before .pre .inside) in
+    let start = c .before .before .before .before .before .before .before .before .before .before .before in
+    let layer-cells-call = c .before .before .before .before .before .before .before .layer-cells in
+    let args = start .args in
+    let wide = layer-cells-call .ensures .0 in
+    let inside : args .first + layer-cells-call .result ≤ length (args .air .now) = omega (arith, wide, start .pre .inside) in
     inside
 
 cast-layer-allowed : tie.Need-cast-layer-allowed
@@ -51,10 +53,12 @@ cast-layer-allowed-2 c = search needs
 
 layer-allowed-requires : tie.Need-layer-allowed-requires
 layer-allowed-requires c κs =
-    let args = c .before .before .before .before .before .before .before .before .before .before .before .before .before .before .before .before .args in
-    let wide = c .before .before .before .before .before .before .before .before .before .before .before .before .layer-cells .ensures .0 in
-    let inside : args .first + c .before .before .before .before .before .before .before .before .before .before .before .before .layer-cells .result ≤ length (args .air .now) = omega (arith, wide, c .before .before .before .before .before .before .before .before .before .before .before .before .before .before .before .before .pre .inside) in
-    part-fit (args .g) (c .before .before .before .before .before .before .before .before .before .before .before .before .before .before .before .before .pre .range) (record { high = omega (arith, c .before .before .before .before .before .before .before .before .before .before .before .before .before .before .before .before .pre .rooms); low = omega (arith, c .before .before .before .before .before .before .before .before .before .before .before .before .before .before .before .before .pre .rooms) }) (args .air .now) _ _ wide inside
+    let start = c .before .before .before .before .before .before .before .before .before .before .before .before .before .before .before .before in
+    let layer-cells-call = c .before .before .before .before .before .before .before .before .before .before .before .before .layer-cells in
+    let args = start .args in
+    let wide = layer-cells-call .ensures .0 in
+    let inside : args .first + layer-cells-call .result ≤ length (args .air .now) = omega (arith, wide, start .pre .inside) in
+    part-fit (args .g) (start .pre .range) (record { high = omega (arith, start .pre .rooms); low = omega (arith, start .pre .rooms) }) (args .air .now) _ _ wide inside
 
 same-length : tie.Need-same-length
 same-length c = search needs
@@ -64,10 +68,13 @@ same-length-2 c = search needs
 
 returns : tie.Need-returns
 returns c =
-    let args = c .before .before .before .before .before .before .before .before .before .before .before .before .before .before .before .before .before .args in
+    let start = c .before .before .before .before .before .before .before .before .before .before .before .before .before .before .before .before .before in
+    let layer-cells-call = c .before .before .before .before .before .before .before .before .before .before .before .before .before .layer-cells in
+    let fill-parts-call = c .before .before .before .before .before .before .before .before .before .before .fill-parts in
+    let args = start .args in
     record {
-      passes = c .before .before .before .before .before .before .before .before .before .before .fill-parts .ensures;
-      serving = tested-serves (args .g) (args .air .now) (args .first) _ (args .fluxes .now) _ (c .before .before .before .before .before .before .before .before .before .before .before .before .before .layer-cells .ensures .0) (c .before .before .before .before .before .before .before .before .before .before .before .before .before .before .before .before .before .pre .long) (c .before .before .before .before .before .before .before .before .before .before .fill-parts .ensures) (c .layer-allowed .ensures);
+      passes = fill-parts-call .ensures;
+      serving = tested-serves (args .g) (args .air .now) (args .first) _ (args .fluxes .now) _ (layer-cells-call .ensures .0) (start .pre .long) (fill-parts-call .ensures) (c .layer-allowed .ensures);
     }
 
 pub layer-permits-spec : {M : Type 1} → statement M

@@ -70,15 +70,21 @@ slice-aggregate-sweep-tracers-2 c = search needs
 
 sweep-tracers-requires : tie.Need-sweep-tracers-requires
 sweep-tracers-requires c κs =
-    let args = c .before .before .before .before .before .before .before .before .before .before .before .before .before .before .before .before .before .args in
-    let found = c .before .before .before .before .before .before .before .before .before .before .layer-place .ensures .found (sym (c .before .before .before .before .before .before .before .number .ensures) ∙ c .before .before .before .before .before .before .if1 .taken) in
+    let start = c .before .before .before .before .before .before .before .before .before .before .before .before .before .before .before .before .before in
+    let layer-place-call = c .before .before .before .before .before .before .before .before .before .before .layer-place in
+    let args = start .args in
+    let found = layer-place-call .ensures .found (sym (c .before .before .before .before .before .before .before .number .ensures) ∙ c .before .before .before .before .before .before .if1 .taken) in
     (record { high = search needs; low = search needs }, tracers-need (args .g) (args .air .now) (args .tracers .now) (args .layer) (args .fluxes .now) _ _ _ found _ (c .before .before .before .before .before .layer-cells .ensures .0))
 
 mul-pass-layer : tie.Need-mul-pass-layer
 mul-pass-layer c =
-    let args = c .before .before .before .before .before .before .before .before .before .before .before .before .before .before .before .before .before .before .before .before .args in
-    let found = c .before .before .before .before .before .before .before .before .before .before .before .before .before .layer-place .ensures .found (sym (c .before .before .before .before .before .before .before .before .before .before .number .ensures) ∙ c .before .before .before .before .before .before .before .before .before .if1 .taken) in
-    omega (arith, layer-near (args .g) (args .air .now) (args .tracers .now) (args .layer) (args .fluxes .now) _ _ _ found _ (c .before .before .before .before .before .before .before .before .layer-cells .ensures .0))
+    let start = c .before .before .before .before .before .before .before .before .before .before .before .before .before .before .before .before .before .before .before .before in
+    let layer-place-call = c .before .before .before .before .before .before .before .before .before .before .before .before .before .layer-place in
+    let number-call = c .before .before .before .before .before .before .before .before .before .before .number in
+    let layer-cells-call = c .before .before .before .before .before .before .before .before .layer-cells in
+    let args = start .args in
+    let found = layer-place-call .ensures .found (sym (number-call .ensures) ∙ c .before .before .before .before .before .before .before .before .before .if1 .taken) in
+    omega (arith, layer-near (args .g) (args .air .now) (args .tracers .now) (args .layer) (args .fluxes .now) _ _ _ found _ (layer-cells-call .ensures .0))
 
 sub-pass-layer : tie.Need-sub-pass-layer
 sub-pass-layer c = search needs
@@ -88,9 +94,13 @@ part-pass-layer-start c = search needs
 
 part-pass-layer-end : tie.Need-part-pass-layer-end
 part-pass-layer-end c =
-    let args = c .before .before .before .before .before .before .before .before .before .before .before .before .before .before .before .before .before .before .before .before .args in
-    let found = c .before .before .before .before .before .before .before .before .before .before .before .before .before .layer-place .ensures .found (sym (c .before .before .before .before .before .before .before .before .before .before .number .ensures) ∙ c .before .before .before .before .before .before .before .before .before .if1 .taken) in
-    layer-in-air (args .g) (args .air .now) (args .tracers .now) (args .layer) (args .fluxes .now) _ _ _ found _ (c .before .before .before .before .before .before .before .before .layer-cells .ensures .0)
+    let start = c .before .before .before .before .before .before .before .before .before .before .before .before .before .before .before .before .before .before .before .before in
+    let layer-place-call = c .before .before .before .before .before .before .before .before .before .before .before .before .before .layer-place in
+    let number-call = c .before .before .before .before .before .before .before .before .before .before .number in
+    let layer-cells-call = c .before .before .before .before .before .before .before .before .layer-cells in
+    let args = start .args in
+    let found = layer-place-call .ensures .found (sym (number-call .ensures) ∙ c .before .before .before .before .before .before .before .before .before .if1 .taken) in
+    layer-in-air (args .g) (args .air .now) (args .tracers .now) (args .layer) (args .fluxes .now) _ _ _ found _ (layer-cells-call .ensures .0)
 
 slice-aggregate-pass-layer : tie.Need-slice-aggregate-pass-layer
 slice-aggregate-pass-layer c = search needs
@@ -106,9 +116,13 @@ cast-pass-layer-2 c = search needs
 
 pass-layer-requires : tie.Need-pass-layer-requires
 pass-layer-requires c κs =
-    let args = c .before .before .before .before .before .before .before .before .before .before .before .before .before .before .before .before .before .before .before .before .before .before .before .before .before .args in
-    let found = c .before .before .before .before .before .before .before .before .before .before .before .before .before .before .before .before .before .before .layer-place .ensures .found (sym (c .before .before .before .before .before .before .before .before .before .before .before .before .before .before .before .number .ensures) ∙ c .before .before .before .before .before .before .before .before .before .before .before .before .before .before .if1 .taken) in
-    air-need (args .g) (args .air .now) (args .tracers .now) (args .layer) (args .fluxes .now) _ _ _ found _ (c .before .before .before .before .before .before .before .before .before .before .before .before .before .layer-cells .ensures .0) (record { high = search needs; low = search needs })
+    let start = c .before .before .before .before .before .before .before .before .before .before .before .before .before .before .before .before .before .before .before .before .before .before .before .before .before in
+    let layer-place-call = c .before .before .before .before .before .before .before .before .before .before .before .before .before .before .before .before .before .before .layer-place in
+    let number-call = c .before .before .before .before .before .before .before .before .before .before .before .before .before .before .before .number in
+    let layer-cells-call = c .before .before .before .before .before .before .before .before .before .before .before .before .before .layer-cells in
+    let args = start .args in
+    let found = layer-place-call .ensures .found (sym (number-call .ensures) ∙ c .before .before .before .before .before .before .before .before .before .before .before .before .before .before .if1 .taken) in
+    air-need (args .g) (args .air .now) (args .tracers .now) (args .layer) (args .fluxes .now) _ _ _ found _ (layer-cells-call .ensures .0) (record { high = search needs; low = search needs })
 
 same-length-3 : tie.Need-same-length-3
 same-length-3 c = search needs
@@ -118,10 +132,15 @@ same-length-4 c = search needs
 
 returns-2 : tie.Need-returns-2
 returns-2 c =
-    let args = c .before .before .before .before .before .before .before .before .before .before .before .before .before .before .before .before .before .before .before .before .before .before .before .before .before .before .before .before .args in
-    let found = c .before .before .before .before .before .before .before .before .before .before .before .before .before .before .before .before .before .before .before .before .before .layer-place .ensures .found (sym (c .before .before .before .before .before .before .before .before .before .before .before .before .before .before .before .before .before .before .number .ensures) ∙ c .before .before .before .before .before .before .before .before .before .before .before .before .before .before .before .before .before .if1 .taken) in
-    rw (c .before .before .before .before .before .before .before .before .before .before .sweep-tracers .ensures)
-    (meridional-agrees (args .g) (args .air .now) (args .tracers .now) (args .layer) (args .fluxes .now) _ _ _ found _ (c .before .before .before .before .before .before .before .before .before .before .before .before .before .before .before .before .layer-cells .ensures .0) _ _ refl refl (c .before .before .pass-layer .ensures))
+    let start = c .before .before .before .before .before .before .before .before .before .before .before .before .before .before .before .before .before .before .before .before .before .before .before .before .before .before .before .before in
+    let layer-place-call = c .before .before .before .before .before .before .before .before .before .before .before .before .before .before .before .before .before .before .before .before .before .layer-place in
+    let number-call = c .before .before .before .before .before .before .before .before .before .before .before .before .before .before .before .before .before .before .number in
+    let layer-cells-call = c .before .before .before .before .before .before .before .before .before .before .before .before .before .before .before .before .layer-cells in
+    let sweep-tracers-call = c .before .before .before .before .before .before .before .before .before .before .sweep-tracers in
+    let args = start .args in
+    let found = layer-place-call .ensures .found (sym (number-call .ensures) ∙ c .before .before .before .before .before .before .before .before .before .before .before .before .before .before .before .before .before .if1 .taken) in
+    rw (sweep-tracers-call .ensures)
+    (meridional-agrees (args .g) (args .air .now) (args .tracers .now) (args .layer) (args .fluxes .now) _ _ _ found _ (layer-cells-call .ensures .0) _ _ refl refl (c .before .before .pass-layer .ensures))
 
 pub meridional-spec : {M : Type 1} → statement M
 meridional-spec =

@@ -43,29 +43,33 @@ loop-holds c =
 
 mul-a : tie.Need-mul-a Inv-loop μ-loop
 mul-a c =
-    let args = c .before .before .before .before .before .before .before .before .before .args in
-    let need = c .before .before .before .before .before .before .before .before .before .pre .1 in
+    let start = c .before .before .before .before .before .before .before .before .before in
+    let args = start .args in
+    let need = start .pre .1 in
     let near = layer-near (args .g) (args .tracers .now) (args .air .now) (flowOf (args .up .now) (args .down .now)) (args .first) need (c .before .loop .t) (search needs) _ _ (c .before .before .world-cells .ensures .0) (c .before .before .before .layer-cells .ensures .0) in
     omega arith
 
 add-a : tie.Need-add-a Inv-loop μ-loop
 add-a c =
-    let args = c .before .before .before .before .before .before .before .before .before .args in
-    let need = c .before .before .before .before .before .before .before .before .before .pre .1 in
+    let start = c .before .before .before .before .before .before .before .before .before in
+    let args = start .args in
+    let need = start .pre .1 in
     let near = layer-near (args .g) (args .tracers .now) (args .air .now) (flowOf (args .up .now) (args .down .now)) (args .first) need (c .before .loop .t) (search needs) _ _ (c .before .before .world-cells .ensures .0) (c .before .before .before .layer-cells .ensures .0) in
     omega arith
 
 add-e : tie.Need-add-e Inv-loop μ-loop
 add-e c =
-    let args = c .before .before .before .before .before .before .before .before .before .args in
-    let need = c .before .before .before .before .before .before .before .before .before .pre .1 in
+    let start = c .before .before .before .before .before .before .before .before .before in
+    let args = start .args in
+    let need = start .pre .1 in
     let near = layer-near (args .g) (args .tracers .now) (args .air .now) (flowOf (args .up .now) (args .down .now)) (args .first) need (c .before .loop .t) (search needs) _ _ (c .before .before .world-cells .ensures .0) (c .before .before .before .layer-cells .ensures .0) in
     omega arith
 
 mul-step-layer-gas : tie.Need-mul-step-layer-gas Inv-loop μ-loop
 mul-step-layer-gas c =
-    let args = c .before .before .before .before .before .before .before .before .before .args in
-    let need = c .before .before .before .before .before .before .before .before .before .pre .1 in
+    let start = c .before .before .before .before .before .before .before .before .before in
+    let args = start .args in
+    let need = start .pre .1 in
     let near = layer-near (args .g) (args .tracers .now) (args .air .now) (flowOf (args .up .now) (args .down .now)) (args .first) need (c .before .loop .t) (search needs) _ _ (c .before .before .world-cells .ensures .0) (c .before .before .before .layer-cells .ensures .0) in
     omega arith
 
@@ -77,8 +81,9 @@ part-step-layer-gas-start c = search needs
 
 part-step-layer-gas-end : tie.Need-part-step-layer-gas-end Inv-loop μ-loop
 part-step-layer-gas-end c =
-    let args = c .before .before .before .before .before .before .before .before .before .args in
-    let need = c .before .before .before .before .before .before .before .before .before .pre .1 in
+    let start = c .before .before .before .before .before .before .before .before .before in
+    let args = start .args in
+    let need = start .pre .1 in
     lent-inside (args .g) (args .tracers .now) (args .air .now) (flowOf (args .up .now) (args .down .now)) (args .first) need (c .before .loop .t) (search needs) _ (c .before .loop .inv .1) _ _ (c .before .before .world-cells .ensures .0) (c .before .before .before .layer-cells .ensures .0)
 
 cast-step-layer-gas : tie.Need-cast-step-layer-gas Inv-loop μ-loop
@@ -98,9 +103,13 @@ slice-aggregate-step-layer-gas-3 c = search needs
 
 step-layer-gas-requires : tie.Need-step-layer-gas-requires Inv-loop μ-loop
 step-layer-gas-requires c κs =
-    let args = c .before .before .before .before .before .before .before .before .before .before .before .before .before .before .before .args in
-    let need = c .before .before .before .before .before .before .before .before .before .before .before .before .before .before .before .pre .1 in
-    step-need (args .g) (need .range) (c .before .before .before .before .before .before .before .before .before .before .before .before .before .before .before .pre .0) (c .before .before .before .before .before .before .before .loop .inv .2) (c .before .before .before .before .before .before .before .loop .inv .3) (c .before .before .before .before .before .before .before .loop .inv .4) (lent-need (args .g) (args .tracers .now) (args .air .now) (flowOf (args .up .now) (args .down .now)) (args .first) need (c .before .before .before .before .before .before .before .loop .t) (search needs) _ (c .before .before .before .before .before .before .before .loop .inv .1) _ _ (c .before .before .before .before .before .before .before .before .world-cells .ensures .0) (c .before .before .before .before .before .before .before .before .before .layer-cells .ensures .0))
+    let start = c .before .before .before .before .before .before .before .before .before .before .before .before .before .before .before in
+    let layer-cells-call = c .before .before .before .before .before .before .before .before .before .layer-cells in
+    let world-cells-call = c .before .before .before .before .before .before .before .before .world-cells in
+    let l = c .before .before .before .before .before .before .before .loop in
+    let args = start .args in
+    let need = start .pre .1 in
+    step-need (args .g) (need .range) (start .pre .0) (l .inv .2) (l .inv .3) (l .inv .4) (lent-need (args .g) (args .tracers .now) (args .air .now) (flowOf (args .up .now) (args .down .now)) (args .first) need (l .t) (search needs) _ (l .inv .1) _ _ (world-cells-call .ensures .0) (layer-cells-call .ensures .0))
 
 add-t : tie.Need-add-t Inv-loop μ-loop
 add-t c = search needs
@@ -110,14 +119,19 @@ loop-less c = search needs
 
 loop-again : tie.Need-loop-again Inv-loop μ-loop
 loop-again c =
-    let args = c .before .before .before .before .before .before .before .before .before .before .before .before .before .before .before .before .before .before .before .before .before .args in
-    let need = c .before .before .before .before .before .before .before .before .before .before .before .before .before .before .before .before .before .before .before .before .before .pre .1 in
-    (search needs, swept-more (args .g) (args .tracers .now) (args .air .now) (flowOf (args .up .now) (args .down .now)) (args .first) need (c .before .before .before .before .before .before .before .before .before .before .before .before .before .loop .t) (search needs) _ (c .before .before .before .before .before .before .before .before .before .before .before .before .before .loop .inv .1) _ _ (c .before .before .before .before .before .before .before .before .before .before .before .before .before .before .world-cells .ensures .0) (c .before .before .before .before .before .before .before .before .before .before .before .before .before .before .before .layer-cells .ensures .0) _ (c .before .before .before .before .before .step-layer-gas .ensures), search needs, search needs, search needs)
+    let start = c .before .before .before .before .before .before .before .before .before .before .before .before .before .before .before .before .before .before .before .before .before in
+    let layer-cells-call = c .before .before .before .before .before .before .before .before .before .before .before .before .before .before .before .layer-cells in
+    let world-cells-call = c .before .before .before .before .before .before .before .before .before .before .before .before .before .before .world-cells in
+    let l = c .before .before .before .before .before .before .before .before .before .before .before .before .before .loop in
+    let args = start .args in
+    let need = start .pre .1 in
+    (search needs, swept-more (args .g) (args .tracers .now) (args .air .now) (flowOf (args .up .now) (args .down .now)) (args .first) need (l .t) (search needs) _ (l .inv .1) _ _ (world-cells-call .ensures .0) (layer-cells-call .ensures .0) _ (c .before .before .before .before .before .step-layer-gas .ensures), search needs, search needs, search needs)
 
 same-length : tie.Need-same-length Inv-loop μ-loop
 same-length c =
-    let args = c .before .before .before .before .before .before .before .before .before .args in
-    ap length (c .before .loop .inv .1) ∙ length-up-to (args .g) (args .tracers .now) (args .air .now) (flowOf (args .up .now) (args .down .now)) (args .first) (c .before .before .before .before .before .before .before .before .before .pre .1) (c .before .loop .t) (search needs)
+    let start = c .before .before .before .before .before .before .before .before .before in
+    let args = start .args in
+    ap length (c .before .loop .inv .1) ∙ length-up-to (args .g) (args .tracers .now) (args .air .now) (flowOf (args .up .now) (args .down .now)) (args .first) (start .pre .1) (c .before .loop .t) (search needs)
 
 returns : tie.Need-returns Inv-loop μ-loop
 returns c =

@@ -40,9 +40,11 @@ edges-serve-requires c κs = (c .before .before .before .before .before .before 
 
 returns : tie.Need-returns Inv-loop μ-loop
 returns c =
-    let start = c .before .before .before .before .before .before .before .before .before .before .before .before in
+    let before-call = c .before .before .before .before .before .before .before .before .before .before .before .before in
+    let l = c .before .before .before .before .before .before .before .before .before .loop in
+    let start = before-call in
     let lent = start .args in
-    not-served (lent .air .now) (lent .table .now) (lent .cells) (lent .k) (start .pre) (c .before .before .before .before .before .before .before .before .before .loop .c) (omega arith) _ _ (c .before .before .before .before .before .load-column .ensures) _ (c .before .edges-serve .ensures) (c .if1 .left)
+    not-served (lent .air .now) (lent .table .now) (lent .cells) (lent .k) (start .pre) (l .c) (omega arith) _ _ (c .before .before .before .before .before .load-column .ensures) _ (c .before .edges-serve .ensures) (c .if1 .left)
 
 slice-aggregate-pairs : tie.Need-slice-aggregate-pairs Inv-loop μ-loop
 slice-aggregate-pairs c = search needs
@@ -52,9 +54,11 @@ slice-aggregate-pairs-2 c = search needs
 
 pairs-requires : tie.Need-pairs-requires Inv-loop μ-loop
 pairs-requires c κs =
-    let start = c .before .before .before .before .before .before .before .before .before .before .before .before .before .before in
+    let before-call = c .before .before .before .before .before .before .before .before .before .before .before .before .before .before in
+    let l = c .before .before .before .before .before .before .before .before .before .before .before .loop in
+    let start = before-call in
     let lent = start .args in
-    spans-here (lent .air .now) (lent .table .now) (lent .cells) (lent .k) (start .pre) (c .before .before .before .before .before .before .before .before .before .before .before .loop .c) (omega arith) _ _ (c .before .before .before .before .before .before .before .load-column .ensures) _ (c .before .before .before .edges-serve .ensures) (c .before .before .if1 .taken)
+    spans-here (lent .air .now) (lent .table .now) (lent .cells) (lent .k) (start .pre) (l .c) (omega arith) _ _ (c .before .before .before .before .before .before .before .load-column .ensures) _ (c .before .before .before .edges-serve .ensures) (c .before .before .if1 .taken)
 
 add-count : tie.Need-add-count Inv-loop μ-loop
 add-count c =
@@ -70,10 +74,13 @@ loop-less c = search needs
 
 loop-again : tie.Need-loop-again Inv-loop μ-loop
 loop-again c =
-    let start = c .before .before .before .before .before .before .before .before .before .before .before .before .before .before .before in
-    let l = c .before .before .before .before .before .before .before .before .before .before .before .before .loop in
+    let before-call = c .before .before .before .before .before .before .before .before .before .before .before .before .before .before .before in
+    let l-call = c .before .before .before .before .before .before .before .before .before .before .before .before .loop in
+    let load-column-call = c .before .before .before .before .before .before .before .before .load-column in
+    let start = before-call in
+    let l = l-call in
     let lent = start .args in (
-      one-more (lent .air .now) (lent .table .now) (lent .cells) (lent .k) (start .pre) (l .c) (omega arith) _ _ (c .before .before .before .before .before .before .before .before .load-column .ensures) _ (c .before .before .before .before .edges-serve .ensures) (c .before .before .before .if1 .taken) _ _ (l .inv .0) (c .pairs .ensures),
+      one-more (lent .air .now) (lent .table .now) (lent .cells) (lent .k) (start .pre) (l .c) (omega arith) _ _ (load-column-call .ensures) _ (c .before .before .before .before .edges-serve .ensures) (c .before .before .before .if1 .taken) _ _ (l .inv .0) (c .pairs .ensures),
       search needs,
       search needs,
     )

@@ -22,7 +22,9 @@ same-length-2 c = search needs
 
 returns : tie.Need-returns
 returns c =
-    column-is (c .before .before .before .before .before .before .before .before .before .before .before .before .before .before .pre .0) _ (c .before .before .before .before .before .before .before .before .load .ensures) (search needs) (search needs) (c .before .before .before .before .air-sum .ensures) (c .before .before .fill-edges .ensures)
+    let start = c .before .before .before .before .before .before .before .before .before .before .before .before .before .before in
+    let load-call = c .before .before .before .before .before .before .before .before .load in
+    column-is (start .pre .0) _ (load-call .ensures) (search needs) (search needs) (c .before .before .before .before .air-sum .ensures) (c .before .before .fill-edges .ensures)
 
 pub load-column-spec : {M : Type 1} → statement M
 load-column-spec =

@@ -78,41 +78,55 @@ slice-aggregate-remap-gas-5 c = search needs
 
 remap-gas-requires : tie.Need-remap-gas-requires Inv-loop μ-loop
 remap-gas-requires c κs =
-    let start = c .before .before .before .before .before .before .before .before .before .before .before .before .before .before .before .before .before .before .before .before in
+    let before-call = c .before .before .before .before .before .before .before .before .before .before .before .before .before .before .before .before .before .before .before .before in
+    let l-call = c .before .before .before .before .before .before .before .before .before .before .before .before .before .before .before .before .loop in
+    let load-column-call = c .before .before .before .before .before .before .before .before .before .before .before .before .load-column in
+    let load-call = c .before .before .before .before .before .before .before .load in
+    let start = before-call in
     let fit = start .pre .moves .columns .fit in
     let lent = start .args in
-    let l = c .before .before .before .before .before .before .before .before .before .before .before .before .before .before .before .before .loop in
-    gas-need (lent .gas .now) (lent .air .now) (lent .table .now) (lent .cells) (lent .k) (start .pre) (l .c) (c .before .before .before .before .before .before .before .before .before .before .before .before .before .before .before .loop-test .taken) (l .gas) (l .inv .0) _ _ (c .before .before .before .before .before .before .before .before .before .before .before .before .load-column .ensures) _ (c .before .before .before .before .before .before .before .load .ensures) _ _ (omega (arith, fit, c .before .before .before .before .before .before .before .load .kept .1 .1 .1 .1 .0, l .inv .3)) (omega (arith, fit, l .inv .4)) (omega (arith, fit, l .inv .5))
+    let l = l-call in
+    gas-need (lent .gas .now) (lent .air .now) (lent .table .now) (lent .cells) (lent .k) (start .pre) (l .c) (c .before .before .before .before .before .before .before .before .before .before .before .before .before .before .before .loop-test .taken) (l .gas) (l .inv .0) _ _ (load-column-call .ensures) _ (load-call .ensures) _ _ (omega (arith, fit, load-call .kept .1 .1 .1 .1 .0, l .inv .3)) (omega (arith, fit, l .inv .4)) (omega (arith, fit, l .inv .5))
 
 slice-aggregate-store : tie.Need-slice-aggregate-store Inv-loop μ-loop
 slice-aggregate-store c = search needs
 
 store-requires : tie.Need-store-requires Inv-loop μ-loop
 store-requires c κs =
-    let start = c .before .before .before .before .before .before .before .before .before .before .before .before .before .before .before .before .before .before .before .before .before .before .before .before .before in
+    let before-call = c .before .before .before .before .before .before .before .before .before .before .before .before .before .before .before .before .before .before .before .before .before .before .before .before .before in
+    let l-call = c .before .before .before .before .before .before .before .before .before .before .before .before .before .before .before .before .before .before .before .before .before .loop in
+    let start = before-call in
     let lent = start .args in
-    let l = c .before .before .before .before .before .before .before .before .before .before .before .before .before .before .before .before .before .before .before .before .before .loop in (
+    let l = l-call in (
       gas-room (lent .gas .now) (lent .air .now) (lent .table .now) (lent .cells) (lent .k) (start .pre) (l .c) (c .before .before .before .before .before .before .before .before .before .before .before .before .before .before .before .before .before .before .before .before .loop-test .taken) (l .gas) (l .inv .0),
       omega (arith, start .pre .moves .columns .fit, c .before .before .before .before .remap-gas .kept .1 .1 .1 .1 .1 .1 .0, l .inv .5),
     )
 
 add-c : tie.Need-add-c Inv-loop μ-loop
-add-c c = omega (arith, c .before .before .before .before .before .before .before .before .before .before .before .before .before .before .before .before .before .before .before .before .before .before .before .loop-test .taken, c .before .before .before .before .before .before .before .before .before .before .before .before .before .before .before .before .before .before .before .before .before .before .before .before .before .before .before .before .pre .moves .columns .few)
+add-c c =
+    let start = c .before .before .before .before .before .before .before .before .before .before .before .before .before .before .before .before .before .before .before .before .before .before .before .before .before .before .before .before in
+    omega (arith, c .before .before .before .before .before .before .before .before .before .before .before .before .before .before .before .before .before .before .before .before .before .before .before .loop-test .taken, start .pre .moves .columns .few)
 
 loop-less : tie.Need-loop-less Inv-loop μ-loop
 loop-less c = omega (arith, c .before .before .before .before .before .before .before .before .before .before .before .before .before .before .before .before .before .before .before .before .before .before .before .loop-test .taken)
 
 loop-again : tie.Need-loop-again Inv-loop μ-loop
 loop-again c =
-    let start = c .before .before .before .before .before .before .before .before .before .before .before .before .before .before .before .before .before .before .before .before .before .before .before .before .before .before .before .before in
+    let before-call = c .before .before .before .before .before .before .before .before .before .before .before .before .before .before .before .before .before .before .before .before .before .before .before .before .before .before .before .before in
+    let l-call = c .before .before .before .before .before .before .before .before .before .before .before .before .before .before .before .before .before .before .before .before .before .before .before .before .loop in
+    let load-column-call = c .before .before .before .before .before .before .before .before .before .before .before .before .before .before .before .before .before .before .before .before .load-column in
+    let load-call = c .before .before .before .before .before .before .before .before .before .before .before .before .before .before .before .load in
+    let is-cap-call = c .before .before .before .before .before .before .before .before .before .before .before .before .before .is-cap in
+    let remap-gas-call = c .before .before .before .before .before .before .before .remap-gas in
+    let start = before-call in
     let lent = start .args in
-    let l = c .before .before .before .before .before .before .before .before .before .before .before .before .before .before .before .before .before .before .before .before .before .before .before .before .loop in (
-      gas-more (lent .gas .now) (lent .air .now) (lent .table .now) (lent .cells) (lent .k) (start .pre) (l .c) (c .before .before .before .before .before .before .before .before .before .before .before .before .before .before .before .before .before .before .before .before .before .before .before .loop-test .taken) (l .gas) (l .inv .0) _ _ (c .before .before .before .before .before .before .before .before .before .before .before .before .before .before .before .before .before .before .before .before .load-column .ensures) _ (c .before .before .before .before .before .before .before .before .before .before .before .before .before .before .before .load .ensures) _ _ _ (c .before .before .before .before .before .before .before .before .before .before .before .before .before .is-cap .ensures) (c .before .before .before .before .before .before .before .remap-gas .ensures) (c .before .before .store .ensures),
-      c .before .before .before .before .before .before .before .before .before .before .before .before .before .before .before .before .before .before .before .before .load-column .kept .1 .1 .1 .1 .1 .0 ∙ l .inv .1,
-      c .before .before .before .before .before .before .before .before .before .before .before .before .before .before .before .before .before .before .before .before .load-column .kept .1 .1 .1 .1 .1 .1 .0 ∙ l .inv .2,
-      c .before .before .before .before .before .before .before .before .before .before .before .before .before .before .before .load .kept .1 .1 .1 .1 .0 ∙ l .inv .3,
-      c .before .before .before .before .before .before .before .remap-gas .kept .1 .1 .1 .1 .1 .0 ∙ l .inv .4,
-      c .before .before .before .before .before .before .before .remap-gas .kept .1 .1 .1 .1 .1 .1 .0 ∙ l .inv .5,
+    let l = l-call in (
+      gas-more (lent .gas .now) (lent .air .now) (lent .table .now) (lent .cells) (lent .k) (start .pre) (l .c) (c .before .before .before .before .before .before .before .before .before .before .before .before .before .before .before .before .before .before .before .before .before .before .before .loop-test .taken) (l .gas) (l .inv .0) _ _ (load-column-call .ensures) _ (load-call .ensures) _ _ _ (is-cap-call .ensures) (remap-gas-call .ensures) (c .before .before .store .ensures),
+      load-column-call .kept .1 .1 .1 .1 .1 .0 ∙ l .inv .1,
+      load-column-call .kept .1 .1 .1 .1 .1 .1 .0 ∙ l .inv .2,
+      load-call .kept .1 .1 .1 .1 .0 ∙ l .inv .3,
+      remap-gas-call .kept .1 .1 .1 .1 .1 .0 ∙ l .inv .4,
+      remap-gas-call .kept .1 .1 .1 .1 .1 .1 .0 ∙ l .inv .5,
     )
 
 same-length : tie.Need-same-length Inv-loop μ-loop

@@ -77,8 +77,10 @@ loop-less c = search needs
 
 loop-again : tie.Need-loop-again Inv-loop μ-loop
 loop-again c =
-    let lent = c .before .before .before .before .before .before .before .before .before .args in
-    (search needs, moved-more (lent .tracers .now) (lent .air .now) (lent .table .now) (lent .cells) (lent .k) (lent .n) (c .before .before .before .before .before .before .before .before .before .pre) (c .before .before .before .before .before .loop .t) (omega arith) (c .before .before .before .before .before .loop .tracers) (c .before .before .before .before .before .loop .inv .1) _ (c .before .before .move-tracer .ensures))
+    let start = c .before .before .before .before .before .before .before .before .before in
+    let l = c .before .before .before .before .before .loop in
+    let lent = start .args in
+    (search needs, moved-more (lent .tracers .now) (lent .air .now) (lent .table .now) (lent .cells) (lent .k) (lent .n) (start .pre) (l .t) (omega arith) (l .tracers) (l .inv .1) _ (c .before .before .move-tracer .ensures))
 
 same-length : tie.Need-same-length Inv-loop μ-loop
 same-length c =

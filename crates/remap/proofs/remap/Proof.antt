@@ -49,10 +49,14 @@ move-tracers-requires c κs =
 
 move-air-requires : tie.Need-move-air-requires
 move-air-requires c κs =
-    let start = c .before .before .before .before .before .before .before .before .before .before .before .before .before .before .before .before .before in
-    let remap-place = c .before .before .before .before .before .before .before .before .before .before .before .remap-place in
-    let number = c .before .before .before .before .before .before .before .before .before .before .number in
-    let layer-cells = c .before .before .before .before .before .before .before .before .layer-cells in
+    let before-call = c .before .before .before .before .before .before .before .before .before .before .before .before .before .before .before .before .before in
+    let remap-place-call = c .before .before .before .before .before .before .before .before .before .before .before .remap-place in
+    let number-call = c .before .before .before .before .before .before .before .before .before .before .number in
+    let layer-cells-call = c .before .before .before .before .before .before .before .before .layer-cells in
+    let start = before-call in
+    let remap-place = remap-place-call in
+    let number = number-call in
+    let layer-cells = layer-cells-call in
     let lent = start .args in
     air-need (lent .g) (lent .air .now) (lent .tracers .now) (lent .table .now) _ (remap-place .ensures .found (sym (number .ensures) ∙ c .before .before .before .before .before .before .before .before .before .if1 .taken)) _ (layer-cells .ensures .0) (layer-cells .ensures .1)
 
@@ -64,10 +68,14 @@ same-length-4 c = search needs
 
 returns-2 : tie.Need-returns-2
 returns-2 c =
-    let start = c .before .before .before .before .before .before .before .before .before .before .before .before .before .before .before .before .before .before .before .before in
-    let remap-place = c .before .before .before .before .before .before .before .before .before .before .before .before .before .before .remap-place in
-    let number = c .before .before .before .before .before .before .before .before .before .before .before .before .before .number in
-    let layer-cells = c .before .before .before .before .before .before .before .before .before .before .before .layer-cells in
+    let before-call = c .before .before .before .before .before .before .before .before .before .before .before .before .before .before .before .before .before .before .before .before in
+    let remap-place-call = c .before .before .before .before .before .before .before .before .before .before .before .before .before .before .remap-place in
+    let number-call = c .before .before .before .before .before .before .before .before .before .before .before .before .before .number in
+    let layer-cells-call = c .before .before .before .before .before .before .before .before .before .before .before .layer-cells in
+    let start = before-call in
+    let remap-place = remap-place-call in
+    let number = number-call in
+    let layer-cells = layer-cells-call in
     let move-tracers = c .before .before .before .before .before .before .move-tracers in
     let lent = start .args in
     remap-agrees (lent .g) (lent .air .now) (lent .tracers .now) (lent .table .now) _ (remap-place .ensures .found (sym (number .ensures) ∙ c .before .before .before .before .before .before .before .before .before .before .before .before .if1 .taken)) _ (layer-cells .ensures .0) (layer-cells .ensures .1) _ _ (sym (number .ensures) ∙ c .before .before .before .before .before .before .before .before .before .before .before .before .if1 .taken) (c .before .before .move-air .ensures) (move-tracers .ensures)

@@ -34,7 +34,8 @@ table-fits-requires c κs =
 
 returns-2 : tie.Need-returns-2
 returns-2 c =
-    let start = c .before .before .before .before .before .before .before .before .before in
+    let before-call = c .before .before .before .before .before .before .before .before .before in
+    let start = before-call in
     let common-places = c .before .before .before .before .before .common-places in
     let number = c .before .before .before .before .number in
     let lent = start .args in
@@ -62,8 +63,10 @@ columns-serve-requires c κs =
 
 returns-3 : tie.Need-returns-3
 returns-3 c =
-    let start = c .before .before .before .before .before .before .before .before .before .before .before .before in
-    let common-places = c .before .before .before .before .before .before .before .before .common-places in
+    let before-call = c .before .before .before .before .before .before .before .before .before .before .before .before in
+    let common-places-call = c .before .before .before .before .before .before .before .before .common-places in
+    let start = before-call in
+    let common-places = common-places-call in
     let number = c .before .before .before .before .before .before .before .number in
     let table-fits = c .before .before .before .before .table-fits in
     let layer-cells = c .before .before .layer-cells in
@@ -73,8 +76,10 @@ returns-3 c =
 
 returns-4 : tie.Need-returns-4
 returns-4 c =
-    let start = c .before .before .before .before .before .before .before .before .before .before .before .before in
-    let common-places = c .before .before .before .before .before .before .before .before .common-places in
+    let before-call = c .before .before .before .before .before .before .before .before .before .before .before .before in
+    let common-places-call = c .before .before .before .before .before .before .before .before .common-places in
+    let start = before-call in
+    let common-places = common-places-call in
     let number = c .before .before .before .before .before .before .before .number in
     let table-fits = c .before .before .before .before .table-fits in
     let layer-cells = c .before .before .layer-cells in

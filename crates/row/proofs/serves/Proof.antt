@@ -56,12 +56,15 @@ same-length c = search needs
 
 returns : tie.Need-returns Inv-loop μ-loop
 returns c =
-    let l = c .before .before .before .before .before .before .before .before .before .before .before .loop in
-    let a = c .before .before .before .before .before .before .before .before .before .before .before .before .before .args in
-    let up = c .before .before .before .before .before .before .before .fill-parts .last .1 .1 .1 .0 in
-    let down = c .before .before .before .before .before .before .before .fill-parts .last .1 .1 .1 .1 .0 in
-    let wide : length (l .air) ≡ length (a .fluxes .now) = l .inv .3 ∙ c .before .before .before .before .before .before .before .before .before .before .before .before .before .pre .long in
-    let tested = c .before .row-allowed .ensures ∙ ap (λ (w : ℕ). allowed (ring w) (flowOf up down) (l .air)) wide ∙ may-step (a .fluxes .now) (a .n) (a .air .now) (l .s) up down (l .air) (c .before .before .before .before .before .before .before .fill-parts .ensures) (l .inv .4) in
+    let start = c .before .before .before .before .before .before .before .before .before .before .before .before .before in
+    let l-call = c .before .before .before .before .before .before .before .before .before .before .before .loop in
+    let fill-parts-call = c .before .before .before .before .before .before .before .fill-parts in
+    let l = l-call in
+    let a = start .args in
+    let up = fill-parts-call .last .1 .1 .1 .0 in
+    let down = fill-parts-call .last .1 .1 .1 .1 .0 in
+    let wide : length (l .air) ≡ length (a .fluxes .now) = l .inv .3 ∙ start .pre .long in
+    let tested = c .before .row-allowed .ensures ∙ ap (λ (w : ℕ). allowed (ring w) (flowOf up down) (l .air)) wide ∙ may-step (a .fluxes .now) (a .n) (a .air .now) (l .s) up down (l .air) (fill-parts-call .ensures) (l .inv .4) in
     sym (serves-not (a .fluxes .now) (a .n) (a .air .now) (l .s) (omega (arith, c .before .before .before .before .before .before .before .before .before .before .loop-test .taken)) (sym tested ∙ c .if1 .left))
 
 slice-aggregate-pass-row : tie.Need-slice-aggregate-pass-row Inv-loop μ-loop
@@ -86,17 +89,20 @@ loop-less c = search needs
 
 loop-again : tie.Need-loop-again Inv-loop μ-loop
 loop-again c =
-    let l = c .before .before .before .before .before .before .before .before .before .before .before .before .before .before .before .before .before .loop in
-    let a = c .before .before .before .before .before .before .before .before .before .before .before .before .before .before .before .before .before .before .before .args in
-    let up = c .before .before .before .before .before .before .before .before .before .before .before .before .before .fill-parts .last .1 .1 .1 .0 in
-    let down = c .before .before .before .before .before .before .before .before .before .before .before .before .before .fill-parts .last .1 .1 .1 .1 .0 in
-    let wide : length (l .air) ≡ length (a .fluxes .now) = l .inv .3 ∙ c .before .before .before .before .before .before .before .before .before .before .before .before .before .before .before .before .before .before .before .pre .long in
-    let tested = c .before .before .before .before .before .before .before .row-allowed .ensures ∙ ap (λ (w : ℕ). allowed (ring w) (flowOf up down) (l .air)) wide ∙ may-step (a .fluxes .now) (a .n) (a .air .now) (l .s) up down (l .air) (c .before .before .before .before .before .before .before .before .before .before .before .before .before .fill-parts .ensures) (l .inv .4) in (
+    let start = c .before .before .before .before .before .before .before .before .before .before .before .before .before .before .before .before .before .before .before in
+    let l-call = c .before .before .before .before .before .before .before .before .before .before .before .before .before .before .before .before .before .loop in
+    let fill-parts-call = c .before .before .before .before .before .before .before .before .before .before .before .before .before .fill-parts in
+    let l = l-call in
+    let a = start .args in
+    let up = fill-parts-call .last .1 .1 .1 .0 in
+    let down = fill-parts-call .last .1 .1 .1 .1 .0 in
+    let wide : length (l .air) ≡ length (a .fluxes .now) = l .inv .3 ∙ start .pre .long in
+    let tested = c .before .before .before .before .before .before .before .row-allowed .ensures ∙ ap (λ (w : ℕ). allowed (ring w) (flowOf up down) (l .air)) wide ∙ may-step (a .fluxes .now) (a .n) (a .air .now) (l .s) up down (l .air) (fill-parts-call .ensures) (l .inv .4) in (
       omega (arith, c .before .before .before .before .before .before .before .before .before .before .before .before .before .before .before .before .loop-test .taken),
       search needs,
       search needs,
       search needs,
-      c .before .before .pass-row .ensures ∙ ap (λ (w : ℕ). afterFlow (ring w) (flowOf up down) (l .air)) wide ∙ chain-more (a .fluxes .now) (a .n) (a .air .now) (l .s) up down (l .air) (c .before .before .before .before .before .before .before .before .before .before .before .before .before .fill-parts .ensures) (l .inv .4),
+      c .before .before .pass-row .ensures ∙ ap (λ (w : ℕ). afterFlow (ring w) (flowOf up down) (l .air)) wide ∙ chain-more (a .fluxes .now) (a .n) (a .air .now) (l .s) up down (l .air) (fill-parts-call .ensures) (l .inv .4),
       every-more (l .s) (may (a .fluxes .now) (a .n) (a .air .now)) ∙ ap₂ _&&_ (l .inv .5) (sym tested ∙ c .before .before .before .before .before .before .if1 .taken),
     )
 

@@ -41,7 +41,9 @@ shared-slice-read-t18 : tie.Need-shared-slice-read-t18 Inv-loop μ-loop
 shared-slice-read-t18 c = search needs
 
 high-end-requires : tie.Need-high-end-requires Inv-loop μ-loop
-high-end-requires c κs = face-gives-high (c .before .before .before .before .before .before .before .before .before .before .before .before .before .pre) (c .before .before .before .before .before .loop .i) (search needs) _ (c .before .before .east-of .ensures .0) _ (c .before .before .before .west-of .ensures .0)
+high-end-requires c κs =
+    let start = c .before .before .before .before .before .before .before .before .before .before .before .before .before in
+    face-gives-high (start .pre) (c .before .before .before .before .before .loop .i) (search needs) _ (c .before .before .east-of .ensures .0) _ (c .before .before .before .west-of .ensures .0)
 
 mul-t16-2 : tie.Need-mul-t16-2 Inv-loop μ-loop
 mul-t16-2 c = search needs
@@ -50,7 +52,9 @@ shared-slice-read-t18-2 : tie.Need-shared-slice-read-t18-2 Inv-loop μ-loop
 shared-slice-read-t18-2 c = search needs
 
 low-end-requires : tie.Need-low-end-requires Inv-loop μ-loop
-low-end-requires c κs = face-gives-low (c .before .before .before .before .before .before .before .before .before .before .before .before .before .before .before .pre) (c .before .before .before .before .before .before .before .loop .i) (search needs) _ (c .before .before .before .before .east-of .ensures .0) _ (c .before .before .before .east-of2 .ensures .0)
+low-end-requires c κs =
+    let start = c .before .before .before .before .before .before .before .before .before .before .before .before .before .before .before in
+    face-gives-low (start .pre) (c .before .before .before .before .before .before .before .loop .i) (search needs) _ (c .before .before .before .before .east-of .ensures .0) _ (c .before .before .before .east-of2 .ensures .0)
 
 mul-high : tie.Need-mul-high Inv-loop μ-loop
 mul-high c = search needs

@@ -31,13 +31,18 @@ slice-aggregate-pass-row-2 : tie.Need-slice-aggregate-pass-row-2
 slice-aggregate-pass-row-2 c = search needs
 
 pass-row-requires : tie.Need-pass-row-requires
-pass-row-requires c κs = pieces-pass (c .before .before .before .before .before .before .before .before .before .before .before .before .before .before .before .before .before .before .pre) _ _ (c .before .before .before .before .before .fill-pieces .ensures) (record { high = search needs; low = search needs })
+pass-row-requires c κs =
+    let start = c .before .before .before .before .before .before .before .before .before .before .before .before .before .before .before .before .before .before in
+    pieces-pass (start .pre) _ _ (c .before .before .before .before .before .fill-pieces .ensures) (record { high = search needs; low = search needs })
 
 same-length : tie.Need-same-length
 same-length c = search needs
 
 returns : tie.Need-returns
-returns c = c .before .before .pass-row .ensures ∙ pieces-passed (c .before .before .before .before .before .before .before .before .before .before .before .before .before .before .before .before .before .before .before .before .before .pre) (c .before .before .before .before .before .before .before .before .fill-pieces .last .1 .1 .1 .1 .1 .0) (c .before .before .before .before .before .before .before .before .fill-pieces .last .1 .1 .1 .1 .1 .1 .0) (c .before .before .before .before .before .before .before .before .fill-pieces .ensures)
+returns c =
+    let start = c .before .before .before .before .before .before .before .before .before .before .before .before .before .before .before .before .before .before .before .before .before in
+    let fill-pieces-call = c .before .before .before .before .before .before .before .before .fill-pieces in
+    c .before .before .pass-row .ensures ∙ pieces-passed (start .pre) (fill-pieces-call .last .1 .1 .1 .1 .1 .0) (fill-pieces-call .last .1 .1 .1 .1 .1 .1 .0) (fill-pieces-call .ensures)
 
 pub step-gas-spec : {M : Type 1} → statement M
 step-gas-spec =

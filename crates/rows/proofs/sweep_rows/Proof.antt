@@ -39,11 +39,14 @@ slice-aggregate-step-rows-2 c = search needs
 
 step-rows-requires : tie.Need-step-rows-requires Inv-loop μ-loop
 step-rows-requires c κs =
-    let l = c .before .before .before .before .before .before .before .before .before .loop in
-    let up = c .before .before .before .before .before .fill-parts .last .1 .1 .1 .0 in
-    let down = c .before .before .before .before .before .fill-parts .last .1 .1 .1 .1 .0 in
+    let start = c .before .before .before .before .before .before .before .before .before .before .before in
+    let l-call = c .before .before .before .before .before .before .before .before .before .loop in
+    let fill-parts-call = c .before .before .before .before .before .fill-parts in
+    let l = l-call in
+    let up = fill-parts-call .last .1 .1 .1 .0 in
+    let down = fill-parts-call .last .1 .1 .1 .1 .0 in
     let inside = c .before .before .before .before .before .before .before .before .loop-test .taken in
-    rows-may-step _ _ _ _ _ (c .before .before .before .before .before .before .before .before .before .before .before .pre) (l .s) (search needs) (l .air) (l .current) (l .inv .3) up down (c .before .before .before .before .before .fill-parts .ensures) (record { high = search needs; low = search needs })
+    rows-may-step _ _ _ _ _ (start .pre) (l .s) (search needs) (l .air) (l .current) (l .inv .3) up down (fill-parts-call .ensures) (record { high = search needs; low = search needs })
 
 slice-aggregate-pass-row : tie.Need-slice-aggregate-pass-row Inv-loop μ-loop
 slice-aggregate-pass-row c = search needs
@@ -53,11 +56,14 @@ slice-aggregate-pass-row-2 c = search needs
 
 pass-row-requires : tie.Need-pass-row-requires Inv-loop μ-loop
 pass-row-requires c κs =
-    let l = c .before .before .before .before .before .before .before .before .before .before .before .before .before .loop in
-    let up = c .before .before .before .before .before .before .before .before .before .fill-parts .last .1 .1 .1 .0 in
-    let down = c .before .before .before .before .before .before .before .before .before .fill-parts .last .1 .1 .1 .1 .0 in
+    let start = c .before .before .before .before .before .before .before .before .before .before .before .before .before .before .before in
+    let l-call = c .before .before .before .before .before .before .before .before .before .before .before .before .before .loop in
+    let fill-parts-call = c .before .before .before .before .before .before .before .before .before .fill-parts in
+    let l = l-call in
+    let up = fill-parts-call .last .1 .1 .1 .0 in
+    let down = fill-parts-call .last .1 .1 .1 .1 .0 in
     let inside = c .before .before .before .before .before .before .before .before .before .before .before .before .loop-test .taken in
-    air-may-pass _ _ _ _ _ (c .before .before .before .before .before .before .before .before .before .before .before .before .before .before .before .pre) (l .s) (search needs) (l .air) (l .current) (l .inv .3) up down (c .before .before .before .before .before .before .before .before .before .fill-parts .ensures) (record { high = search needs; low = search needs })
+    air-may-pass _ _ _ _ _ (start .pre) (l .s) (search needs) (l .air) (l .current) (l .inv .3) up down (fill-parts-call .ensures) (record { high = search needs; low = search needs })
 
 add-s : tie.Need-add-s Inv-loop μ-loop
 add-s c = search needs
@@ -67,14 +73,17 @@ loop-less c = search needs
 
 loop-again : tie.Need-loop-again Inv-loop μ-loop
 loop-again c =
-    let l = c .before .before .before .before .before .before .before .before .before .before .before .before .before .before .before .before .loop in
-    let up = c .before .before .before .before .before .before .before .before .before .before .before .before .fill-parts .last .1 .1 .1 .0 in
-    let down = c .before .before .before .before .before .before .before .before .before .before .before .before .fill-parts .last .1 .1 .1 .1 .0 in
+    let start = c .before .before .before .before .before .before .before .before .before .before .before .before .before .before .before .before .before .before in
+    let l-call = c .before .before .before .before .before .before .before .before .before .before .before .before .before .before .before .before .loop in
+    let fill-parts-call = c .before .before .before .before .before .before .before .before .before .before .before .before .fill-parts in
+    let l = l-call in
+    let up = fill-parts-call .last .1 .1 .1 .0 in
+    let down = fill-parts-call .last .1 .1 .1 .1 .0 in
     let inside = c .before .before .before .before .before .before .before .before .before .before .before .before .before .before .before .loop-test .taken in (
       search needs,
       search needs,
       search needs,
-      after-more _ _ _ _ _ (c .before .before .before .before .before .before .before .before .before .before .before .before .before .before .before .before .before .before .pre) (l .s) (search needs) (l .air) (l .current) (l .inv .3) up down (c .before .before .before .before .before .before .before .before .before .before .before .before .fill-parts .ensures) (record { high = search needs; low = search needs }) _ _ (c .before .before .pass-row .ensures) (c .before .before .before .before .before .before .step-rows .ensures),
+      after-more _ _ _ _ _ (start .pre) (l .s) (search needs) (l .air) (l .current) (l .inv .3) up down (fill-parts-call .ensures) (record { high = search needs; low = search needs }) _ _ (c .before .before .pass-row .ensures) (c .before .before .before .before .before .before .step-rows .ensures),
     )
 
 same-length : tie.Need-same-length Inv-loop μ-loop

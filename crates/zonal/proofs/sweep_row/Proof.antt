@@ -29,8 +29,9 @@ sweep-rows-requires c κs =
 
 store-rows-requires : tie.Need-store-rows-requires
 store-rows-requires c κs =
-    let a = c .before .before .before .before .before .before .before .before .before .before .before .before .args in
-    swept-fit (a .g) (a .tracers .now) (a .air .now) (a .first) (a .fluxes .now) (a .substeps) _ (c .before .before .before .before .before .before .before .before .before .before .before .before .pre) (c .before .before .before .before .before .before .before .world-cells .ensures .0) _ (c .before .before .before .before .before .load-rows .ensures) _ _ (c .before .before .before .sweep-rows .ensures)
+    let start = c .before .before .before .before .before .before .before .before .before .before .before .before in
+    let a = start .args in
+    swept-fit (a .g) (a .tracers .now) (a .air .now) (a .first) (a .fluxes .now) (a .substeps) _ (start .pre) (c .before .before .before .before .before .before .before .world-cells .ensures .0) _ (c .before .before .before .before .before .load-rows .ensures) _ _ (c .before .before .before .sweep-rows .ensures)
 
 same-length : tie.Need-same-length
 same-length c = search needs
@@ -40,8 +41,11 @@ same-length-2 c = search needs
 
 returns : tie.Need-returns
 returns c =
-    let a = c .before .before .before .before .before .before .before .before .before .before .before .before .before .before .before .args in
-    all-swept (a .g) (a .tracers .now) (a .air .now) (a .first) (a .fluxes .now) (a .substeps) _ (c .before .before .before .before .before .before .before .before .before .before .before .before .before .before .before .pre) (c .before .before .before .before .before .before .before .before .before .before .world-cells .ensures .0) _ (c .before .before .before .before .before .before .before .before .load-rows .ensures) _ _ (c .before .before .before .before .before .before .sweep-rows .ensures) _ (c .before .before .store-rows .ensures)
+    let start = c .before .before .before .before .before .before .before .before .before .before .before .before .before .before .before in
+    let world-cells-call = c .before .before .before .before .before .before .before .before .before .before .world-cells in
+    let load-rows-call = c .before .before .before .before .before .before .before .before .load-rows in
+    let a = start .args in
+    all-swept (a .g) (a .tracers .now) (a .air .now) (a .first) (a .fluxes .now) (a .substeps) _ (start .pre) (world-cells-call .ensures .0) _ (load-rows-call .ensures) _ _ (c .before .before .before .before .before .before .sweep-rows .ensures) _ (c .before .before .store-rows .ensures)
 
 pub sweep-row-spec : {M : Type 1} → statement M
 sweep-row-spec =

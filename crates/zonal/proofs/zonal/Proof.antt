@@ -63,8 +63,11 @@ same-length-4 c = search needs
 
 returns-2 : tie.Need-returns-2
 returns-2 c =
-    let a = c .before .before .before .before .before .before .before .before .before .before .before .before .before .before .before .args in
-    let found = c .before .before .before .before .before .before .before .before .before .before .row-place .ensures .found (sym (c .before .before .before .before .before .before .before .before .before .number .ensures) ∙ c .before .before .before .before .before .before .before .before .if1 .taken) in
+    let start = c .before .before .before .before .before .before .before .before .before .before .before .before .before .before .before in
+    let row-place-call = c .before .before .before .before .before .before .before .before .before .before .row-place in
+    let number-call = c .before .before .before .before .before .before .before .before .before .number in
+    let a = start .args in
+    let found = row-place-call .ensures .found (sym (number-call .ensures) ∙ c .before .before .before .before .before .before .before .before .if1 .taken) in
     zonal-agrees (a .g) (a .air .now) (a .tracers .now) (a .layer) (a .row) (a .fluxes .now) _ _ found _ _ (c .before .before .before .before .sweep-row .ensures) _ refl refl
 
 pub zonal-spec : {M : Type 1} → statement M
