@@ -58,10 +58,10 @@ fn wide_total(gas: &[u32]) -> u64
     sum
 }
 
-// The sum of a block of at most 4,096 amounts, its two halves side by side. `all` has the bits of the amounts summed: where it
+// The sum of a block of at most 8,192 amounts, its two halves side by side. `all` has the bits of the amounts summed: where it
 // is below 2^20, no sum passed 32 bits. Sums and bits are of 32 bits, so that the loop runs at the speed of memory.
 fn block_total(gas: &[u32]) -> u64
-    requires { ⌜ length (now gas) ≤ 4096 ⌝ }
+    requires { ⌜ length (now gas) ≤ 8192 ⌝ }
     ensures { λ r. ⌜ IsTotal (now (gas .entry)) r ⌝ }
 {
     let half = gas.len() / 2;
@@ -88,9 +88,9 @@ fn block_total(gas: &[u32]) -> u64
 // Where the block that starts at entry a of n ends.
 fn block_end(a: usize, n: usize) -> usize
     requires { ⌜ a < n ⌝ }
-    ensures { λ e. ⌜ (a < e) × (e ≤ n) × (e ≤ a + 4096) ⌝ }
+    ensures { λ e. ⌜ (a < e) × (e ≤ n) × (e ≤ a + 8192) ⌝ }
 {
-    if n - a < 4096 { n } else { a + 4096 }
+    if n - a < 8192 { n } else { a + 8192 }
 }
 
 // A tracer's sum over all cells.
