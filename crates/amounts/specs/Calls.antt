@@ -11,8 +11,8 @@ use lib.Dec.{ltb}
 use lib.ListN.{length, set}
 use Rattle.model.specs.Limits.{totalLimit}
 use Rattle.model.specs.Basic.{at}
-use Rattle.model.specs.World.{World, worldCells, tracerStart, gas, gasTotal}
-use Rattle.model.specs.Step.{Call, Place, place, firstOf, step, lentFits, ownPlaces, refusal, accepted, tracerAbsent, cellAbsent, amountAt, load, emission, withdrawal, total, reading}
+use Rattle.model.specs.World.{World, worldCells, withTracers, tracerStart, gas, gasTotal}
+use Rattle.model.specs.Step.{Call, Place, place, firstOf, lentFits, ownPlaces, refusal, accepted, tracerAbsent, cellAbsent, amountAt, load, emission, withdrawal, total, reading}
 use Rattle.model.specs.Laws.Basic.{at-part, term-le-sum}
 use Rattle.model.specs.Laws.Step.{Fits, passes, stops, own-refusal}
 use Rattle.units.specs.declared.Answer.{Answer}
@@ -28,7 +28,7 @@ unfolding firstOf
 none-left w = refl
 
 -- refused by places 1 to 4
-pub common-agrees : (w : World) (answer : Answer) (sums : List ℕ) → IsTested w Nothing answer sums → (call : Call) → lentFits (w .grid) call ≡ true → (numberOf answer ≡ 0 → ⊥) → Agrees (step w call) answer (w .air) (w .tracers)
+pub common-agrees : (w : World) (answer : Answer) (sums : List ℕ) → IsTested w Nothing answer sums → (call : Call) → lentFits (w .grid) call ≡ true → (numberOf answer ≡ 0 → ⊥) → Agrees w call answer w
 common-agrees w answer sums tested call alone nonzero =
     refused-agrees w call answer (tested .refused nonzero call alone) nonzero (tested .count)
 
@@ -104,7 +104,7 @@ amount-found {w} {t} {c} {i} {whole} found =
 
 -- the answer of places 1 to 5 to every call that names tracer t and cell c
 pub record IsNamed (w : World) (t c : ℕ) (answer : Answer) (i total : ℕ) : Type 0 where
-  pub refused : (numberOf answer ≡ 0 → ⊥) → (call : Call) (ps : List Place) → lentFits (w .grid) call ≡ true → ownPlaces call ≡ tracerAbsent t ∷ cellAbsent c ∷ ps → Agrees (step w call) answer (w .air) (w .tracers)
+  pub refused : (numberOf answer ≡ 0 → ⊥) → (call : Call) (ps : List Place) → lentFits (w .grid) call ≡ true → ownPlaces call ≡ tracerAbsent t ∷ cellAbsent c ∷ ps → Agrees w call answer w
   pub found : numberOf answer ≡ 0 → Found w t c i total
 
 module _ (w : World) (t c : ℕ) (answer : Answer) (i total : ℕ) where
@@ -132,13 +132,10 @@ module _ (w : World) (t c : ℕ) (answer : Answer) (i total : ℕ) where
   named-found found e = record { refused = λ nonzero. absurd (nonzero (ap numberOf e)); found = λ z. found }
 
 -- ---- the calls, with what led to each answer
-pub load-agrees : (w : World) (answer : Answer) (sums : List ℕ) → IsTested w Nothing answer sums → (n : ℕ) → numberOf answer ≡ n → Agrees (step w load) answer (w .air) (w .tracers)
+pub load-agrees : (w : World) (answer : Answer) (sums : List ℕ) → IsTested w Nothing answer sums → (n : ℕ) → numberOf answer ≡ n → Agrees w load answer w
 unfolding accepted ownPlaces
 load-agrees w answer sums tested zero e =
-    accepted-agrees w load answer (w .air) (w .tracers) (own-refusal w load (tested .passed e .fits) refl ∙ none-left w) e
-    (tested .count)
-    refl
-    refl
+    accepted-agrees w load answer w (own-refusal w load (tested .passed e .fits) refl ∙ none-left w) e (tested .count) refl
 load-agrees w answer sums tested (suc n) e =
     common-agrees w answer sums tested load refl (λ (z : numberOf answer ≡ 0). omega arith)
 
@@ -146,24 +143,23 @@ pub total-places : (t : ℕ) → ownPlaces (total t) ≡ tracerAbsent t ∷ []
 unfolding ownPlaces
 total-places t = refl
 
-pub total-agrees : (w : World) → Fits w → (t count : ℕ) → t < w .grid .N → count ≡ gasTotal w t → Agrees (step w (total t)) (Accepted count) (w .air) (w .tracers)
+pub total-agrees : (w : World) → Fits w → (t count : ℕ) → t < w .grid .N → count ≡ gasTotal w t → Agrees w (total t) (Accepted count) w
 unfolding accepted
 total-agrees w fits t count h same =
-    accepted-agrees w (total t) (Accepted count) (w .air) (w .tracers)
-    (tracer-there w fits (total t) refl t [] (total-places t) h ∙ none-left w) refl same refl refl
+    accepted-agrees w (total t) (Accepted count) w
+    (tracer-there w fits (total t) refl t [] (total-places t) h ∙ none-left w) refl same refl
 
 pub reading-places : (t c : ℕ) → ownPlaces (reading t c) ≡ tracerAbsent t ∷ cellAbsent c ∷ []
 unfolding ownPlaces
 reading-places t c = refl
 
-pub reading-agrees : (w : World) (t c i whole : ℕ) → Found w t c i whole → Agrees (step w (reading t c)) (Accepted (at (w .tracers) i)) (w .air) (w .tracers)
+pub reading-agrees : (w : World) (t c i whole : ℕ) → Found w t c i whole → Agrees w (reading t c) (Accepted (at (w .tracers) i)) w
 unfolding accepted
 reading-agrees w t c i whole found =
-    accepted-agrees w (reading t c) _ (w .air) (w .tracers)
+    accepted-agrees w (reading t c) _ w
     (cell-there w (found .fits) (reading t c) refl t c [] (reading-places t c) (found .tracerIn) (found .cellIn) ∙ none-left w)
     refl
     (sym (amount-found found))
-    refl
     refl
 
 -- the last place of an emission and of a withdrawal
@@ -188,39 +184,37 @@ module _ (w : World) (t c amount i whole : ℕ) (found : Found w t c i whole) wh
   emission-last : refusal w (emission t c amount) ≡ firstOf (over-limit t amount ∷ []) w
   emission-last = after-cell (emission t c amount) (over-limit t amount) refl (emission-places t c amount)
 
-  pub emission-refused : totalLimit < whole + amount → Agrees (step w (emission t c amount)) (Refused Emission) (w .air) (w .tracers)
+  pub emission-refused : totalLimit < whole + amount → Agrees w (emission t c amount) (Refused Emission) w
   emission-refused over =
       place-agrees w (emission t c amount) Emission
       (emission-last ∙ stops (over-limit t amount) [] w (lt-ltb _ _ (rw (found .totalIs) at over)))
       (λ z. omega arith)
 
-  pub emission-agrees : whole + amount ≤ totalLimit → Agrees (step w (emission t c amount)) (Accepted 0) (w .air) (set (w .tracers) i (at (w .tracers) i + amount))
+  pub emission-agrees : whole + amount ≤ totalLimit → Agrees w (emission t c amount) (Accepted 0) (withTracers w (set (w .tracers) i (at (w .tracers) i + amount)))
   unfolding accepted
   emission-agrees room =
-      accepted-agrees w (emission t c amount) (Accepted 0) (w .air) _
+      accepted-agrees w (emission t c amount) (Accepted 0) _
       (emission-last ∙ passes (over-limit t amount) [] w (le-ltb _ _ (rw (found .totalIs) at room)) ∙ none-left w)
       refl
       refl
-      refl
-      (ap₂ (λ (j x : ℕ). set (w .tracers) j (x + amount)) (found .place) (sym (amount-found found)))
+      (ap₂ (λ (j x : ℕ). withTracers w (set (w .tracers) j (x + amount))) (found .place) (sym (amount-found found)))
 
   withdrawal-last : refusal w (withdrawal t c amount) ≡ firstOf (too-little t c amount ∷ []) w
   withdrawal-last = after-cell (withdrawal t c amount) (too-little t c amount) refl (withdrawal-places t c amount)
 
-  pub withdrawal-refused : at (w .tracers) i < amount → Agrees (step w (withdrawal t c amount)) (Refused Withdrawal) (w .air) (w .tracers)
+  pub withdrawal-refused : at (w .tracers) i < amount → Agrees w (withdrawal t c amount) (Refused Withdrawal) w
   withdrawal-refused over =
       place-agrees w (withdrawal t c amount) Withdrawal
       (withdrawal-last ∙ stops (too-little t c amount) [] w (ap (λ (x : ℕ). ltb x amount) (amount-found found) ∙ lt-ltb _ _ over))
       (λ z. omega arith)
 
-  pub withdrawal-agrees : amount ≤ at (w .tracers) i → Agrees (step w (withdrawal t c amount)) (Accepted 0) (w .air) (set (w .tracers) i (at (w .tracers) i - amount))
+  pub withdrawal-agrees : amount ≤ at (w .tracers) i → Agrees w (withdrawal t c amount) (Accepted 0) (withTracers w (set (w .tracers) i (at (w .tracers) i - amount)))
   unfolding accepted
   withdrawal-agrees room =
-      accepted-agrees w (withdrawal t c amount) (Accepted 0) (w .air) _
+      accepted-agrees w (withdrawal t c amount) (Accepted 0) _
       (withdrawal-last ∙
       passes (too-little t c amount) [] w (ap (λ (x : ℕ). ltb x amount) (amount-found found) ∙ le-ltb _ _ room) ∙
       none-left w)
       refl
       refl
-      refl
-      (ap₂ (λ (j x : ℕ). set (w .tracers) j (x - amount)) (found .place) (sym (amount-found found)))
+      (ap₂ (λ (j x : ℕ). withTracers w (set (w .tracers) j (x - amount))) (found .place) (sym (amount-found found)))

@@ -1,6 +1,6 @@
 // The calls that move no air: load, emission, withdrawal, and the readings of a total and of a cell.
 ghost use mathlib.Core.Path.{_≡_};
-ghost use Rattle.model.specs.Step.{step, load as load-call, emission as emission-call, withdrawal as withdrawal-call, total as total-call, reading as reading-call};
+ghost use Rattle.model.specs.Step.{load as load-call, emission as emission-call, withdrawal as withdrawal-call, total as total-call, reading as reading-call};
 ghost use Rattle.units.specs.Grid.{worldOf};
 ghost use Rattle.units.specs.Answer.{Agrees};
 ghost use Rattle.amounts.specs.Calls.{IsNamed};
@@ -14,7 +14,7 @@ use units::world_cells;
 
 // Tests lent air and tracers.
 pub fn load(g: Grid, air: &[u32], tracers: &[u32]) -> Answer
-    ensures { λ r. ⌜ Agrees (step (worldOf g (now (air .entry)) (now (tracers .entry))) load-call) r (now (air .entry)) (now (tracers .entry)) ⌝ }
+    ensures { λ r. ⌜ Agrees (worldOf g (now (air .entry)) (now (tracers .entry))) load-call r (worldOf g (now (air .entry)) (now (tracers .entry))) ⌝ }
 {
     let loaded = common_places(g, air, tracers, Lent::Nothing);
     loaded.answer
@@ -22,7 +22,7 @@ pub fn load(g: Grid, air: &[u32], tracers: &[u32]) -> Answer
 
 // A tracer's total.
 pub fn total(g: Grid, air: &[u32], tracers: &[u32], tracer: u32) -> Answer
-    ensures { λ r. ⌜ Agrees (step (worldOf g (now (air .entry)) (now (tracers .entry))) (total-call tracer)) r (now (air .entry)) (now (tracers .entry)) ⌝ }
+    ensures { λ r. ⌜ Agrees (worldOf g (now (air .entry)) (now (tracers .entry))) (total-call tracer) r (worldOf g (now (air .entry)) (now (tracers .entry))) ⌝ }
 {
     let tested = common_places(g, air, tracers, Lent::Nothing);
     let answer = tested.answer;
@@ -81,7 +81,7 @@ fn amount_place(g: Grid, air: &[u32], tracers: &[u32], tracer: u32, cell: u32) -
 
 // A cell's amount of a tracer, the cell numbered over all layers.
 pub fn cell(g: Grid, air: &[u32], tracers: &[u32], tracer: u32, cell: u32) -> Answer
-    ensures { λ r. ⌜ Agrees (step (worldOf g (now (air .entry)) (now (tracers .entry))) (reading-call tracer cell)) r (now (air .entry)) (now (tracers .entry)) ⌝ }
+    ensures { λ r. ⌜ Agrees (worldOf g (now (air .entry)) (now (tracers .entry))) (reading-call tracer cell) r (worldOf g (now (air .entry)) (now (tracers .entry))) ⌝ }
 {
     let named = amount_place(g, air, tracers, tracer, cell);
     let answer = named.answer;
@@ -101,7 +101,7 @@ pub fn emission(
     cell: u32,
     amount: u32,
 ) -> Answer
-    ensures { λ r. ⌜ Agrees (step (worldOf g (now (air .entry)) (now (tracers .entry))) (emission-call tracer cell amount)) r (now (air .entry)) (now (tracers .exit)) ⌝ }
+    ensures { λ r. ⌜ Agrees (worldOf g (now (air .entry)) (now (tracers .entry))) (emission-call tracer cell amount) r (worldOf g (now (air .entry)) (now (tracers .exit))) ⌝ }
 {
     let named = amount_place(g, air, tracers, tracer, cell);
     let answer = named.answer;
@@ -125,7 +125,7 @@ pub fn withdrawal(
     cell: u32,
     amount: u32,
 ) -> Answer
-    ensures { λ r. ⌜ Agrees (step (worldOf g (now (air .entry)) (now (tracers .entry))) (withdrawal-call tracer cell amount)) r (now (air .entry)) (now (tracers .exit)) ⌝ }
+    ensures { λ r. ⌜ Agrees (worldOf g (now (air .entry)) (now (tracers .entry))) (withdrawal-call tracer cell amount) r (worldOf g (now (air .entry)) (now (tracers .exit))) ⌝ }
 {
     let named = amount_place(g, air, tracers, tracer, cell);
     let answer = named.answer;

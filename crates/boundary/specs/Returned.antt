@@ -4,7 +4,7 @@ use Prim.Native.Nat.{ℕ, _+_, _*_}
 use mathlib.Core.List.{List}
 use mathlib.Core.Path.{_≡_}
 use Rattle.model.specs.World.{World}
-use Rattle.model.specs.Step.{Result}
+use Rattle.model.specs.Step.{Call, step}
 use Rattle.units.specs.declared.Answer.{Answer}
 use Rattle.units.specs.Answer.{numberOf, countOf}
 
@@ -17,7 +17,7 @@ lentWorld w r k n air tracers =
 abbrev pub packedOf : Answer → ℕ
 packedOf a = numberOf a * 4294967296 + countOf a
 
-pub record Returns (result : Result) (x : ℕ) (air tracers : List ℕ) : Type 0 where
-  pub number : x ≡ result .answer * 4294967296 + result .count
-  pub airLeft : air ≡ result .next .air
-  pub tracersLeft : tracers ≡ result .next .tracers
+-- what an exported call made in the world w promises, which leaves the world `next`
+pub record Returns (w : World) (call : Call) (x : ℕ) (next : World) : Type 0 where
+  pub number : x ≡ step w call .answer * 4294967296 + step w call .count
+  pub left : next ≡ step w call .next

@@ -1,7 +1,7 @@
 // The public calls for C and Rust. Each takes the grid's four numbers and the lent buffers, and returns one number: answer · 2^32 + count.
 ghost use mathlib.Core.Path.{_≡_};
 ghost use Prim.Native.Nat.{_+_, _*_};
-ghost use Rattle.model.specs.Step.{step, load, emission, withdrawal, zonal, meridional, remap, total, reading};
+ghost use Rattle.model.specs.Step.{load, emission, withdrawal, zonal, meridional, remap, total, reading};
 ghost use Rattle.boundary.specs.Returned.{packedOf, Returns, lentWorld};
 use units::Answer;
 use units::Grid;
@@ -17,7 +17,7 @@ fn packed(a: Answer) -> u64
 
 #[no_mangle]
 pub extern "C" fn puldeho_load(w: u32, r: u32, k: u32, n: u32, air: &[u32], tracers: &[u32]) -> u64
-    ensures { λ x. ⌜ Returns (step (lentWorld w r k n (now (air .entry)) (now (tracers .entry))) load) x (now (air .entry)) (now (tracers .entry)) ⌝ }
+    ensures { λ x. ⌜ Returns (lentWorld w r k n (now (air .entry)) (now (tracers .entry))) load x (lentWorld w r k n (now (air .entry)) (now (tracers .entry))) ⌝ }
 {
     packed(amounts::load(Grid { w, r, k, n }, air, tracers))
 }
@@ -34,7 +34,7 @@ pub extern "C" fn puldeho_emission(
     cell: u32,
     amount: u32,
 ) -> u64
-    ensures { λ x. ⌜ Returns (step (lentWorld w r k n (now (air .entry)) (now (tracers .entry))) (emission tracer cell amount)) x (now (air .entry)) (now (tracers .exit)) ⌝ }
+    ensures { λ x. ⌜ Returns (lentWorld w r k n (now (air .entry)) (now (tracers .entry))) (emission tracer cell amount) x (lentWorld w r k n (now (air .entry)) (now (tracers .exit))) ⌝ }
 {
     packed(amounts::emission(Grid { w, r, k, n }, air, tracers, tracer, cell, amount))
 }
@@ -51,7 +51,7 @@ pub extern "C" fn puldeho_withdrawal(
     cell: u32,
     amount: u32,
 ) -> u64
-    ensures { λ x. ⌜ Returns (step (lentWorld w r k n (now (air .entry)) (now (tracers .entry))) (withdrawal tracer cell amount)) x (now (air .entry)) (now (tracers .exit)) ⌝ }
+    ensures { λ x. ⌜ Returns (lentWorld w r k n (now (air .entry)) (now (tracers .entry))) (withdrawal tracer cell amount) x (lentWorld w r k n (now (air .entry)) (now (tracers .exit))) ⌝ }
 {
     packed(amounts::withdrawal(Grid { w, r, k, n }, air, tracers, tracer, cell, amount))
 }
@@ -66,7 +66,7 @@ pub extern "C" fn puldeho_total(
     tracers: &[u32],
     tracer: u32,
 ) -> u64
-    ensures { λ x. ⌜ Returns (step (lentWorld w r k n (now (air .entry)) (now (tracers .entry))) (total tracer)) x (now (air .entry)) (now (tracers .entry)) ⌝ }
+    ensures { λ x. ⌜ Returns (lentWorld w r k n (now (air .entry)) (now (tracers .entry))) (total tracer) x (lentWorld w r k n (now (air .entry)) (now (tracers .entry))) ⌝ }
 {
     packed(amounts::total(Grid { w, r, k, n }, air, tracers, tracer))
 }
@@ -82,7 +82,7 @@ pub extern "C" fn puldeho_cell(
     tracer: u32,
     cell: u32,
 ) -> u64
-    ensures { λ x. ⌜ Returns (step (lentWorld w r k n (now (air .entry)) (now (tracers .entry))) (reading tracer cell)) x (now (air .entry)) (now (tracers .entry)) ⌝ }
+    ensures { λ x. ⌜ Returns (lentWorld w r k n (now (air .entry)) (now (tracers .entry))) (reading tracer cell) x (lentWorld w r k n (now (air .entry)) (now (tracers .entry))) ⌝ }
 {
     packed(amounts::cell(Grid { w, r, k, n }, air, tracers, tracer, cell))
 }
@@ -99,7 +99,7 @@ pub extern "C" fn puldeho_zonal(
     row: u32,
     fluxes: &[i32],
 ) -> u64
-    ensures { λ x. ⌜ Returns (step (lentWorld w r k n (now (air .entry)) (now (tracers .entry))) (zonal layer row (now (fluxes .entry)))) x (now (air .exit)) (now (tracers .exit)) ⌝ }
+    ensures { λ x. ⌜ Returns (lentWorld w r k n (now (air .entry)) (now (tracers .entry))) (zonal layer row (now (fluxes .entry))) x (lentWorld w r k n (now (air .exit)) (now (tracers .exit))) ⌝ }
 {
     packed(zonal::zonal(Grid { w, r, k, n }, air, tracers, layer, row, fluxes))
 }
@@ -115,7 +115,7 @@ pub extern "C" fn puldeho_meridional(
     layer: u32,
     fluxes: &[i32],
 ) -> u64
-    ensures { λ x. ⌜ Returns (step (lentWorld w r k n (now (air .entry)) (now (tracers .entry))) (meridional layer (now (fluxes .entry)))) x (now (air .exit)) (now (tracers .exit)) ⌝ }
+    ensures { λ x. ⌜ Returns (lentWorld w r k n (now (air .entry)) (now (tracers .entry))) (meridional layer (now (fluxes .entry))) x (lentWorld w r k n (now (air .exit)) (now (tracers .exit))) ⌝ }
 {
     packed(meridional::meridional(Grid { w, r, k, n }, air, tracers, layer, fluxes))
 }
@@ -130,7 +130,7 @@ pub extern "C" fn puldeho_remap(
     tracers: &mut [u32],
     table: &[u32],
 ) -> u64
-    ensures { λ x. ⌜ Returns (step (lentWorld w r k n (now (air .entry)) (now (tracers .entry))) (remap (now (table .entry)))) x (now (air .exit)) (now (tracers .exit)) ⌝ }
+    ensures { λ x. ⌜ Returns (lentWorld w r k n (now (air .entry)) (now (tracers .entry))) (remap (now (table .entry))) x (lentWorld w r k n (now (air .exit)) (now (tracers .exit))) ⌝ }
 {
     packed(remap::remap(Grid { w, r, k, n }, air, tracers, table))
 }

@@ -19,9 +19,9 @@ use Rattle.calls.specs.Room.{agrees-same}
 
 -- ---- a call that was made is the one that the command asks for
 module _ (g : declared.Grid) (c : Command) (body : List ℕ) (x : Answer) (air tracers airLeft tracersLeft : List ℕ) where
-  pub makes-call : (made : Call) → commandIs (gridOf g) body c ≡ program.make made → Agrees (step (worldOf g air tracers) made) x airLeft tracersLeft → Makes g c body x air tracers airLeft tracersLeft
+  pub makes-call : (made : Call) → commandIs (gridOf g) body c ≡ program.make made → Agrees (worldOf g air tracers) made x (worldOf g airLeft tracersLeft) → Makes g c body x air tracers airLeft tracersLeft
   makes-call made e agrees call asked =
-      agrees-same (worldOf g air tracers) made call x airLeft tracersLeft (let same : made ≡ call = cc in same) agrees
+      agrees-same (worldOf g air tracers) made call x _ (let same : made ≡ call = cc in same) agrees
 
   -- a grid and a load are no calls
   pub makes-grid : (wanted : declared.Grid) → c ≡ Grid wanted → Makes g c body x air tracers airLeft tracersLeft

@@ -24,7 +24,7 @@ pub record MakeNeed (g : declared.Grid) (c : Command) (body : List ℕ) : Type 0
 -- what `step` gives of the call that the command asks for
 abbrev pub Makes : declared.Grid → Command → List ℕ → Answer → List ℕ → List ℕ → List ℕ → List ℕ → Type 0
 Makes g c body answer air tracers airLeft tracersLeft =
-    (call : Call) → commandIs (gridOf g) body c ≡ program.make call → Agrees (step (worldOf g air tracers) call) answer airLeft tracersLeft
+    (call : Call) → commandIs (gridOf g) body c ≡ program.make call → Agrees (worldOf g air tracers) call answer (worldOf g airLeft tracersLeft)
 
 -- a load's body holds the numbers of both lists
 pub record LoadNeed (body air tracers : List ℕ) : Type 0 where
@@ -34,4 +34,4 @@ pub record LoadNeed (body air tracers : List ℕ) : Type 0 where
 pub record LoadsInto (g : declared.Grid) (body : List ℕ) (airs amounts : ℕ) (answer : Answer) (air tracers : List ℕ) : Type 0 where
   pub airIs : air ≡ numbersAt body 0 airs
   pub tracersIs : tracers ≡ numbersAt body (4 * airs) amounts
-  pub agrees : Agrees (step (worldOf g air tracers) load) answer air tracers
+  pub agrees : Agrees (worldOf g air tracers) load answer (worldOf g air tracers)

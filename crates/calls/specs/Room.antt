@@ -62,5 +62,5 @@ pub fluxes-from : (body : List ℕ) (a n : ℕ) → fluxesAt (take (length body 
 fluxes-from body a n = rw (take-rest body a) (tab-same n _ _ (λ j h. ap signed (number-from body a j)))
 
 -- ---- a call with equal lists is the same call
-pub agrees-same : (w : World) (call call' : Call) (x : Answer) (air tracers : List ℕ) → call ≡ call' → Agrees (step w call) x air tracers → Agrees (step w call') x air tracers
-agrees-same w call call' x air tracers e agrees = subst (λ (y : Call). Agrees (step w y) x air tracers) e agrees
+pub agrees-same : (w : World) (call call' : Call) (x : Answer) (next : World) → call ≡ call' → Agrees w call x next → Agrees w call' x next
+agrees-same w call call' x next e agrees = subst (λ (y : Call). Agrees w y x next) e agrees

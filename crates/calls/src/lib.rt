@@ -3,7 +3,7 @@ ghost use mathlib.Core.Path.{_≡_};
 ghost use Prim.Native.Nat.{_+_, _*_, _≤_};
 ghost use lib.ListN.{length};
 ghost use Rattle.program.specs.Bytes.{signed as signed-number, numbersAt, fluxesAt};
-ghost use Rattle.model.specs.Step.{step, zonal, meridional, remap};
+ghost use Rattle.model.specs.Step.{zonal, meridional, remap};
 ghost use Rattle.units.specs.Answer.{Agrees};
 ghost use Rattle.units.specs.Grid.{worldOf};
 ghost use Rattle.records.specs.Stage.{SmallGrid};
@@ -72,7 +72,7 @@ fn table_space() -> [u32; 66]
 // A zonal sweep with the fluxes of a record's body.
 fn make_zonal(g: Grid, p: RowOf, body: &[u8], air: &mut [u32], tracers: &mut [u32]) -> Answer
     requires { ⌜ (SmallGrid g) × (2 + 4 * g .w ≤ length (now body)) ⌝ }
-    ensures { λ x. ⌜ Agrees (step (worldOf g (now (air .entry)) (now (tracers .entry))) (zonal (p .layer) (p .row) (fluxesAt (now (body .entry)) 2 (g .w)))) x (now (air .exit)) (now (tracers .exit)) ⌝ }
+    ensures { λ x. ⌜ Agrees (worldOf g (now (air .entry)) (now (tracers .entry))) (zonal (p .layer) (p .row) (fluxesAt (now (body .entry)) 2 (g .w))) x (worldOf g (now (air .exit)) (now (tracers .exit))) ⌝ }
 {
     let w = g.w as usize;
     let mut fluxes = row_space();
@@ -83,7 +83,7 @@ fn make_zonal(g: Grid, p: RowOf, body: &[u8], air: &mut [u32], tracers: &mut [u3
 // A meridional sweep with the fluxes of a record's body.
 fn make_meridional(g: Grid, p: LayerOf, body: &[u8], air: &mut [u32], tracers: &mut [u32]) -> Answer
     requires { ⌜ (SmallGrid g) × (1 ≤ g .k) × (1 + 4 * (g .w * (g .r + 1)) ≤ length (now body)) ⌝ }
-    ensures { λ x. ⌜ Agrees (step (worldOf g (now (air .entry)) (now (tracers .entry))) (meridional (p .layer) (fluxesAt (now (body .entry)) 1 (g .w * (g .r + 1))))) x (now (air .exit)) (now (tracers .exit)) ⌝ }
+    ensures { λ x. ⌜ Agrees (worldOf g (now (air .entry)) (now (tracers .entry))) (meridional (p .layer) (fluxesAt (now (body .entry)) 1 (g .w * (g .r + 1)))) x (worldOf g (now (air .exit)) (now (tracers .exit))) ⌝ }
 {
     let faces = (g.w as usize) * ((g.r as usize) + 1);
     let mut fluxes = layer_space();
@@ -94,7 +94,7 @@ fn make_meridional(g: Grid, p: LayerOf, body: &[u8], air: &mut [u32], tracers: &
 // A remap with the table of a record's body.
 fn make_remap(g: Grid, body: &[u8], air: &mut [u32], tracers: &mut [u32]) -> Answer
     requires { ⌜ (SmallGrid g) × (4 * (2 * (g .k + 1)) ≤ length (now body)) ⌝ }
-    ensures { λ x. ⌜ Agrees (step (worldOf g (now (air .entry)) (now (tracers .entry))) (remap (numbersAt (now (body .entry)) 0 (2 * (g .k + 1))))) x (now (air .exit)) (now (tracers .exit)) ⌝ }
+    ensures { λ x. ⌜ Agrees (worldOf g (now (air .entry)) (now (tracers .entry))) (remap (numbersAt (now (body .entry)) 0 (2 * (g .k + 1)))) x (worldOf g (now (air .exit)) (now (tracers .exit))) ⌝ }
 {
     let numbers = 2 * ((g.k as usize) + 1);
     let mut table = table_space();

@@ -92,12 +92,12 @@ module _ (g : declared.Grid) (cells : ℕ) (sized : cells ≡ model.worldCells (
   same-world : held (gridOf g) air tracers ≡ worldOf g (take cells air) (take (g .n * cells) tracers)
   same-world = ap (λ (n : ℕ). worldOf g (take n air) (take (g .n * n) tracers)) (sym sized)
 
-  pub call-leaves : program.gridRefusal (gridOf g) ≡ 0 → (byte : ℕ) (call : Call) (x : Answer) (l : lines.Line) → lineIs l ≡ program.line byte (numberOf x) (countOf x) → Agrees (step (worldOf g (take cells air) (take (g .n * cells) tracers)) call) x newAir newTracers → Leaves (program.carriedOut (program.loaded (held (gridOf g) air tracers)) byte (program.make call)) (Next l (Loaded g)) air tracers (newAir ++ drop cells air) (newTracers ++ drop (g .n * cells) tracers)
+  pub call-leaves : program.gridRefusal (gridOf g) ≡ 0 → (byte : ℕ) (call : Call) (x : Answer) (l : lines.Line) → lineIs l ≡ program.line byte (numberOf x) (countOf x) → Agrees (worldOf g (take cells air) (take (g .n * cells) tracers)) call x (worldOf g newAir newTracers) → Leaves (program.carriedOut (program.loaded (held (gridOf g) air tracers)) byte (program.make call)) (Next l (Loaded g)) air tracers (newAir ++ drop cells air) (newTracers ++ drop (g .n * cells) tracers)
   unfolding program.carriedOut
   call-leaves taken byte call x l sameLine agrees =
       let w = worldOf g (take cells air) (take (g .n * cells) tracers) in
       subst (λ (v : model.World). Leaves (program.carriedOut (program.loaded v) byte (program.make call)) (Next l (Loaded g)) air tracers (newAir ++ drop cells air) (newTracers ++ drop (g .n * cells) tracers)) (sym same-world)
-      (leaves-loaded taken l (program.line byte (step w call .answer) (step w call .count)) (step w call .next) (sameLine ∙ ap₂ (program.line byte) (agrees .number) (agrees .count)) (sym (next-grid w call)) (agrees .airLeft) (agrees .tracersLeft))
+      (leaves-loaded taken l (program.line byte (step w call .answer) (step w call .count)) (step w call .next) (sameLine ∙ ap₂ (program.line byte) (agrees .number) (agrees .count)) (sym (next-grid w call)) (ap (λ (v : model.World). v .air) (agrees .left)) (ap (λ (v : model.World). v .tracers) (agrees .left)))
 
   -- ---- an accepted load
   pub load-leaves : program.gridRefusal (gridOf g) ≡ 0 → (byte : ℕ) (body : List ℕ) (x : Answer) (l : lines.Line) (s : program.State) → lineIs l ≡ program.line byte (numberOf x) (countOf x) → AnswersLoad g body cells (g .n * cells) x → numberOf x ≡ 0 → newAir ≡ numbersAt body 0 cells → newTracers ≡ numbersAt body (4 * cells) (g .n * cells) → Leaves (program.carriedOut s byte (commandIs (gridOf g) body Load)) (Next l (Loaded g)) air tracers (newAir ++ drop cells air) (newTracers ++ drop (g .n * cells) tracers)

@@ -152,7 +152,7 @@ pub record LayerFound (w : World) (k : ℕ) (fluxes : List ℤ) (up down : List 
   pub accepting : refusal w (meridional k fluxes) ≡ 0
 
 pub record IsLayerPlace (w : World) (k : ℕ) (fluxes : List ℤ) (up down : List ℕ) (answer : Answer) (first : ℕ) : Type 0 where
-  pub refused : (numberOf answer ≡ 0 → ⊥) → Agrees (step w (meridional k fluxes)) answer (w .air) (w .tracers)
+  pub refused : (numberOf answer ≡ 0 → ⊥) → Agrees w (meridional k fluxes) answer w
   pub found : numberOf answer ≡ 0 → LayerFound w k fluxes up down first
 
 module _ (w : World) (k : ℕ) (fluxes : List ℤ) (up down : List ℕ) (answer : Answer) (first : ℕ) where

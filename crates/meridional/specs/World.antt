@@ -80,15 +80,16 @@ module _ (g : declared.Grid) (air tracers : List ℕ) (k : ℕ) (fluxes : List �
   unfolding layer
   after-length new stored = ap length stored ∙ length-after-flow (layer (g .w) (g .r)) (flowOf up down) lent ∙ sym alike
 
-  pub meridional-agrees : (answer : Answer) (new : List ℕ) → numberOf answer ≡ 0 → countOf answer ≡ 1 → new ≡ afterFlow (layer (g .w) (g .r)) (flowOf up down) lent → Agrees (step w (meridional k fluxes)) answer (putMid first (first + wide - first) air new) (sweptTracers g tracers lent (flowOf up down) first)
+  pub meridional-agrees : (answer : Answer) (new : List ℕ) → numberOf answer ≡ 0 → countOf answer ≡ 1 → new ≡ afterFlow (layer (g .w) (g .r)) (flowOf up down) lent → Agrees w (meridional k fluxes) answer (worldOf g (putMid first (first + wide - first) air new) (sweptTracers g tracers lent (flowOf up down) first))
   unfolding accepted swept layer airAfter gasAfter
   meridional-agrees answer new zero counted stored =
-      accepted-agrees w (meridional k fluxes) answer _ _ (found .accepting) zero counted
+      accepted-agrees w (meridional k fluxes) answer _ (found .accepting) zero counted
+      (ap₂ (worldOf g)
       (put-back air new first wide (after-length new stored) ∙
       ap₂ (λ (i : ℕ) (l : List ℕ). written air i l) (found .start)
       (stored ∙ same-after (layer (g .w) (g .r)) (layer-regular (g .w) (g .r)) same lent ∙ ap (afterFlow (layer (g .w) (g .r)) (parts fluxes 1 1)) lent-is))
       (swept-same g tracers lent first same ∙
-      ap₂ (λ (l : List ℕ) (i : ℕ). sweptTracers g tracers l (parts fluxes 1 1) i) lent-is (found .start))
+      ap₂ (λ (l : List ℕ) (i : ℕ). sweptTracers g tracers l (parts fluxes 1 1) i) lent-is (found .start)))
 
   pub tracers-need : TracersNeed g tracers lent (flowOf up down) first
   tracers-need =

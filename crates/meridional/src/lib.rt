@@ -1,6 +1,6 @@
 // The meridional sweep of one layer.
 ghost use mathlib.Core.Path.{_≡_};
-ghost use Rattle.model.specs.Step.{step, meridional as meridional-call};
+ghost use Rattle.model.specs.Step.{meridional as meridional-call};
 ghost use Rattle.units.specs.Answer.{Agrees};
 ghost use Rattle.units.specs.Grid.{worldOf};
 ghost use Rattle.substep.specs.Faces.{flowOf};
@@ -123,7 +123,7 @@ pub fn meridional(
     layer: u32,
     fluxes: &[i32],
 ) -> Answer
-    ensures { λ x. ⌜ Agrees (step (worldOf g (now (air .entry)) (now (tracers .entry))) (meridional-call layer (now (fluxes .entry)))) x (now (air .exit)) (now (tracers .exit)) ⌝ }
+    ensures { λ x. ⌜ Agrees (worldOf g (now (air .entry)) (now (tracers .entry))) (meridional-call layer (now (fluxes .entry))) x (worldOf g (now (air .exit)) (now (tracers .exit))) ⌝ }
 {
     let mut up = [0u32; 3240];
     let mut down = [0u32; 3240];

@@ -8,7 +8,7 @@ use lib.ListN.{length, set}
 use lib.IntN.{ℤ, natAbs}
 use Rattle.model.specs.Limits.{tableScale, totalLimit, zonalLimit, meridionalLimit, tableLimit}
 use Rattle.model.specs.Basic.{at, part, every}
-use Rattle.model.specs.World.{Grid, World, layerCells, worldCells, layerStart, rowStart, tracerStart, gas, gasTotal, airFits}
+use Rattle.model.specs.World.{Grid, World, layerCells, worldCells, layerStart, rowStart, tracerStart, withTracers, gas, gasTotal, airFits}
 use Rattle.model.specs.Sweep.{ring, layer, flux, serves, substepCount, swept}
 use Rattle.model.specs.Remap.{remapServes, remapCount, remapped}
 
@@ -146,12 +146,7 @@ pub record Result : Type 0 where
 
 -- The world with another amount of tracer t in cell c
 abbrev pub withAmount : World → ℕ → ℕ → ℕ → World
-withAmount w t c amount =
-    record {
-      grid = w .grid;
-      air = w .air;
-      tracers = set (w .tracers) (tracerStart (w .grid) t + c) amount;
-    }
+withAmount w t c amount = withTracers w (set (w .tracers) (tracerStart (w .grid) t + c) amount)
 
 -- An accepted call. "Readings give a tracer's total or one cell's amount as the count. Counts not named are 0."
 unfoldable pub accepted : World → Call → Result

@@ -40,6 +40,13 @@ pub record World : Type 0 where
   pub air : List ℕ
   pub tracers : List ℕ
 
+-- a world with other tracers, and with other air too
+abbrev pub withTracers : World → List ℕ → World
+withTracers w tracers = record { grid = w .grid; air = w .air; tracers = tracers }
+
+abbrev pub withAmounts : World → List ℕ → List ℕ → World
+withAmounts w air tracers = record { grid = w .grid; air = air; tracers = tracers }
+
 -- the amounts of tracer t in all cells
 abbrev pub gas : World → ℕ → List ℕ
 gas w t = part (w .tracers) (tracerStart (w .grid) t) (worldCells (w .grid))
@@ -57,5 +64,4 @@ airFits M = leb 1 M && leb M airLimit
 
 -- a world after a call that moves air: new air, and each tracer changed by one and the same function of its own amounts
 abbrev pub moved : World → List ℕ → (List ℕ → List ℕ) → World
-moved w air change =
-    record { grid = w .grid; air = air; tracers = joined (tab (w .grid .N) (λ t. change (gas w t))) }
+moved w air change = withAmounts w air (joined (tab (w .grid .N) (λ t. change (gas w t))))

@@ -20,6 +20,7 @@ use Rattle.units.specs.declared.Answer.the-variants.{Accepted, Refused}
 use Rattle.units.specs.declared.Refusal.{Refusal}
 use Rattle.units.specs.declared.Refusal.the-variants.{GridRange, Lengths, AirRange, Totals}
 use Rattle.units.specs.Answer.{refusalNumber, numberOf, countOf}
+use Rattle.units.specs.Agrees.{Placed, refused-agrees}
 use Rattle.places.specs.Totals.{TracersFit, AreTotals}
 use Rattle.places.specs.declared.Lent.{Lent}
 use Rattle.places.specs.declared.Lent.the-variants.{Nothing, RowFluxes, LayerFluxes, Table}
@@ -140,3 +141,11 @@ module _ (w : World) (lent : Lent) (answer : Answer) (sums : List ℕ) where
             count = ap countOf e;
             passed = λ z. record { fits = passed-fits c d; lentFit = lengths-true w lent b .2; total = each };
           }
+
+-- refused by places 1 to 4, whatever is tested after them
+pub placed-common : {w : World} {lent : Lent} {tested : Answer} {sums : List ℕ} {call : Call} {answer : Answer} {Found : Type 0} → IsTested w lent tested sums → lentFits (w .grid) call ≡ lentServes (w .grid) lent → (numberOf tested ≡ 0 → ⊥) → answer ≡ tested → Placed w call answer Found
+placed-common {w} {lent} {tested} {sums} {call} is fit nonzero e =
+    record {
+      refused = λ _. rw e (refused-agrees w call tested (is .refused nonzero call fit) nonzero (is .count));
+      found = λ z. absurd (nonzero (rw e at z));
+    }

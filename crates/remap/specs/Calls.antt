@@ -3,7 +3,7 @@
 use Prim.Native.Nat.{ℕ, _+_, _*_, _≤_}
 use mathlib.Core.List.{List, [], _∷_}
 use mathlib.Core.Bool.{Bool, true, false, not}
-use mathlib.Core.Path.{_≡_, refl, ap, _∙_}
+use mathlib.Core.Path.{_≡_, refl, ap, ap₂, _∙_}
 use native.Mathlib.Omega.{arith}
 use borrow.Author.Tests.{eqb-true}
 use lib.Dec.{eqb}
@@ -66,7 +66,7 @@ pub record Found (w : World) (table : List ℕ) (answer : Answer) : Type 0 where
   pub accepting : refusal w (remap table) ≡ 0
 
 pub record IsPlace (w : World) (table : List ℕ) (answer : Answer) : Type 0 where
-  pub refused : (numberOf answer ≡ 0 → ⊥) → Agrees (step w (remap table)) answer (w .air) (w .tracers)
+  pub refused : (numberOf answer ≡ 0 → ⊥) → Agrees w (remap table) answer w
   pub found : numberOf answer ≡ 0 → Found w table answer
 
 module _ (w : World) (table : List ℕ) where
@@ -136,7 +136,7 @@ module _ (g : declared.Grid) (air tracers table : List ℕ) (answer : Answer) (f
         totals = rw e (found .fits .totals);
       }
 
-  pub remap-agrees : (newAir newTracers : List ℕ) → numberOf answer ≡ 0 → newAir ≡ airMoved (g .k) cells table air → newTracers ≡ allMoved (g .n) (g .k) cells table air tracers → Agrees (step w (remap table)) answer newAir newTracers
+  pub remap-agrees : (newAir newTracers : List ℕ) → numberOf answer ≡ 0 → newAir ≡ airMoved (g .k) cells table air → newTracers ≡ allMoved (g .n) (g .k) cells table air tracers → Agrees w (remap table) answer (worldOf g newAir newTracers)
   unfolding accepted remapped remappedAir remappedGas column
   remap-agrees newAir newTracers zero isAir isTracers =
-      accepted-agrees w (remap table) answer newAir newTracers (found .accepting) zero (found .counted) (rw e at isAir) (rw e at isTracers)
+      accepted-agrees w (remap table) answer _ (found .accepting) zero (found .counted) (ap₂ (worldOf g) (rw e at isAir) (rw e at isTracers))

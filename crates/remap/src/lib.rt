@@ -11,7 +11,7 @@ ghost use Rattle.remap.specs.Served.{LoadNeed, IsColumn, ColumnsNeed, Ar
 ghost use Rattle.remap.specs.Moved.{AirNeed, TracerNeed, airMoved, gasMoved};
 ghost use Rattle.remap.specs.Tracers.{TracersNeed, allMoved};
 ghost use Rattle.remap.specs.Calls.{IsPlace};
-ghost use Rattle.model.specs.Step.{step, remap as remap-call};
+ghost use Rattle.model.specs.Step.{remap as remap-call};
 ghost use Rattle.units.specs.Answer.{Agrees};
 ghost use Rattle.units.specs.Grid.{worldOf};
 use column::air_sum;
@@ -182,7 +182,7 @@ fn remap_place(g: Grid, air: &[u32], tracers: &[u32], table: &[u32]) -> Answer
 
 // Remaps all columns, in the air and in all tracers.
 pub fn remap(g: Grid, air: &mut [u32], tracers: &mut [u32], table: &[u32]) -> Answer
-    ensures { λ x. ⌜ Agrees (step (worldOf g (now (air .entry)) (now (tracers .entry))) (remap-call (now (table .entry)))) x (now (air .exit)) (now (tracers .exit)) ⌝ }
+    ensures { λ x. ⌜ Agrees (worldOf g (now (air .entry)) (now (tracers .entry))) (remap-call (now (table .entry))) x (worldOf g (now (air .exit)) (now (tracers .exit))) ⌝ }
 {
     let answer = remap_place(g, air, tracers, table);
     if number(answer) == 0 {} else {

@@ -1,19 +1,21 @@
--- How a call's answer comes to agree with `step`: refused, or accepted.
+-- How a call's answer comes to agree with `step`: refused by one of its places, or accepted; and what a function that tests a call's places gives.
 -- Assumes nothing.
-use Prim.Native.Nat.{ℕ, zero, suc}
-use mathlib.Core.List.{List}
+use Prim.Native.Nat.{ℕ, zero, suc, _≤_, _<_}
+use mathlib.Core.List.{List, [], _∷_}
+use mathlib.Core.Bool.{true, false, not}
 use mathlib.Core.Path.{_≡_, refl, sym, ap, _∙_}
-use Rattle.model.specs.World.{World}
-use Rattle.model.specs.Step.{Call, Result, refusal, accepted, refused, step}
-use Rattle.model.specs.Laws.Step.{step-accepted, step-refused, answer-is}
+use borrow.Author.Tests.{lt-ltb, le-ltb}
+use Rattle.model.specs.World.{Grid, World}
+use Rattle.model.specs.Step.{Call, Result, Place, firstOf, absent, refusal, accepted, refused, step}
+use Rattle.model.specs.Laws.Step.{passes, stops, step-accepted, step-refused, answer-is}
 use Rattle.units.specs.declared.Answer.{Answer}
 use Rattle.units.specs.declared.Answer.the-variants.{Refused}
 use Rattle.units.specs.declared.Refusal.{Refusal}
 use Rattle.units.specs.Answer.{refusalNumber, numberOf, countOf, Agrees}
 
 module _ (w : World) (call : Call) where
-  -- a refusal has count 0 and leaves every lent list as it was
-  by-number : (answer : Answer) (n : ℕ) → refusal w call ≡ n → (n ≡ 0 → ⊥) → numberOf answer ≡ n → countOf answer ≡ 0 → Agrees (step w call) answer (w .air) (w .tracers)
+  -- a refusal has count 0 and leaves every lent number as it was
+  by-number : (answer : Answer) (n : ℕ) → refusal w call ≡ n → (n ≡ 0 → ⊥) → numberOf answer ≡ n → countOf answer ≡ 0 → Agrees w call answer w
   unfolding refused
   by-number answer zero e nonzero same count = absurd (nonzero refl)
   by-number answer (suc n) e nonzero same count =
@@ -21,24 +23,60 @@ module _ (w : World) (call : Call) where
       record {
         number = same ∙ ap (λ (r : Result). r .answer) is;
         count = count ∙ ap (λ (r : Result). r .count) is;
-        airLeft = ap (λ (r : Result). r .next .air) is;
-        tracersLeft = ap (λ (r : Result). r .next .tracers) is;
+        left = ap (λ (r : Result). r .next) is;
       }
 
-  pub refused-agrees : (answer : Answer) → refusal w call ≡ numberOf answer → (numberOf answer ≡ 0 → ⊥) → countOf answer ≡ 0 → Agrees (step w call) answer (w .air) (w .tracers)
+  pub refused-agrees : (answer : Answer) → refusal w call ≡ numberOf answer → (numberOf answer ≡ 0 → ⊥) → countOf answer ≡ 0 → Agrees w call answer w
   refused-agrees answer e nonzero count = by-number answer (numberOf answer) e nonzero refl count
 
   -- refused by a place of its own
-  pub place-agrees : (r : Refusal) → refusal w call ≡ refusalNumber r → (refusalNumber r ≡ 0 → ⊥) → Agrees (step w call) (Refused r) (w .air) (w .tracers)
+  pub place-agrees : (r : Refusal) → refusal w call ≡ refusalNumber r → (refusalNumber r ≡ 0 → ⊥) → Agrees w call (Refused r) w
   place-agrees r e nonzero = refused-agrees (Refused r) e nonzero refl
 
   -- an accepted call leaves what `accepted` says
-  pub accepted-agrees : (answer : Answer) (air tracers : List ℕ) → refusal w call ≡ 0 → numberOf answer ≡ 0 → countOf answer ≡ accepted w call .count → air ≡ accepted w call .next .air → tracers ≡ accepted w call .next .tracers → Agrees (step w call) answer air tracers
-  accepted-agrees answer air tracers e number count a t =
+  pub accepted-agrees : (answer : Answer) (next : World) → refusal w call ≡ 0 → numberOf answer ≡ 0 → countOf answer ≡ accepted w call .count → next ≡ accepted w call .next → Agrees w call answer next
+  accepted-agrees answer next e number count left =
       let is = sym (step-accepted w call e) in
       record {
         number = number ∙ sym (answer-is w call ∙ e);
         count = count ∙ ap (λ (r : Result). r .count) is;
-        airLeft = a ∙ ap (λ (r : Result). r .next .air) is;
-        tracersLeft = t ∙ ap (λ (r : Result). r .next .tracers) is;
+        left = left ∙ ap (λ (r : Result). r .next) is;
       }
+
+-- ---- the places that are left to test: the refusal is the first of them that applies
+pub record Left (w : World) (call : Call) (ps : List Place) : Type 0 where
+  pub is : refusal w call ≡ firstOf ps w
+
+module _ {w : World} {call : Call} where
+  pub next : {p : Place} {ps : List Place} → Left w call (p ∷ ps) → p .applies w ≡ false → Left w call ps
+  next {p} {ps} left e = record { is = left .is ∙ passes p ps w e }
+
+  pub stop : {p : Place} {ps : List Place} → Left w call (p ∷ ps) → p .applies w ≡ true → refusal w call ≡ p .number
+  stop {p} {ps} left e = left .is ∙ stops p ps w e
+
+  pub none : Left w call [] → refusal w call ≡ 0
+  unfolding firstOf
+  none left = left .is
+
+  -- what is named is there, or absent
+  pub there : (i : ℕ) (many : Grid → ℕ) {ps : List Place} → Left w call (absent i many ∷ ps) → i < many (w .grid) → Left w call ps
+  there i many left h = next left (ap not (lt-ltb i (many (w .grid)) h))
+
+  pub missing : (i : ℕ) (many : Grid → ℕ) {ps : List Place} → Left w call (absent i many ∷ ps) → many (w .grid) ≤ i → refusal w call ≡ 5
+  missing i many left h = stop left (ap not (le-ltb i (many (w .grid)) h))
+
+-- ---- what a function that tests a call's places gives: a refusal, which is `step`'s, or what it found
+pub record Placed (w : World) (call : Call) (answer : Answer) (Found : Type 0) : Type 0 where
+  pub refused : (numberOf answer ≡ 0 → ⊥) → Agrees w call answer w
+  pub found : numberOf answer ≡ 0 → Found
+
+module _ {w : World} {call : Call} {answer : Answer} {Found : Type 0} where
+  pub placed-refused : (r : Refusal) → (refusalNumber r ≡ 0 → ⊥) → answer ≡ Refused r → refusal w call ≡ refusalNumber r → Placed w call answer Found
+  placed-refused r nonzero e by =
+      record {
+        refused = λ _. rw e (place-agrees w call r by nonzero);
+        found = λ z. absurd (nonzero (rw e at z));
+      }
+
+  pub placed-found : numberOf answer ≡ 0 → Found → Placed w call answer Found
+  placed-found accepted found = record { refused = λ nonzero. absurd (nonzero accepted); found = λ z. found }

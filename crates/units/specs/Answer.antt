@@ -1,9 +1,9 @@
 -- Document 01's number and count for each case of the answer enum, and what a public call promises.
 -- Assumes nothing.
 use Prim.Native.Nat.{ℕ}
-use mathlib.Core.List.{List}
 use mathlib.Core.Path.{_≡_}
-use Rattle.model.specs.Step.{Result}
+use Rattle.model.specs.World.{World}
+use Rattle.model.specs.Step.{Call, step}
 use Rattle.units.specs.declared.Answer.{Answer}
 use Rattle.units.specs.declared.Answer.the-variants.{Accepted, Refused}
 use Rattle.units.specs.declared.Refusal.{Refusal}
@@ -34,9 +34,8 @@ abbrev pub countOf : Answer → ℕ
 countOf (Accepted n) = n
 countOf (Refused r) = 0
 
--- What every public call promises: number, count and every lent list at exit are those of the model's result
-pub record Agrees (result : Result) (answer : Answer) (air tracers : List ℕ) : Type 0 where
-  pub number : numberOf answer ≡ result .answer
-  pub count : countOf answer ≡ result .count
-  pub airLeft : air ≡ result .next .air
-  pub tracersLeft : tracers ≡ result .next .tracers
+-- What every public call promises, made in the world w and leaving the world `next`: number, count and every lent number at exit are `step`'s
+pub record Agrees (w : World) (call : Call) (answer : Answer) (next : World) : Type 0 where
+  pub number : numberOf answer ≡ step w call .answer
+  pub count : countOf answer ≡ step w call .count
+  pub left : next ≡ step w call .next

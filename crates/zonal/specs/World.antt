@@ -13,7 +13,7 @@ use Rattle.model.specs.Limits.{totalLimit}
 use Rattle.model.specs.Basic.{at, part, written, joined, tab, sum}
 use Rattle.model.specs.World.{World, worldCells, rowStart}
 use Rattle.model.specs.Sweep.{ring, airAfter, gasAfter, serves, swept}
-use Rattle.model.specs.Step.{step, accepted, rowAir, zonalCount, zonal}
+use Rattle.model.specs.Step.{accepted, rowAir, zonalCount, zonal}
 use Rattle.model.specs.Laws.Chain.{length-air-after}
 use Rattle.model.specs.Laws.Sweep.{Sweeps, cells-in}
 use Rattle.model.specs.Laws.Zonal.{zonal-sweeps}
@@ -185,10 +185,11 @@ module _ (g : declared.Grid) (air tracers : List ℕ) (k r : ℕ) (fluxes : List
     new-long =
         ap length (swept-is .airIs) ∙ length-air-after (rowMesh fluxes) fluxes count lent (row-ready .row .long) count ∙ found .long
 
-    pub zonal-agrees : (answer : Answer) → numberOf answer ≡ 0 → countOf answer ≡ count → Agrees (step w (zonal k r fluxes)) answer (putMid first (first + g .w - first) air new) after
+    pub zonal-agrees : (answer : Answer) → numberOf answer ≡ 0 → countOf answer ≡ count → Agrees w (zonal k r fluxes) answer (worldOf g (putMid first (first + g .w - first) air new) after)
     unfolding accepted swept ring
     zonal-agrees answer zero counted =
-        accepted-agrees w (zonal k r fluxes) answer _ _ (found .accepting) zero (counted ∙ found .countIs)
+        accepted-agrees w (zonal k r fluxes) answer _ (found .accepting) zero (counted ∙ found .countIs)
+        (ap₂ (worldOf g)
         (put-back air new first (g .w) new-long ∙ ap₂ (λ (i : ℕ) (l : List ℕ). written air i l) (found .start) air-end)
         (swept-is .tracersAre ∙ ap₂ (λ (i n : ℕ). tracers-from i n lent) (found .start) (found .countIs) ∙
-        ap (tracers-from (rowStart (w .grid) k r) (zonalCount w k r fluxes)) lent-is)
+        ap (tracers-from (rowStart (w .grid) k r) (zonalCount w k r fluxes)) lent-is))

@@ -1,9 +1,10 @@
 // The zonal sweep of one row in one layer.
 ghost use mathlib.Core.Path.{_≡_};
-ghost use Rattle.model.specs.Step.{step, zonal as zonal-call};
+ghost use Rattle.model.specs.Step.{zonal as zonal-call};
 ghost use Rattle.units.specs.Answer.{Agrees};
 ghost use Rattle.units.specs.Grid.{worldOf};
-ghost use Rattle.zonal.specs.Calls.{IsRowPlace};
+ghost use Rattle.units.specs.Agrees.{Placed};
+ghost use Rattle.zonal.specs.Calls.{RowFound};
 ghost use Rattle.zonal.specs.World.{RowReady, IsSwept};
 use places::Lent;
 use places::common_places;
@@ -45,7 +46,7 @@ fn row_place(
     row: u32,
     fluxes: &[i32],
 ) -> RowPlace
-    ensures { λ p. ⌜ IsRowPlace (worldOf g (now (air .entry)) (now (tracers .entry))) layer row (now (fluxes .entry)) (p .answer) (p .first) (p .count) ⌝ }
+    ensures { λ p. ⌜ Placed (worldOf g (now (air .entry)) (now (tracers .entry))) (zonal-call layer row (now (fluxes .entry))) (p .answer) (RowFound (worldOf g (now (air .entry)) (now (tracers .entry))) layer row (now (fluxes .entry)) (p .first) (p .count)) ⌝ }
 {
     let tested = common_places(g, air, tracers, Lent::RowFluxes(fluxes.len()));
     let answer = tested.answer;
@@ -103,7 +104,7 @@ pub fn zonal(
     row: u32,
     fluxes: &[i32],
 ) -> Answer
-    ensures { λ x. ⌜ Agrees (step (worldOf g (now (air .entry)) (now (tracers .entry))) (zonal-call layer row (now (fluxes .entry)))) x (now (air .exit)) (now (tracers .exit)) ⌝ }
+    ensures { λ x. ⌜ Agrees (worldOf g (now (air .entry)) (now (tracers .entry))) (zonal-call layer row (now (fluxes .entry))) x (worldOf g (now (air .exit)) (now (tracers .exit))) ⌝ }
 {
     let place = row_place(g, air, tracers, layer, row, fluxes);
     let answer = place.answer;

@@ -76,7 +76,7 @@ returns c =
     let start = c .before .before .before .before .before .before .before .before .before .before .before .before .before .before .before .before .before .before in
     let faces = start .args .g .w * (start .args .g .r + 1) in
     let sweep = c .before .before .before .before in
-    agrees-same _ _ (meridional (start .args .p .layer) (fluxesAt (start .args .body .now) 1 faces)) _ _ _
+    agrees-same _ _ (meridional (start .args .p .layer) (fluxesAt (start .args .body .now) 1 faces)) _ _
     (ap (meridional (start .args .p .layer))
     (room-back (layer-space .result) _ faces (flux-of (start .args .body .now) 1) (omega (arith, layer-space .ensures, few-faces (start .args .g) (start .pre .0) (start .pre .1))) (decode-fluxes .ensures) ∙
     fluxes-from (start .args .body .now) 1 faces))

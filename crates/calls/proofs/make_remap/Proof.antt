@@ -63,7 +63,7 @@ returns c =
     let remap-here = c .before .before .before .before .remap in
     let start = c .before .before .before .before .before .before .before .before .before .before .before .before .before .before .before .before in
     let numbers = 2 * (start .args .g .k + 1) in
-    agrees-same _ _ (remap (numbersAt (start .args .body .now) 0 numbers)) _ _ _
+    agrees-same _ _ (remap (numbersAt (start .args .body .now) 0 numbers)) _ _
     (ap remap
     (room-back (table-space .result) _ numbers (number-of (start .args .body .now)) (omega (arith, table-space .ensures, start .pre .0 .highK)) (decode .ensures)))
     (remap-here .ensures)

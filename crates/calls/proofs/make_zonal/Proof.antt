@@ -66,7 +66,7 @@ returns c =
     let decode-fluxes = c .before .before .before .before .before .before .before .before .before .decode-fluxes in
     let start = c .before .before .before .before .before .before .before .before .before .before .before .before .before .before .before .before .before in
     let sweep = c .before .before .before .before in
-    agrees-same _ _ (zonal (start .args .p .layer) (start .args .p .row) (fluxesAt (start .args .body .now) 2 (start .args .g .w))) _ _ _
+    agrees-same _ _ (zonal (start .args .p .layer) (start .args .p .row) (fluxesAt (start .args .body .now) 2 (start .args .g .w))) _ _
     (ap (zonal (start .args .p .layer) (start .args .p .row))
     (room-back (row-space .result) _ (start .args .g .w) (flux-of (start .args .body .now) 2) (omega (arith, row-space .ensures, start .pre .0 .highW)) (decode-fluxes .ensures) ∙
     fluxes-from (start .args .body .now) 2 (start .args .g .w)))

@@ -1,14 +1,17 @@
 -- `zonal::row_place` meets its contract: each answer from the tests that led there.
 -- Assumes nothing.
 use Prim.Native.Nat.{_+_, _≤_}
-use mathlib.Core.Path.{_≡_, refl, sym, _∙_}
+use mathlib.Core.Bool.{not}
+use mathlib.Core.Path.{_≡_, refl, sym, ap, _∙_}
 use native.Mathlib.Omega.{arith}
-use borrow.Author.Tests.{eqb-true}
+use borrow.Author.Tests.{eqb-true, eq-eqb, ne-eqb}
 use lib.ListN.{length}
 use Rattle.model.specs.Step.{zonalCount}
 use Rattle.units.specs.Grid.{worldOf, in-range}
 use Rattle.units.specs.declared.Refusal.the-variants.{Index, Fluxes, Zonal}
-use Rattle.zonal.specs.Calls.{place-common, place-refused, place-found, no-layer, no-row, flux-too-large, none-serves, sweep-accepted, row-lent-need, count-found}
+use Rattle.units.specs.Agrees.{next, stop, none, there, missing, placed-refused, placed-found}
+use Rattle.places.specs.Tested.{placed-common}
+use Rattle.zonal.specs.Calls.{zonal-left, row-lent-need, count-found}
 use borrow.Author.Needs.{needs}
 use Rattle.zonal.proofs.row_place.Statement.{statement}
 use Rattle.zonal.proofs.row_place.Tie as tie
@@ -23,7 +26,7 @@ no-row-requires : tie.Need-no-row-requires
 no-row-requires c κs = search needs
 
 returns : tie.Need-returns
-returns c = place-common _ _ _ _ _ _ _ _ _ (c .before .before .before .common-places .ensures) (λ z. omega (arith, c .before .before .number .ensures)) (c .no-row .ensures)
+returns c = placed-common (c .before .before .before .common-places .ensures) refl (λ z. omega (arith, c .before .before .number .ensures)) (c .no-row .ensures)
 
 no-row-requires-2 : tie.Need-no-row-requires-2
 no-row-requires-2 c κs = search needs
@@ -33,8 +36,8 @@ returns-2 c =
     let args = c .before .before .before .before .before .before .before .before .args in
     let w = worldOf (args .g) (args .air .now) (args .tracers .now) in
     let passed = c .before .before .before .before .before .common-places .ensures .passed (sym (c .before .before .before .before .number .ensures) ∙ c .before .before .before .if1 .taken) in
-    place-refused w (args .layer) (args .row) (args .fluxes .now) _ _ _ Index (λ z. omega arith) (c .no-row2 .ensures)
-    (no-layer w (passed .fits) (args .layer) (args .row) (args .fluxes .now) (passed .lentFit) (search needs))
+    let left = zonal-left w (passed .fits) (args .layer) (args .row) (args .fluxes .now) (passed .lentFit) in
+    placed-refused Index (λ z. omega arith) (c .no-row2 .ensures) (missing _ (λ g. g .K) left (search needs))
 
 no-row-requires-3 : tie.Need-no-row-requires-3
 no-row-requires-3 c κs = search needs
@@ -44,8 +47,8 @@ returns-3 c =
     let args = c .before .before .before .before .before .before .before .before .before .before .args in
     let w = worldOf (args .g) (args .air .now) (args .tracers .now) in
     let passed = c .before .before .before .before .before .before .before .common-places .ensures .passed (sym (c .before .before .before .before .before .before .number .ensures) ∙ c .before .before .before .before .before .if1 .taken) in
-    place-refused w (args .layer) (args .row) (args .fluxes .now) _ _ _ Index (λ z. omega arith) (c .no-row3 .ensures)
-    (no-row w (passed .fits) (args .layer) (args .row) (args .fluxes .now) (passed .lentFit) (search needs) (search needs))
+    let left = zonal-left w (passed .fits) (args .layer) (args .row) (args .fluxes .now) (passed .lentFit) in
+    placed-refused Index (λ z. omega arith) (c .no-row3 .ensures) (missing _ (λ g. g .R) (there _ (λ g. g .K) left (search needs)) (search needs))
 
 fluxes-fit-requires : tie.Need-fluxes-fit-requires
 fluxes-fit-requires c κs = search needs
@@ -58,8 +61,8 @@ returns-4 c =
     let args = c .before .before .before .before .before .before .before .before .before .before .before .before .args in
     let w = worldOf (args .g) (args .air .now) (args .tracers .now) in
     let passed = c .before .before .before .before .before .before .before .before .before .common-places .ensures .passed (sym (c .before .before .before .before .before .before .before .before .number .ensures) ∙ c .before .before .before .before .before .before .before .if1 .taken) in
-    place-refused w (args .layer) (args .row) (args .fluxes .now) _ _ _ Fluxes (λ z. omega arith) (c .no-row4 .ensures)
-    (flux-too-large w (passed .fits) (args .layer) (args .row) (args .fluxes .now) (passed .lentFit) (search needs) (search needs) (sym (c .before .before .fluxes-fit .ensures) ∙ c .before .if4 .left))
+    let left = zonal-left w (passed .fits) (args .layer) (args .row) (args .fluxes .now) (passed .lentFit) in
+    placed-refused Fluxes (λ z. omega arith) (c .no-row4 .ensures) (stop (there _ (λ g. g .R) (there _ (λ g. g .K) left (search needs)) (search needs)) (ap not (sym (c .before .before .fluxes-fit .ensures) ∙ c .before .if4 .left)))
 
 row-start-requires : tie.Need-row-start-requires
 row-start-requires c κs =
@@ -114,23 +117,24 @@ returns-5 c =
     let args = c .before .before .before .before .before .before .before .before .before .before .before .before .before .before .before .before .before .args in
     let w = worldOf (args .g) (args .air .now) (args .tracers .now) in
     let passed = c .before .before .before .before .before .before .before .before .before .before .before .before .before .before .common-places .ensures .passed (sym (c .before .before .before .before .before .before .before .before .before .before .before .before .before .number .ensures) ∙ c .before .before .before .before .before .before .before .before .before .before .before .before .if1 .taken) in
+    let left = zonal-left w (passed .fits) (args .layer) (args .row) (args .fluxes .now) (passed .lentFit) in
     let start = c .before .before .before .before .before .row-start .ensures in
     let long = eqb-true (length (args .fluxes .now)) (args .g .w) (passed .lentFit) in
     let inside : c .before .before .before .before .before .row-start .result + args .g .w ≤ length (args .air .now) = omega (arith, start .1, passed .fits .airLength) in
     let counted = c .before .before .count .ensures .is ∙ count-found w (args .layer) (args .row) (args .fluxes .now) long _ (start .0) inside in
-    place-refused w (args .layer) (args .row) (args .fluxes .now) _ _ _ Zonal (λ z. omega arith) (c .no-row5 .ensures)
-    (none-serves w (passed .fits) (args .layer) (args .row) (args .fluxes .now) (passed .lentFit) (search needs) (search needs) (sym (c .before .before .before .before .before .before .before .fluxes-fit .ensures) ∙ c .before .before .before .before .before .before .if4 .taken) (sym counted ∙ omega arith))
+    placed-refused Zonal (λ z. omega arith) (c .no-row5 .ensures) (stop (next (there _ (λ g. g .R) (there _ (λ g. g .K) left (search needs)) (search needs)) (ap not (sym (c .before .before .before .before .before .before .before .fluxes-fit .ensures) ∙ c .before .before .before .before .before .before .if4 .taken))) (eq-eqb _ _ (sym counted ∙ omega arith)))
 
 returns-6 : tie.Need-returns-6
 returns-6 c =
     let args = c .before .before .before .before .before .before .before .before .before .before .before .before .before .before .before .before .args in
     let w = worldOf (args .g) (args .air .now) (args .tracers .now) in
     let passed = c .before .before .before .before .before .before .before .before .before .before .before .before .before .common-places .ensures .passed (sym (c .before .before .before .before .before .before .before .before .before .before .before .before .number .ensures) ∙ c .before .before .before .before .before .before .before .before .before .before .before .if1 .taken) in
+    let left = zonal-left w (passed .fits) (args .layer) (args .row) (args .fluxes .now) (passed .lentFit) in
     let start = c .before .before .before .before .row-start .ensures in
     let long = eqb-true (length (args .fluxes .now)) (args .g .w) (passed .lentFit) in
     let inside : c .before .before .before .before .row-start .result + args .g .w ≤ length (args .air .now) = omega (arith, start .1, passed .fits .airLength) in
     let counted = c .before .count .ensures .is ∙ count-found w (args .layer) (args .row) (args .fluxes .now) long _ (start .0) inside in
-    place-found w (args .layer) (args .row) (args .fluxes .now) _ _ _ refl
+    placed-found refl
     record {
       fits = passed .fits;
       long = long;
@@ -141,8 +145,7 @@ returns-6 c =
       some = search needs;
       most = c .before .count .ensures .most;
       accepting =
-          sweep-accepted w (passed .fits) (args .layer) (args .row) (args .fluxes .now) (passed .lentFit) (search needs) (search needs) (sym (c .before .before .before .before .before .before .fluxes-fit .ensures) ∙ c .before .before .before .before .before .if4 .taken)
-          (λ (z : zonalCount w (args .layer) (args .row) (args .fluxes .now) ≡ 0). omega (arith, counted));
+          none (next (next (there _ (λ g. g .R) (there _ (λ g. g .K) left (search needs)) (search needs)) (ap not (sym (c .before .before .before .before .before .before .fluxes-fit .ensures) ∙ c .before .before .before .before .before .if4 .taken))) (ne-eqb _ _ (λ (z : zonalCount w (args .layer) (args .row) (args .fluxes .now) ≡ 0). omega (arith, counted))));
     }
 
 pub row-place-spec : {M : Type 1} → statement M
