@@ -10,7 +10,7 @@ use Rattle.model.specs.Basic.{at, part}
 use Rattle.model.specs.World.{World, worldCells, layerCells, rowStart, layerStart, gas}
 use Rattle.model.specs.Sweep.{ring, layer}
 use Rattle.model.specs.Range.{SweepInRange, RemapInRange}
-use Rattle.model.specs.Step.{Call, load, emission, withdrawal, zonal, meridional, remap, total, reading, step, rowAir, layerAir, zonalCount}
+use Rattle.model.specs.Step.{Call, load, emission, withdrawal, zonal, meridional, remap, total, reading, Exchange, none, brings, takes, Named, nobody, tracer, meaning, step, rowAir, layerAir, zonalCount}
 
 -- "It starts with the world of an accepted load."
 abbrev pub Loaded : World → Type 0
@@ -33,25 +33,21 @@ point w calls i = after w (take i calls)
 abbrev pub whenAccepted : World → Call → Bool → ℕ → ℕ
 whenAccepted w call named amount = elim (named && eqb (step w call .answer) 0) [ true ↦ amount | false ↦ 0 ]
 
+abbrev pub bringsIn : World → Call → ℕ → Exchange → ℕ
+bringsIn w call t none = 0
+bringsIn w call t (brings t' amount) = whenAccepted w call (eqb t' t) amount
+bringsIn w call t (takes t' amount) = 0
+
+abbrev pub takesOut : World → Call → ℕ → Exchange → ℕ
+takesOut w call t none = 0
+takesOut w call t (brings t' amount) = 0
+takesOut w call t (takes t' amount) = whenAccepted w call (eqb t' t) amount
+
 abbrev pub emits : World → ℕ → Call → ℕ
-emits w t load = 0
-emits w t (emission t' c amount) = whenAccepted w (emission t' c amount) (eqb t' t) amount
-emits w t (withdrawal t' c amount) = 0
-emits w t (zonal k r fluxes) = 0
-emits w t (meridional k fluxes) = 0
-emits w t (remap table) = 0
-emits w t (total t') = 0
-emits w t (reading t' c) = 0
+emits w t call = bringsIn w call t (meaning call .exchange w)
 
 abbrev pub withdraws : World → ℕ → Call → ℕ
-withdraws w t load = 0
-withdraws w t (emission t' c amount) = 0
-withdraws w t (withdrawal t' c amount) = whenAccepted w (withdrawal t' c amount) (eqb t' t) amount
-withdraws w t (zonal k r fluxes) = 0
-withdraws w t (meridional k fluxes) = 0
-withdraws w t (remap table) = 0
-withdraws w t (total t') = 0
-withdraws w t (reading t' c) = 0
+withdraws w t call = takesOut w call t (meaning call .exchange w)
 
 unfoldable pub emitted : World → ℕ → List Call → ℕ
 emitted w t [] = 0
@@ -90,15 +86,12 @@ pub record Alike (own : ℕ → Bool) (w v : World) : Type 0 where
 abbrev pub namesOwn : (ℕ → Bool) → World → ℕ → Bool
 namesOwn own w t = elim (ltb t (w .grid .N)) [ true ↦ own t | false ↦ true ]
 
+abbrev pub ownOnly : (ℕ → Bool) → World → Named → Bool
+ownOnly own w nobody = true
+ownOnly own w (tracer t) = namesOwn own w t
+
 abbrev pub namesNoOther : (ℕ → Bool) → World → Call → Bool
-namesNoOther own w load = true
-namesNoOther own w (emission t c amount) = namesOwn own w t
-namesNoOther own w (withdrawal t c amount) = namesOwn own w t
-namesNoOther own w (zonal k r fluxes) = true
-namesNoOther own w (meridional k fluxes) = true
-namesNoOther own w (remap table) = true
-namesNoOther own w (total t) = namesOwn own w t
-namesNoOther own w (reading t c) = namesOwn own w t
+namesNoOther own w call = ownOnly own w (meaning call .names)
 
 -- "So are the answers (0 or the refusal's number) .. and the counts": of one call in two worlds
 abbrev pub SameReply : World → World → Call → Type 0

@@ -43,32 +43,6 @@ within low n high = leb low n && leb n high
 abbrev pub gridFits : Grid → Bool
 gridFits g = within 4 (g .W) 72 && within 1 (g .R) 44 && within 1 (g .K) 32 && within 1 (g .N) 8
 
--- 2: "a lent length is not the grid's"; a sweep's fluxes and a remap's table are lent too
-abbrev pub lentFits : Grid → Call → Bool
-lentFits g load = true
-lentFits g (emission t c amount) = true
-lentFits g (withdrawal t c amount) = true
-lentFits g (zonal k r fluxes) = eqb (length fluxes) (g .W)
-lentFits g (meridional k fluxes) = eqb (length fluxes) (g .W * (g .R + 1))
-lentFits g (remap table) = eqb (length table) (2 * (g .K + 1))
-lentFits g (total t) = true
-lentFits g (reading t c) = true
-
-abbrev pub lengthsFit : World → Call → Bool
-lengthsFit w call =
-    eqb (length (w .air)) (worldCells (w .grid)) &&
-    eqb (length (w .tracers)) (w .grid .N * worldCells (w .grid)) &&
-    lentFits (w .grid) call
-
--- "every call": places 1 to 4. 3: "a cell's air is 0 or above 65,535". 4: "a tracer's total above 268,435,455"
-unfoldable pub commonPlaces : Call → List Place
-commonPlaces call =
-    place 1 (λ w. not (gridFits (w .grid))) ∷
-    place 2 (λ w. not (lengthsFit w call)) ∷
-    place 3 (λ w. not (every (length (w .air)) (λ i. airFits (at (w .air) i)))) ∷
-    place 4 (λ w. not (every (w .grid .N) (λ t. leb (gasTotal w t) totalLimit))) ∷
-    []
-
 -- 5: "tracer, cell, layer or row absent"
 abbrev pub absent : ℕ → (Grid → ℕ) → Place
 absent i many = place 5 (λ w. not (ltb i (many (w .grid))))
@@ -111,33 +85,6 @@ zonalCount w k r fluxes = substepCount (ring (w .grid .W)) fluxes (rowAir w k r)
 abbrev pub amountAt : World → ℕ → ℕ → ℕ
 amountAt w t c = at (gas w t) c
 
--- The call's own places, in the table's order. 6: "total would pass 268,435,455". 7: "cell has less than the amount".
--- 9: "no n from 1 to 16 serves". 10: "its substep is not allowed": a meridional sweep "is one substep under the same rules"
-unfoldable pub ownPlaces : Call → List Place
-ownPlaces load = []
-ownPlaces (emission t c amount) =
-    tracerAbsent t ∷ cellAbsent c ∷
-    place 6 (λ w. ltb totalLimit (gasTotal w t + amount)) ∷
-    []
-ownPlaces (withdrawal t c amount) =
-    tracerAbsent t ∷ cellAbsent c ∷
-    place 7 (λ w. ltb (amountAt w t c) amount) ∷
-    []
-ownPlaces (zonal k r fluxes) =
-    layerAbsent k ∷ rowAbsent r ∷ fluxTooLarge fluxes zonalLimit ∷
-    place 9 (λ w. eqb (zonalCount w k r fluxes) 0) ∷
-    []
-ownPlaces (meridional k fluxes) =
-    layerAbsent k ∷ fluxTooLarge fluxes meridionalLimit ∷
-    place 10 (λ w. not (serves (layer (w .grid .W) (w .grid .R)) fluxes (layerAir w k) 1)) ∷
-    []
-ownPlaces (remap table) =
-    place 11 (λ w. not (tableFits (w .grid .K) table)) ∷
-    place 12 (λ w. not (remapServes w table)) ∷
-    []
-ownPlaces (total t) = tracerAbsent t ∷ []
-ownPlaces (reading t c) = tracerAbsent t ∷ cellAbsent c ∷ []
-
 -- What a call gives: the answer (0 or the refusal's number), the count, and the world afterwards
 pub record Result : Type 0 where
   pub answer : ℕ
@@ -148,19 +95,127 @@ pub record Result : Type 0 where
 abbrev pub withAmount : World → ℕ → ℕ → ℕ → World
 withAmount w t c amount = withTracers w (set (w .tracers) (tracerStart (w .grid) t + c) amount)
 
--- An accepted call. "Readings give a tracer's total or one cell's amount as the count. Counts not named are 0."
+-- What a call brings in or takes out when it is accepted
+pub data Exchange : Type 0 where
+  none : Exchange
+  brings : (t amount : ℕ) → Exchange
+  takes : (t amount : ℕ) → Exchange
+
+-- The tracer that a call names, if it names one
+pub data Named : Type 0 where
+  nobody : Named
+  tracer : ℕ → Named
+
+-- What a call means: whether the list that it lends has the grid's length, its own places in the table's order, and, where it is accepted, its count, the world afterwards and what it exchanged.
+-- "Counts not named are 0."
+pub record Meaning : Type 0 where
+  pub lent : Grid → Bool
+  pub places : List Place
+  pub count : World → ℕ
+  pub next : World → World
+  pub names : Named
+  pub exchange : World → Exchange
+
+abbrev pub meaning : Call → Meaning
+meaning load =
+    record { lent = λ g. true; places = []; count = λ w. 0; next = λ w. w; names = nobody; exchange = λ w. none }
+-- 6: "total would pass 268,435,455"
+meaning (emission t c amount) =
+    record {
+      lent = λ g. true;
+      places = tracerAbsent t ∷ cellAbsent c ∷ place 6 (λ w. ltb totalLimit (gasTotal w t + amount)) ∷ [];
+      count = λ w. 0;
+      next = λ w. withAmount w t c (amountAt w t c + amount);
+      names = tracer t;
+      exchange = λ w. brings t amount;
+    }
+-- 7: "cell has less than the amount"
+meaning (withdrawal t c amount) =
+    record {
+      lent = λ g. true;
+      places = tracerAbsent t ∷ cellAbsent c ∷ place 7 (λ w. ltb (amountAt w t c) amount) ∷ [];
+      count = λ w. 0;
+      next = λ w. withAmount w t c (amountAt w t c - amount);
+      names = tracer t;
+      exchange = λ w. takes t amount;
+    }
+-- 9: "no n from 1 to 16 serves"
+meaning (zonal k r fluxes) =
+    record {
+      lent = λ g. eqb (length fluxes) (g .W);
+      places = layerAbsent k ∷ rowAbsent r ∷ fluxTooLarge fluxes zonalLimit ∷ place 9 (λ w. eqb (zonalCount w k r fluxes) 0) ∷ [];
+      count = λ w. zonalCount w k r fluxes;
+      next = λ w. let n : ℕ = zonalCount w k r fluxes in swept w (ring (w .grid .W)) (rowStart (w .grid) k r) fluxes n;
+      names = nobody;
+      exchange = λ w. none;
+    }
+-- 10: "its substep is not allowed": a meridional sweep "is one substep under the same rules, with count 1"
+meaning (meridional k fluxes) =
+    record {
+      lent = λ g. eqb (length fluxes) (g .W * (g .R + 1));
+      places =
+          layerAbsent k ∷ fluxTooLarge fluxes meridionalLimit ∷
+          place 10 (λ w. not (serves (layer (w .grid .W) (w .grid .R)) fluxes (layerAir w k) 1)) ∷
+          [];
+      count = λ w. 1;
+      next = λ w. swept w (layer (w .grid .W) (w .grid .R)) (layerStart (w .grid) k) fluxes 1;
+      names = nobody;
+      exchange = λ w. none;
+    }
+meaning (remap table) =
+    record {
+      lent = λ g. eqb (length table) (2 * (g .K + 1));
+      places = place 11 (λ w. not (tableFits (w .grid .K) table)) ∷ place 12 (λ w. not (remapServes w table)) ∷ [];
+      count = λ w. remapCount w table;
+      next = λ w. remapped w table;
+      names = nobody;
+      exchange = λ w. none;
+    }
+-- "Readings give a tracer's total or one cell's amount as the count."
+meaning (total t) =
+    record {
+      lent = λ g. true;
+      places = tracerAbsent t ∷ [];
+      count = λ w. gasTotal w t;
+      next = λ w. w;
+      names = tracer t;
+      exchange = λ w. none;
+    }
+meaning (reading t c) =
+    record {
+      lent = λ g. true;
+      places = tracerAbsent t ∷ cellAbsent c ∷ [];
+      count = λ w. amountAt w t c;
+      next = λ w. w;
+      names = tracer t;
+      exchange = λ w. none;
+    }
+
+-- 2: "a lent length is not the grid's"; a sweep's fluxes and a remap's table are lent too
+abbrev pub lentFits : Grid → Call → Bool
+lentFits g call = meaning call .lent g
+
+abbrev pub lengthsFit : World → Call → Bool
+lengthsFit w call =
+    eqb (length (w .air)) (worldCells (w .grid)) &&
+    eqb (length (w .tracers)) (w .grid .N * worldCells (w .grid)) &&
+    lentFits (w .grid) call
+
+-- "every call": places 1 to 4. 3: "a cell's air is 0 or above 65,535". 4: "a tracer's total above 268,435,455"
+unfoldable pub commonPlaces : Call → List Place
+commonPlaces call =
+    place 1 (λ w. not (gridFits (w .grid))) ∷
+    place 2 (λ w. not (lengthsFit w call)) ∷
+    place 3 (λ w. not (every (length (w .air)) (λ i. airFits (at (w .air) i)))) ∷
+    place 4 (λ w. not (every (w .grid .N) (λ t. leb (gasTotal w t) totalLimit))) ∷
+    []
+
+unfoldable pub ownPlaces : Call → List Place
+ownPlaces call = meaning call .places
+
+-- An accepted call
 unfoldable pub accepted : World → Call → Result
-accepted w load = record { answer = 0; count = 0; next = w }
-accepted w (emission t c amount) = record { answer = 0; count = 0; next = withAmount w t c (amountAt w t c + amount) }
-accepted w (withdrawal t c amount) = record { answer = 0; count = 0; next = withAmount w t c (amountAt w t c - amount) }
-accepted w (zonal k r fluxes) =
-    let n : ℕ = zonalCount w k r fluxes in
-    record { answer = 0; count = n; next = swept w (ring (w .grid .W)) (rowStart (w .grid) k r) fluxes n }
-accepted w (meridional k fluxes) =
-    record { answer = 0; count = 1; next = swept w (layer (w .grid .W) (w .grid .R)) (layerStart (w .grid) k) fluxes 1 }
-accepted w (remap table) = record { answer = 0; count = remapCount w table; next = remapped w table }
-accepted w (total t) = record { answer = 0; count = gasTotal w t; next = w }
-accepted w (reading t c) = record { answer = 0; count = amountAt w t c; next = w }
+accepted w call = record { answer = 0; count = meaning call .count w; next = meaning call .next w }
 
 -- "Each refusal returns its number with count 0 and changes no lent buffer."
 unfoldable pub refused : World → ℕ → Result

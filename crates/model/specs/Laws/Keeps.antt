@@ -11,8 +11,8 @@ use Rattle.model.specs.Limits.{totalLimit}
 use Rattle.model.specs.Basic.{at, sum}
 use Rattle.model.specs.World.{Grid, World, worldCells, gas, gasTotal, airTotal}
 use Rattle.model.specs.Remap.{remapServes}
-use Rattle.model.specs.Step.{Call, load, emission, withdrawal, zonal, meridional, remap, total, reading, Place, firstOf, absent, tracerAbsent, cellAbsent, lentFits, ownPlaces, accepted, refused, refusal, step}
-use Rattle.model.specs.Lists.{whenAccepted, emits, withdraws, HasRatio, CallInRange, Alike, namesOwn, namesNoOther, SameReply}
+use Rattle.model.specs.Step.{Call, load, emission, withdrawal, zonal, meridional, remap, total, reading, Exchange, none, brings, takes, Named, nobody, tracer, meaning, Place, firstOf, absent, tracerAbsent, cellAbsent, lentFits, ownPlaces, accepted, refused, refusal, step}
+use Rattle.model.specs.Lists.{whenAccepted, bringsIn, takesOut, ownOnly, emits, withdraws, HasRatio, CallInRange, Alike, namesOwn, namesNoOther, SameReply}
 use Rattle.model.specs.Laws.Step.{Fits, firstOf-same, step-accepted, step-refused, answer-is, own-refusal, lent-refusal}
 
 -- ---- what is kept from one world to a later one, where `came t` units of gas t came in and `went t` went out
@@ -71,15 +71,12 @@ module _ (own : ℕ → Bool) (w v : World) (sameGrid : w .grid ≡ v .grid) whe
   names-own-grid : (t : ℕ) → namesOwn own w t ≡ namesOwn own v t
   names-own-grid t = ap (λ (g : Grid). elim (ltb t (g .N)) [ true ↦ own t | false ↦ true ]) sameGrid
 
+  own-only-grid : (named : Named) → ownOnly own w named ≡ ownOnly own v named
+  own-only-grid nobody = refl
+  own-only-grid (tracer t) = names-own-grid t
+
   pub names-grid : (call : Call) → namesNoOther own w call ≡ namesNoOther own v call
-  names-grid load = refl
-  names-grid (emission t c amount) = names-own-grid t
-  names-grid (withdrawal t c amount) = names-own-grid t
-  names-grid (zonal k r fluxes) = refl
-  names-grid (meridional k fluxes) = refl
-  names-grid (remap table) = refl
-  names-grid (total t) = names-own-grid t
-  names-grid (reading t c) = names-own-grid t
+  names-grid call = own-only-grid (meaning call .names)
 
 -- a call in two worlds alike: the gases that it names, and its refusal, if it names no other
 module _ (own : ℕ → Bool) (w v : World) (alike : Alike own w v) where
@@ -157,15 +154,13 @@ pub record StepKeeps (w : World) (call : Call) : Type 0 where
 when-refused : (w : World) (call : Call) (named : Bool) (amount n : ℕ) → refusal w call ≡ suc n → whenAccepted w call named amount ≡ 0
 when-refused w call named amount n e = rw (answer-is w call, whenAccepted, e, eqb·suc-zero n, and-false named)
 
+none-exchanged : (w : World) (call : Call) (n : ℕ) → refusal w call ≡ suc n → (t : ℕ) (x : Exchange) → (bringsIn w call t x ≡ 0) × (takesOut w call t x ≡ 0)
+none-exchanged w call n e t none = (refl, refl)
+none-exchanged w call n e t (brings t' amount) = (when-refused w call (eqb t' t) amount n e, refl)
+none-exchanged w call n e t (takes t' amount) = (refl, when-refused w call (eqb t' t) amount n e)
+
 refused-none : (w : World) (call : Call) (n : ℕ) → refusal w call ≡ suc n → (t : ℕ) → (emits w t call ≡ 0) × (withdraws w t call ≡ 0)
-refused-none w load n e t = (refl, refl)
-refused-none w (emission t' c amount) n e t = (when-refused w (emission t' c amount) (eqb t' t) amount n e, refl)
-refused-none w (withdrawal t' c amount) n e t = (refl, when-refused w (withdrawal t' c amount) (eqb t' t) amount n e)
-refused-none w (zonal k r fluxes) n e t = (refl, refl)
-refused-none w (meridional k fluxes) n e t = (refl, refl)
-refused-none w (remap table) n e t = (refl, refl)
-refused-none w (total t') n e t = (refl, refl)
-refused-none w (reading t' c) n e t = (refl, refl)
+refused-none w call n e t = none-exchanged w call n e t (meaning call .exchange w)
 
 -- a call keeps what it keeps when it is accepted: a refused one changes nothing
 module _ (call : Call) (when : (w : World) → Fits w → refusal w call ≡ 0 → AcceptedKeeps w call) where

@@ -57,14 +57,7 @@ step-refused w call n e = rw (e, step)
 
 accepted-answer : (w : World) (call : Call) → accepted w call .answer ≡ 0
 unfolding accepted
-accepted-answer w load = refl
-accepted-answer w (emission t c amount) = refl
-accepted-answer w (withdrawal t c amount) = refl
-accepted-answer w (zonal k r fluxes) = refl
-accepted-answer w (meridional k fluxes) = refl
-accepted-answer w (remap table) = refl
-accepted-answer w (total t) = refl
-accepted-answer w (reading t c) = refl
+accepted-answer w call = refl
 
 pub answer-is : (w : World) (call : Call) → step w call .answer ≡ refusal w call
 unfolding refused
