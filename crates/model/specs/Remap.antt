@@ -101,4 +101,4 @@ remapCount w table =
 
 unfoldable pub remapped : World → List ℕ → World
 remapped w table =
-    moved w (remappedAir (w .grid) table (w .air)) (remappedGas (w .grid) table (w .air))
+    moved w (remappedAir (w .grid) table (w .air)) (λ t. remappedGas (w .grid) table (w .air))

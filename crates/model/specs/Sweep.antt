@@ -17,13 +17,14 @@ pub data Sides : Type 0 where
   southCap : ℕ → ℕ → Sides
   northCap : ℕ → ℕ → Sides
 
--- Cells and faces of a sweep: how many, the cell on the low and on the high side of a face, the faces of a cell
+-- Cells and faces of a sweep: how many, the cell on the low and on the high side of a face, the faces of a cell; and the rule that gives a cell's mismatch
 pub record Mesh : Type 0 where
   pub cells : ℕ
   pub faces : ℕ
   pub lowCell : ℕ → ℕ
   pub highCell : ℕ → ℕ
   pub sides : ℕ → Sides
+  pub rule : ℕ → ℕ → ℕ → Mismatch
 
 -- The row of W columns: "flux i crosses the face from column i to column i + 1 (the last to column 0) .. High side is east."
 abbrev pub eastOf : ℕ → ℕ → ℕ
@@ -34,7 +35,7 @@ westOf W i = elim i [ zero ↦ W - 1 | suc j ↦ j ]
 
 unfoldable pub ring : ℕ → Mesh
 ring W =
-    record { cells = W; faces = W; lowCell = λ i. i; highCell = eastOf W; sides = λ i. between (westOf W i) i }
+    record { cells = W; faces = W; lowCell = λ i. i; highCell = eastOf W; sides = λ i. between (westOf W i) i; rule = mismatch }
 
 -- The layer of W columns and R rows between two caps, n = R·W: "flux g·W + i crosses between rows g − 1 and g in column i .. row −1 is the south cap, row R the north cap. High side is north."
 -- Cell 1 + j is column i of row r with j = r·W + i; its low face is j and its high face W + j.
@@ -56,6 +57,7 @@ layer W R =
       lowCell = southOf W;
       highCell = northOf (R * W);
       sides = layerSides W (R * W);
+      rule = mismatch;
     }
 
 -- What passes each face, towards its high side and towards its low side
@@ -121,7 +123,7 @@ unfoldable pub cellMismatch : Mesh → List ℕ → List ℕ → ℕ → Mismatc
 cellMismatch mesh air gas c =
     elim (mesh .sides c) [
       | between l h ↦
-          mismatch (cellRatio air gas (mesh .lowCell l)) (cellRatio air gas c) (cellRatio air gas (mesh .highCell h))
+          mesh .rule (cellRatio air gas (mesh .lowCell l)) (cellRatio air gas c) (cellRatio air gas (mesh .highCell h))
       | southCap k n ↦ plain
       | northCap k n ↦ plain
     ]
@@ -159,4 +161,4 @@ swept w mesh a fluxes n =
     let old : List ℕ = part (w .air) a (mesh .cells) in
     moved w
     (written (w .air) a (airAfter mesh fluxes n old n))
-    (λ l. written l a (gasAfter mesh fluxes n old (part l a (mesh .cells)) n))
+    (λ t l. written l a (gasAfter mesh fluxes n old (part l a (mesh .cells)) n))

@@ -62,6 +62,6 @@ airTotal w = sum (worldCells (w .grid)) (at (w .air))
 abbrev pub airFits : ℕ → Bool
 airFits M = leb 1 M && leb M airLimit
 
--- a world after a call that moves air: new air, and each tracer changed by one and the same function of its own amounts
-abbrev pub moved : World → List ℕ → (List ℕ → List ℕ) → World
-moved w air change = withAmounts w air (joined (tab (w .grid .N) (λ t. change (gas w t))))
+-- a world after a call that moves air: new air, and the amounts of each tracer t changed by a function of themselves alone
+abbrev pub moved : World → List ℕ → (ℕ → List ℕ → List ℕ) → World
+moved w air change = withAmounts w air (joined (tab (w .grid .N) (λ t. change t (gas w t))))

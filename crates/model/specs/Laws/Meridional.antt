@@ -15,6 +15,7 @@ use Rattle.model.specs.Step.{meridional, ownPlaces, accepted, refusal, s
 use Rattle.model.specs.Lists.{CallInRange}
 use Rattle.model.specs.Laws.Layer.{layer-regular}
 use Rattle.model.specs.Laws.Range.{sweep-in-range}
+use Rattle.model.specs.Laws.Fractions.{mismatch-towards-high, mismatch-towards-low}
 use Rattle.model.specs.Laws.Step.{Fits, passed, found, accepted-passed}
 use Rattle.model.specs.Laws.Keeps.{AcceptedKeeps}
 use Rattle.model.specs.Laws.Sweep.{Sweeps, swept-kept, swept-cells-air, swept-alike, ChangesOnly, swept-changes-only, step-changes-only}
@@ -42,7 +43,7 @@ pub meridional-range : (k : ℕ) (fluxes : List ℤ) (w : World) → Fits w → 
 unfolding layer
 meridional-range k fluxes w fits e t h =
     let s = meridional-sweeps k fluxes w e in
-    sweep-in-range _ (s .regular) fluxes 1 _ _ (swept-cells-air w fits _ _ fluxes 1 s) (s .serving)
+    sweep-in-range _ (s .regular) (record { high = mismatch-towards-high; low = mismatch-towards-low }) fluxes 1 _ _ (swept-cells-air w fits _ _ fluxes 1 s) (s .serving)
 
 pub meridional-keeps : (k : ℕ) (fluxes : List ℤ) (w : World) → Fits w → refusal w (meridional k fluxes) ≡ 0 → ((t : ℕ) → t < w .grid .N → CallInRange w t (meridional k fluxes)) → AcceptedKeeps w (meridional k fluxes)
 unfolding accepted

@@ -28,34 +28,34 @@ pub record Conserves (cells : ℕ) (air new : List ℕ) (change : List ℕ → L
   pub gasKept : (had : List ℕ) → length had ≡ cells → sum cells (at (change had)) ≡ sum cells (at had)
   pub evenKept : (had : List ℕ) (z : ℕ) → length had ≡ cells → Even cells z air had → Even cells z new (change had)
 
-pub moved-kept : (w : World) → Fits w → (new : List ℕ) (change : List ℕ → List ℕ) → Conserves (worldCells (w .grid)) (w .air) new change → Kept w (moved w new change) (λ t. 0) (λ t. 0)
+pub moved-kept : (w : World) → Fits w → (new : List ℕ) (change : ℕ → List ℕ → List ℕ) → ((t : ℕ) → Conserves (worldCells (w .grid)) (w .air) new (change t)) → Kept w (moved w new change) (λ t. 0) (λ t. 0)
 moved-kept w fits new change conserves =
     record {
       fits =
           record {
             grid = fits .grid;
-            airLength = conserves .airLength;
+            airLength = conserves 0 .airLength;
             tracersLength = length-moved w new change as-many;
-            air = conserves .airIn;
+            air = conserves 0 .airIn;
             totals = λ t h. rw (total t h) (fits .totals t h);
           };
       sameGrid = refl;
       gasKept = λ t h. ap (λ (x : ℕ). x + 0) (total t h);
-      airKept = conserves .airKept;
-      ratioKept = λ t z h no-in no-out r. rw (gas-moved w new change as-many t h) (conserves .evenKept (gas w t) z (had t h) r);
+      airKept = conserves 0 .airKept;
+      ratioKept = λ t z h no-in no-out r. rw (gas-moved w new change as-many t h) (conserves t .evenKept (gas w t) z (had t h) r);
     }
   where
     had : (t : ℕ) → t < w .grid .N → length (gas w t) ≡ worldCells (w .grid)
     had t h = length-gas w t (fits .tracersLength) h
 
-    as-many : (t : ℕ) → t < w .grid .N → length (change (gas w t)) ≡ worldCells (w .grid)
-    as-many t h = conserves .gasLength (gas w t) (had t h)
+    as-many : (t : ℕ) → t < w .grid .N → length (change t (gas w t)) ≡ worldCells (w .grid)
+    as-many t h = conserves t .gasLength (gas w t) (had t h)
 
     total : (t : ℕ) → t < w .grid .N → gasTotal (moved w new change) t ≡ gasTotal w t
-    total t h = rw (gas-moved w new change as-many t h) (conserves .gasKept (gas w t) (had t h))
+    total t h = rw (gas-moved w new change as-many t h) (conserves t .gasKept (gas w t) (had t h))
 
 -- in two worlds of the same grid: the same new air, and the same new amounts of each own gas
-pub moved-alike : (own : ℕ → Bool) (w v : World) (new newer : List ℕ) (change alter : List ℕ → List ℕ) → ((t : ℕ) → t < w .grid .N → length (change (gas w t)) ≡ worldCells (w .grid)) → ((t : ℕ) → t < v .grid .N → length (alter (gas v t)) ≡ worldCells (v .grid)) → w .grid ≡ v .grid → new ≡ newer → ((t : ℕ) → t < w .grid .N → own t ≡ true → change (gas w t) ≡ alter (gas v t)) → Alike own (moved w new change) (moved v newer alter)
+pub moved-alike : (own : ℕ → Bool) (w v : World) (new newer : List ℕ) (change alter : ℕ → List ℕ → List ℕ) → ((t : ℕ) → t < w .grid .N → length (change t (gas w t)) ≡ worldCells (w .grid)) → ((t : ℕ) → t < v .grid .N → length (alter t (gas v t)) ≡ worldCells (v .grid)) → w .grid ≡ v .grid → new ≡ newer → ((t : ℕ) → t < w .grid .N → own t ≡ true → change t (gas w t) ≡ alter t (gas v t)) → Alike own (moved w new change) (moved v newer alter)
 moved-alike own w v new newer change alter many many-v sameGrid sameAir sameChange =
     record { sameGrid = sameGrid; sameAir = sameAir; sameGas = λ t o. same t o (ltb t (w .grid .N)) refl }
   where

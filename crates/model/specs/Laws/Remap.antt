@@ -141,11 +141,11 @@ pub remap-keeps : (table : List ℕ) (w : World) → Fits w → refusal w (remap
 unfolding accepted remapped remapCount
 remap-keeps table w fits e =
     record {
-      kept = moved-kept w fits _ _ (remap-conserves (w .grid) table (w .air) (fits .air) (remap-edges table w e));
+      kept = moved-kept w fits _ _ (λ t. remap-conserves (w .grid) table (w .air) (fits .air) (remap-edges table w e));
       inRange = λ t h. remap-in-range (w .grid) table (w .air) (fits .air) (remap-edges table w e) (gas w t);
       alike =
           λ own v fv a named. (
-            moved-alike own w v _ _ (remappedGas (w .grid) table (w .air)) (remappedGas (v .grid) table (v .air)) (λ t h. length-remapped _ _ _ _) (λ t h. length-remapped _ _ _ _) (a .sameGrid)
+            moved-alike own w v _ _ (λ t. remappedGas (w .grid) table (w .air)) (λ t. remappedGas (v .grid) table (v .air)) (λ t h. length-remapped _ _ _ _) (λ t h. length-remapped _ _ _ _) (a .sameGrid)
                 (ap₂ (λ (g : Grid) (air : List ℕ). remappedAir g table air) (a .sameGrid) (a .sameAir))
                 (λ t h o.
                 ap₂ (λ (g : Grid) (air : List ℕ). remappedGas g table air (gas w t)) (a .sameGrid) (a .sameAir) ∙
@@ -159,7 +159,7 @@ remap-keeps table w fits e =
 pub remap-leaves-in-range : (table : List ℕ) (w : World) → Fits w → refusal w (remap table) ≡ 0 → (t c j : ℕ) → t < w .grid .N → c < layerCells (w .grid) → j < w .grid .K → inRange (w .grid .K) (isNearLayer (w .grid .K) (shareAir table (column (w .grid) (w .air) c) (columnAir (w .grid) (w .air) c) j)) (column (w .grid) (w .air) c) (column (w .grid) (gas w t) c) 2 (at (accepted w (remap table) .next .air) (layerStart (w .grid) j + c)) (at (gas (accepted w (remap table) .next) t) (layerStart (w .grid) j + c)) ≡ true
 unfolding accepted remapped layerInRange
 remap-leaves-in-range table w fits e t c j ht hc hj =
-    rw (gas-moved w (remappedAir (w .grid) table (w .air)) (remappedGas (w .grid) table (w .air)) (λ t h. length-remapped _ _ _ _) t ht, remapped-air-at (w .grid) table (w .air) j c hj hc, remapped-gas-at (w .grid) table (w .air) j c hj hc (gas w t))
+    rw (gas-moved w (remappedAir (w .grid) table (w .air)) (λ t. remappedGas (w .grid) table (w .air)) (λ t h. length-remapped _ _ _ _) t ht, remapped-air-at (w .grid) table (w .air) j c hj hc, remapped-gas-at (w .grid) table (w .air) j c hj hc (gas w t))
     (remap-in-range (w .grid) table (w .air) (fits .air) (remap-edges table w e) (gas w t) c j hc hj)
 
 some-layer : (g : Grid) → gridFits g ≡ true → 1 ≤ g .K

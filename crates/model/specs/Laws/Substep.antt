@@ -69,7 +69,7 @@ allowed-is mesh flow air e =
 
 -- ---- the mismatch of a cell
 module _ (mesh : Mesh) (air gas : List ℕ) (c : ℕ) where
-  pub mismatch-between : (l h : ℕ) → mesh .sides c ≡ between l h → cellMismatch mesh air gas c ≡ mismatch (cellRatio air gas (mesh .lowCell l)) (cellRatio air gas c) (cellRatio air gas (mesh .highCell h))
+  pub mismatch-between : (l h : ℕ) → mesh .sides c ≡ between l h → cellMismatch mesh air gas c ≡ mesh .rule (cellRatio air gas (mesh .lowCell l)) (cellRatio air gas c) (cellRatio air gas (mesh .highCell h))
   unfolding cellMismatch
   mismatch-between l h e = rw (e, cellMismatch)
 
@@ -82,16 +82,16 @@ module _ (mesh : Mesh) (air gas : List ℕ) (c : ℕ) where
   mismatch-north k n e = rw (e, cellMismatch)
 
   -- it is at most twice the cell's ratio, and so it is safe
-  pub cell-twice : cellMismatch mesh air gas c .size ≤ 2 * cellRatio air gas c
-  cell-twice = go (mesh .sides c) refl
+  pub cell-twice : Regular mesh → cellMismatch mesh air gas c .size ≤ 2 * cellRatio air gas c
+  cell-twice regular = go (mesh .sides c) refl
     where
       go : (s : Sides) → mesh .sides c ≡ s → cellMismatch mesh air gas c .size ≤ 2 * cellRatio air gas c
-      go (between l h) e = rw (mismatch-between l h e) (mismatch-twice _ (cellRatio air gas c) _)
+      go (between l h) e = rw (mismatch-between l h e) (regular .ruleTwice _ (cellRatio air gas c) _)
       go (southCap k n) e = rw (mismatch-south k n e) (omega arith)
       go (northCap k n) e = rw (mismatch-north k n e) (omega arith)
 
-  pub cell-safe : Safe (cellMismatch mesh air gas c) (at air c) (at gas c)
-  cell-safe = ratio-safe (cellMismatch mesh air gas c) (at air c) (at gas c) cell-twice
+  pub cell-safe : Regular mesh → Safe (cellMismatch mesh air gas c) (at air c) (at gas c)
+  cell-safe regular = ratio-safe (cellMismatch mesh air gas c) (at air c) (at gas c) (cell-twice regular)
 
 -- ---- the pieces of a substep
 module _ (mesh : Mesh) (flow : Flow) (air gas : List ℕ) where
@@ -128,7 +128,7 @@ module _ (mesh : Mesh) (regular : Regular mesh) (flow : Flow) (air gas : List �
             arith,
             piece-down mesh flow air gas l c (m .2),
             piece-up mesh flow air gas h c (m .3),
-            pieces-le (cellMismatch mesh air gas c) M T (cell-safe mesh air gas c) hM (flow .toHigh h) (flow .toLow l) (omega arith),
+            pieces-le (cellMismatch mesh air gas c) M T (cell-safe mesh air gas c regular) hM (flow .toHigh h) (flow .toLow l) (omega arith),
           )
       go (southCap k n) e room m =
           rw (sum-ext n _ _ (λ i p. piece-up mesh flow air gas (k + i) c (m i p .1)))
@@ -156,7 +156,7 @@ module _ (mesh : Mesh) (regular : Regular mesh) (flow : Flow) (air gas : List �
         go : (s : Sides) → mesh .sides c ≡ s → Meets mesh c s → cellMismatch mesh air gas c .size ≡ 0
         go (between l h) e m =
             rw (mismatch-between mesh air gas c l h e, even-ratio (mesh .lowCell l) (regular .lowIn l (m .0)), even-ratio (mesh .highCell h) (regular .highIn h (m .1)))
-            (mismatch-equal (scale * z) (cellRatio air gas c))
+            (regular .ruleEqual (scale * z) (cellRatio air gas c))
         go (southCap k n) e m = ap (λ (d : Mismatch). d .size) (mismatch-south mesh air gas c k n e)
         go (northCap k n) e m = ap (λ (d : Mismatch). d .size) (mismatch-north mesh air gas c k n e)
 

@@ -138,13 +138,13 @@ module _ (w : World) (fits : Fits w) (mesh : Mesh) (a : ℕ) (inside : a + mesh 
 
   pub swept-gas : (t : ℕ) → t < w .grid .N → gas (swept w mesh a fluxes n) t ≡ sweptGas mesh a fluxes n (w .air) (gas w t)
   unfolding swept
-  swept-gas = gas-moved w (sweptAir mesh a fluxes n (w .air)) (sweptGas mesh a fluxes n (w .air)) swept-as-many
+  swept-gas = gas-moved w (sweptAir mesh a fluxes n (w .air)) (λ t. sweptGas mesh a fluxes n (w .air)) swept-as-many
 
 pub swept-kept : (w : World) → Fits w → (mesh : Mesh) (a : ℕ) (fluxes : List ℤ) (n : ℕ) → Sweeps w mesh a fluxes n → Kept w (swept w mesh a fluxes n) (λ t. 0) (λ t. 0)
 unfolding swept
 swept-kept w fits mesh a fluxes n s =
     moved-kept w fits _ _
-    (sweep-conserves mesh a fluxes n (worldCells (w .grid)) (s .inside) (w .air) (fits .airLength) (fits .air) (s .regular) (s .serving))
+    (λ t. sweep-conserves mesh a fluxes n (worldCells (w .grid)) (s .inside) (w .air) (fits .airLength) (fits .air) (s .regular) (s .serving))
 
 -- each of the swept cells has air
 pub swept-cells-air : (w : World) → Fits w → (mesh : Mesh) (a : ℕ) (fluxes : List ℤ) (n : ℕ) → Sweeps w mesh a fluxes n → (c : ℕ) → c < mesh .cells → 1 ≤ at (part (w .air) a (mesh .cells)) c
@@ -224,8 +224,8 @@ module _ (meshOf : Grid → Mesh) (startOf : Grid → ℕ) (countOf : Grid → L
       same : Alike own (swept w mesh a fluxes n) (swept v mesh a fluxes n)
       same =
           moved-alike own w v _ _
-          (sweptGas mesh a fluxes n (w .air))
-          (sweptGas mesh a fluxes n (v .air))
+          (λ t. sweptGas mesh a fluxes n (w .air))
+          (λ t. sweptGas mesh a fluxes n (v .air))
           (swept-as-many w fw mesh a inside fluxes n)
           (swept-as-many v fv mesh a (rw (← (alike .sameGrid)) inside) fluxes n)
           (alike .sameGrid)

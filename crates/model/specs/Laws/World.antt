@@ -49,17 +49,17 @@ gas-absent w t fits h =
     take-nil (worldCells (w .grid))
 
 -- the world after a call that moves air: each tracer's amounts are the changed ones, if these are as many
-module _ (w : World) (air : List ℕ) (change : List ℕ → List ℕ) (as-many : (t : ℕ) → t < w .grid .N → length (change (gas w t)) ≡ worldCells (w .grid)) where
+module _ (w : World) (air : List ℕ) (change : ℕ → List ℕ → List ℕ) (as-many : (t : ℕ) → t < w .grid .N → length (change t (gas w t)) ≡ worldCells (w .grid)) where
   changed : List (List ℕ)
-  changed = tab (w .grid .N) (λ t. change (gas w t))
+  changed = tab (w .grid .N) (λ t. change t (gas w t))
 
   many : length changed ≡ w .grid .N
   unfolding changed
-  many = length-tab (w .grid .N) (λ t. change (gas w t))
+  many = length-tab (w .grid .N) (λ t. change t (gas w t))
 
-  changed-at : (t : ℕ) → t < w .grid .N → getD changed t [] ≡ change (gas w t)
+  changed-at : (t : ℕ) → t < w .grid .N → getD changed t [] ≡ change t (gas w t)
   unfolding changed
-  changed-at t h = getD-tab (w .grid .N) (λ t. change (gas w t)) t [] h
+  changed-at t h = getD-tab (w .grid .N) (λ t. change t (gas w t)) t [] h
 
   each : Each (worldCells (w .grid)) changed
   each t h = let p : t < w .grid .N = rw many at h in rw (changed-at t p) (as-many t p)
@@ -68,6 +68,6 @@ module _ (w : World) (air : List ℕ) (change : List ℕ → List ℕ) (as-many 
   unfolding changed
   length-moved = length-joined (worldCells (w .grid)) changed each ∙ ap (λ (n : ℕ). n * worldCells (w .grid)) many
 
-  pub gas-moved : (t : ℕ) → t < w .grid .N → gas (moved w air change) t ≡ change (gas w t)
+  pub gas-moved : (t : ℕ) → t < w .grid .N → gas (moved w air change) t ≡ change t (gas w t)
   unfolding changed
   gas-moved t h = part-joined (worldCells (w .grid)) changed each t (rw many h) ∙ changed-at t h

@@ -16,6 +16,7 @@ use Rattle.model.specs.Step.{zonal, firstOf, fluxTooLarge, commonPlaces,
 use Rattle.model.specs.Lists.{CallInRange, SameReply}
 use Rattle.model.specs.Laws.Ring.{ring-regular}
 use Rattle.model.specs.Laws.Range.{sweep-in-range}
+use Rattle.model.specs.Laws.Fractions.{mismatch-towards-high, mismatch-towards-low}
 use Rattle.model.specs.Laws.Chain.{count-smallest}
 use Rattle.model.specs.Laws.Step.{Fits, firstOf-same, passed, found, step-accepted, step-refused, answer-is, own-refusal, common-passed, accepted-passed}
 use Rattle.model.specs.Laws.Keeps.{AcceptedKeeps}
@@ -48,7 +49,7 @@ pub zonal-range : (k r : ℕ) (fluxes : List ℤ) (w : World) → Fits w → ref
 unfolding ring
 zonal-range k r fluxes w fits e t h =
     let s = zonal-sweeps k r fluxes w e in
-    sweep-in-range _ (s .regular) fluxes _ _ _ (swept-cells-air w fits _ _ fluxes _ s) (s .serving)
+    sweep-in-range _ (s .regular) (record { high = mismatch-towards-high; low = mismatch-towards-low }) fluxes _ _ _ (swept-cells-air w fits _ _ fluxes _ s) (s .serving)
 
 pub zonal-keeps : (k r : ℕ) (fluxes : List ℤ) (w : World) → Fits w → refusal w (zonal k r fluxes) ≡ 0 → ((t : ℕ) → t < w .grid .N → CallInRange w t (zonal k r fluxes)) → AcceptedKeeps w (zonal k r fluxes)
 unfolding accepted ring
