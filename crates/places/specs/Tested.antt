@@ -12,7 +12,7 @@ use lib.ListN.{length}
 use Rattle.model.specs.Limits.{totalLimit}
 use Rattle.model.specs.Basic.{at, every}
 use Rattle.model.specs.World.{Grid, World, worldCells, gasTotal, airFits}
-use Rattle.model.specs.Step.{Call, commonPlaces, refusal, gridFits, lengthsFit, lentFits}
+use Rattle.model.specs.Step.{Call, Place, commonPlaces, refusal, gridFits, lengthsFit, lentFits}
 use Rattle.model.specs.Laws.Basic.{every-at, every-ext}
 use Rattle.model.specs.Laws.Step.{Fits, passes, stops}
 use Rattle.units.specs.declared.Answer.{Answer}
@@ -143,9 +143,10 @@ module _ (w : World) (lent : Lent) (answer : Answer) (sums : List ℕ) where
           }
 
 -- refused by places 1 to 4, whatever is tested after them
-pub placed-common : {w : World} {lent : Lent} {tested : Answer} {sums : List ℕ} {call : Call} {answer : Answer} {Found : Type 0} → IsTested w lent tested sums → lentFits (w .grid) call ≡ lentServes (w .grid) lent → (numberOf tested ≡ 0 → ⊥) → answer ≡ tested → Placed w call answer Found
-placed-common {w} {lent} {tested} {sums} {call} is fit nonzero e =
+pub placed-common : {w : World} {lent : Lent} {tested : Answer} {sums : List ℕ} {ps : List Place} {answer : Answer} {Found : Type 0} → IsTested w lent tested sums → (numberOf tested ≡ 0 → ⊥) → answer ≡ tested → Placed w (lentServes (w .grid) lent) ps answer Found
+placed-common {w} {lent} {tested} is nonzero e =
     record {
-      refused = λ _. rw e (refused-agrees w call tested (is .refused nonzero call fit) nonzero (is .count));
+      refused = λ _ call rest asks. rw e (refused-agrees w call tested (is .refused nonzero call (asks .0)) nonzero (is .count));
       found = λ z. absurd (nonzero (rw e at z));
+      left = λ z. absurd (nonzero (rw e at z));
     }

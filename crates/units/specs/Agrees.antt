@@ -1,13 +1,13 @@
 -- How a call's answer comes to agree with `step`: refused by one of its places, or accepted; and what a function that tests a call's places gives.
 -- Assumes nothing.
 use Prim.Native.Nat.{ℕ, zero, suc, _≤_, _<_}
-use mathlib.Core.List.{List, [], _∷_}
-use mathlib.Core.Bool.{true, false, not}
+use mathlib.Core.List.{List, [], _∷_, _++_}
+use mathlib.Core.Bool.{Bool, true, false, not}
 use mathlib.Core.Path.{_≡_, refl, sym, ap, _∙_}
 use borrow.Author.Tests.{lt-ltb, le-ltb}
 use Rattle.model.specs.World.{Grid, World}
-use Rattle.model.specs.Step.{Call, Result, Place, firstOf, absent, refusal, accepted, refused, step}
-use Rattle.model.specs.Laws.Step.{passes, stops, step-accepted, step-refused, answer-is}
+use Rattle.model.specs.Step.{Call, Result, Place, firstOf, absent, lentFits, ownPlaces, refusal, accepted, refused, step}
+use Rattle.model.specs.Laws.Step.{Fits, own-refusal, passes, stops, step-accepted, step-refused, answer-is}
 use Rattle.units.specs.declared.Answer.{Answer}
 use Rattle.units.specs.declared.Answer.the-variants.{Refused}
 use Rattle.units.specs.declared.Refusal.{Refusal}
@@ -65,18 +65,30 @@ module _ {w : World} {call : Call} where
   pub missing : (i : ℕ) (many : Grid → ℕ) {ps : List Place} → Left w call (absent i many ∷ ps) → many (w .grid) ≤ i → refusal w call ≡ 5
   missing i many left h = stop left (ap not (le-ltb i (many (w .grid)) h))
 
--- ---- what a function that tests a call's places gives: a refusal, which is `step`'s, or what it found
-pub record Placed (w : World) (call : Call) (answer : Answer) (Found : Type 0) : Type 0 where
-  pub refused : (numberOf answer ≡ 0 → ⊥) → Agrees w call answer w
-  pub found : numberOf answer ≡ 0 → Found
+-- ---- what a function that tests places gives, for every call whose own places begin with `ps` and whose lent list fits where `lent` is true:
+-- a refusal, which is `step`'s; or what it found, and the places that are left
+abbrev pub Asks : World → Bool → List Place → Call → List Place → Type 0
+Asks w lent ps call rest = (lentFits (w .grid) call ≡ lent) × (ownPlaces call ≡ ps ++ rest)
 
-module _ {w : World} {call : Call} {answer : Answer} {Found : Type 0} where
-  pub placed-refused : (r : Refusal) → (refusalNumber r ≡ 0 → ⊥) → answer ≡ Refused r → refusal w call ≡ refusalNumber r → Placed w call answer Found
+pub record Placed (w : World) (lent : Bool) (ps : List Place) (answer : Answer) (Found : Type 0) : Type 0 where
+  pub refused : (numberOf answer ≡ 0 → ⊥) → (call : Call) (rest : List Place) → Asks w lent ps call rest → Agrees w call answer w
+  pub found : numberOf answer ≡ 0 → Found
+  pub left : numberOf answer ≡ 0 → (call : Call) (rest : List Place) → Asks w lent ps call rest → Left w call rest
+
+-- once places 1 to 4 are passed, a call's own places are left
+pub own-left : {w : World} {lent : Bool} (ps : List Place) → Fits w → lent ≡ true → (call : Call) (rest : List Place) → Asks w lent ps call rest → Left w call (ps ++ rest)
+own-left {w} ps fits e call rest asks =
+    record { is = own-refusal w call fits (asks .0 ∙ e) ∙ ap (λ (l : List Place). firstOf l w) (asks .1) }
+
+module _ {w : World} {lent : Bool} {ps : List Place} {answer : Answer} {Found : Type 0} where
+  pub placed-refused : (r : Refusal) → (refusalNumber r ≡ 0 → ⊥) → answer ≡ Refused r → ((call : Call) (rest : List Place) → Asks w lent ps call rest → refusal w call ≡ refusalNumber r) → Placed w lent ps answer Found
   placed-refused r nonzero e by =
       record {
-        refused = λ _. rw e (place-agrees w call r by nonzero);
+        refused = λ _ call rest asks. rw e (place-agrees w call r (by call rest asks) nonzero);
         found = λ z. absurd (nonzero (rw e at z));
+        left = λ z. absurd (nonzero (rw e at z));
       }
 
-  pub placed-found : numberOf answer ≡ 0 → Found → Placed w call answer Found
-  placed-found accepted found = record { refused = λ nonzero. absurd (nonzero accepted); found = λ z. found }
+  pub placed-found : numberOf answer ≡ 0 → Found → ((call : Call) (rest : List Place) → Asks w lent ps call rest → Left w call rest) → Placed w lent ps answer Found
+  placed-found accepted found left =
+      record { refused = λ nonzero. absurd (nonzero accepted); found = λ z. found; left = λ z. left }

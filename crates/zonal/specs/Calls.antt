@@ -1,6 +1,6 @@
 -- A zonal sweep's places in order, what it finds, and what it leaves.
 -- Assumes nothing.
-use Prim.Native.Nat.{ℕ, _+_, _-_, _≤_, _<_}
+use Prim.Native.Nat.{ℕ, zero, suc, _+_, _-_, _≤_, _<_}
 use mathlib.Core.List.{List, [], _∷_}
 use mathlib.Core.Bool.{Bool, true}
 use mathlib.Core.Path.{_≡_, refl, sym, ap, ap₂, _∙_}
@@ -11,10 +11,13 @@ use Rattle.model.specs.Limits.{zonalLimit}
 use Rattle.model.specs.Basic.{part, every}
 use Rattle.model.specs.World.{World, rowStart}
 use Rattle.model.specs.Sweep.{ring, flux, substepCount}
-use Rattle.model.specs.Step.{Place, place, firstOf, ownPlaces, refusal, layerAbsent, rowAbsent, fluxTooLarge, rowAir, zonalCount, zonal}
+use Rattle.model.specs.Step.{Place, place, ownPlaces, layerAbsent, rowAbsent, fluxTooLarge, rowAir, zonalCount, zonal, accepted}
 use Rattle.model.specs.Laws.Basic.{length-part}
-use Rattle.model.specs.Laws.Step.{Fits, own-refusal}
-use Rattle.units.specs.Agrees.{Left}
+use Rattle.model.specs.Laws.Step.{Fits}
+use Rattle.units.specs.declared.Answer.{Answer}
+use Rattle.units.specs.Answer.{numberOf, countOf, Agrees}
+use Rattle.units.specs.Agrees.{Placed, none, accepted-agrees}
+use native.Mathlib.Omega.{arith}
 use Rattle.substep.specs.Lent.{part-lent}
 use Rattle.row.specs.Substeps.{rowMesh, RowNeed}
 
@@ -41,18 +44,17 @@ module _ (w : World) (k r : ℕ) (fluxes : List ℤ) (long : length fluxes ≡ w
 abbrev pub no-count : ℕ → ℕ → List ℤ → Place
 no-count k r fluxes = place 9 (λ w. eqb (zonalCount w k r fluxes) 0)
 
-zonal-places : (k r : ℕ) (fluxes : List ℤ) → ownPlaces (zonal k r fluxes) ≡ layerAbsent k ∷ rowAbsent r ∷ fluxTooLarge fluxes zonalLimit ∷ no-count k r fluxes ∷ []
+-- the places of the calls that name a row and lend its fluxes
+abbrev pub rowPlaces : ℕ → ℕ → List ℤ → List Place
+rowPlaces k r fluxes = layerAbsent k ∷ rowAbsent r ∷ fluxTooLarge fluxes zonalLimit ∷ no-count k r fluxes ∷ []
+
+pub zonal-places : (k r : ℕ) (fluxes : List ℤ) → ownPlaces (zonal k r fluxes) ≡ rowPlaces k r fluxes
 unfolding ownPlaces
 zonal-places k r fluxes = refl
 
 -- the test of place 8
 abbrev pub fluxesFit : List ℤ → Bool
 fluxesFit fluxes = every (length fluxes) (λ i. leb (natAbs (flux fluxes i)) zonalLimit)
-
--- once places 1 to 4 are passed, these are left
-pub zonal-left : (w : World) → Fits w → (k r : ℕ) (fluxes : List ℤ) → eqb (length fluxes) (w .grid .W) ≡ true → Left w (zonal k r fluxes) (layerAbsent k ∷ rowAbsent r ∷ fluxTooLarge fluxes zonalLimit ∷ no-count k r fluxes ∷ [])
-zonal-left w fits k r fluxes lent =
-    record { is = own-refusal w (zonal k r fluxes) fits lent ∙ ap (λ (ps : List Place). firstOf ps w) (zonal-places k r fluxes) }
 
 -- ---- what `row_place` finds
 pub record RowFound (w : World) (k r : ℕ) (fluxes : List ℤ) (first count : ℕ) : Type 0 where
@@ -64,4 +66,3 @@ pub record RowFound (w : World) (k r : ℕ) (fluxes : List ℤ) (first count : �
   pub countIs : count ≡ zonalCount w k r fluxes
   pub some : 0 < count
   pub most : count ≤ 16
-  pub accepting : refusal w (zonal k r fluxes) ≡ 0

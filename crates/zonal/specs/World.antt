@@ -13,7 +13,7 @@ use Rattle.model.specs.Limits.{totalLimit}
 use Rattle.model.specs.Basic.{at, part, written, joined, tab, sum}
 use Rattle.model.specs.World.{World, worldCells, rowStart}
 use Rattle.model.specs.Sweep.{ring, airAfter, gasAfter, serves, swept}
-use Rattle.model.specs.Step.{accepted, rowAir, zonalCount, zonal}
+use Rattle.model.specs.Step.{accepted, refusal, rowAir, zonalCount, zonal}
 use Rattle.model.specs.Laws.Chain.{length-air-after}
 use Rattle.model.specs.Laws.Sweep.{Sweeps, cells-in}
 use Rattle.model.specs.Laws.Zonal.{zonal-sweeps}
@@ -117,12 +117,12 @@ module _ (g : declared.Grid) (tracers air : List ℕ) (first : ℕ) (fluxes : Li
           }
 
 -- ---- the call, once its row is found
-module _ (g : declared.Grid) (air tracers : List ℕ) (k r : ℕ) (fluxes : List ℤ) (first count : ℕ) (found : RowFound (worldOf g air tracers) k r fluxes first count) where
+module _ (g : declared.Grid) (air tracers : List ℕ) (k r : ℕ) (fluxes : List ℤ) (first count : ℕ) (found : RowFound (worldOf g air tracers) k r fluxes first count) (accepting : refusal (worldOf g air tracers) (zonal k r fluxes) ≡ 0) where
   abbrev w : World
   w = worldOf g air tracers
 
   sweeps : Sweeps w (ring (g .w)) (rowStart (w .grid) k r) fluxes (zonalCount w k r fluxes)
-  sweeps = zonal-sweeps k r fluxes w (found .accepting)
+  sweeps = zonal-sweeps k r fluxes w accepting
 
   range : InRange g
   range = in-range g (found .fits .grid)
@@ -188,7 +188,7 @@ module _ (g : declared.Grid) (air tracers : List ℕ) (k r : ℕ) (fluxes : List
     pub zonal-agrees : (answer : Answer) → numberOf answer ≡ 0 → countOf answer ≡ count → Agrees w (zonal k r fluxes) answer (worldOf g (putMid first (first + g .w - first) air new) after)
     unfolding accepted swept ring
     zonal-agrees answer zero counted =
-        accepted-agrees w (zonal k r fluxes) answer _ (found .accepting) zero (counted ∙ found .countIs)
+        accepted-agrees w (zonal k r fluxes) answer _ accepting zero (counted ∙ found .countIs)
         (ap₂ (worldOf g)
         (put-back air new first (g .w) new-long ∙ ap₂ (λ (i : ℕ) (l : List ℕ). written air i l) (found .start) air-end)
         (swept-is .tracersAre ∙ ap₂ (λ (i n : ℕ). tracers-from i n lent) (found .start) (found .countIs) ∙

@@ -1,10 +1,13 @@
 // The zonal sweep of one row in one layer.
 ghost use mathlib.Core.Path.{_≡_};
 ghost use Rattle.model.specs.Step.{zonal as zonal-call};
+ghost use Rattle.units.specs.Answer.{countOf};
+ghost use lib.Dec.{eqb};
+ghost use lib.ListN.{length};
 ghost use Rattle.units.specs.Answer.{Agrees};
 ghost use Rattle.units.specs.Grid.{worldOf};
 ghost use Rattle.units.specs.Agrees.{Placed};
-ghost use Rattle.zonal.specs.Calls.{RowFound};
+ghost use Rattle.zonal.specs.Calls.{rowPlaces, RowFound};
 ghost use Rattle.zonal.specs.World.{RowReady, IsSwept};
 use places::Lent;
 use places::common_places;
@@ -46,7 +49,7 @@ fn row_place(
     row: u32,
     fluxes: &[i32],
 ) -> RowPlace
-    ensures { λ p. ⌜ Placed (worldOf g (now (air .entry)) (now (tracers .entry))) (zonal-call layer row (now (fluxes .entry))) (p .answer) (RowFound (worldOf g (now (air .entry)) (now (tracers .entry))) layer row (now (fluxes .entry)) (p .first) (p .count)) ⌝ }
+    ensures { λ p. ⌜ Placed (worldOf g (now (air .entry)) (now (tracers .entry))) (eqb (length (now (fluxes .entry))) (g .w)) (rowPlaces layer row (now (fluxes .entry))) (p .answer) (RowFound (worldOf g (now (air .entry)) (now (tracers .entry))) layer row (now (fluxes .entry)) (p .first) (p .count) × (countOf (p .answer) ≡ p .count)) ⌝ }
 {
     let tested = common_places(g, air, tracers, Lent::RowFluxes(fluxes.len()));
     let answer = tested.answer;

@@ -9,9 +9,9 @@ use lib.ListN.{length}
 use Rattle.model.specs.Step.{zonalCount}
 use Rattle.units.specs.Grid.{worldOf, in-range}
 use Rattle.units.specs.declared.Refusal.the-variants.{Index, Fluxes, Zonal}
-use Rattle.units.specs.Agrees.{next, stop, none, there, missing, placed-refused, placed-found}
+use Rattle.units.specs.Agrees.{own-left, next, stop, there, missing, placed-refused, placed-found}
 use Rattle.places.specs.Tested.{placed-common}
-use Rattle.zonal.specs.Calls.{zonal-left, row-lent-need, count-found}
+use Rattle.zonal.specs.Calls.{rowPlaces, row-lent-need, count-found}
 use borrow.Author.Needs.{needs}
 use Rattle.zonal.proofs.row_place.Statement.{statement}
 use Rattle.zonal.proofs.row_place.Tie as tie
@@ -26,7 +26,7 @@ no-row-requires : tie.Need-no-row-requires
 no-row-requires c κs = search needs
 
 returns : tie.Need-returns
-returns c = placed-common (c .before .before .before .common-places .ensures) refl (λ z. omega (arith, c .before .before .number .ensures)) (c .no-row .ensures)
+returns c = placed-common (c .before .before .before .common-places .ensures) (λ z. omega (arith, c .before .before .number .ensures)) (c .no-row .ensures)
 
 no-row-requires-2 : tie.Need-no-row-requires-2
 no-row-requires-2 c κs = search needs
@@ -36,8 +36,8 @@ returns-2 c =
     let args = c .before .before .before .before .before .before .before .before .args in
     let w = worldOf (args .g) (args .air .now) (args .tracers .now) in
     let passed = c .before .before .before .before .before .common-places .ensures .passed (sym (c .before .before .before .before .number .ensures) ∙ c .before .before .before .if1 .taken) in
-    let left = zonal-left w (passed .fits) (args .layer) (args .row) (args .fluxes .now) (passed .lentFit) in
-    placed-refused Index (λ z. omega arith) (c .no-row2 .ensures) (missing _ (λ g. g .K) left (search needs))
+    let left = own-left (rowPlaces (args .layer) (args .row) (args .fluxes .now)) (passed .fits) (passed .lentFit) in
+    placed-refused Index (λ z. omega arith) (c .no-row2 .ensures) (λ call rest asks. missing _ (λ g. g .K) (left call rest asks) (search needs))
 
 no-row-requires-3 : tie.Need-no-row-requires-3
 no-row-requires-3 c κs = search needs
@@ -47,8 +47,8 @@ returns-3 c =
     let args = c .before .before .before .before .before .before .before .before .before .before .args in
     let w = worldOf (args .g) (args .air .now) (args .tracers .now) in
     let passed = c .before .before .before .before .before .before .before .common-places .ensures .passed (sym (c .before .before .before .before .before .before .number .ensures) ∙ c .before .before .before .before .before .if1 .taken) in
-    let left = zonal-left w (passed .fits) (args .layer) (args .row) (args .fluxes .now) (passed .lentFit) in
-    placed-refused Index (λ z. omega arith) (c .no-row3 .ensures) (missing _ (λ g. g .R) (there _ (λ g. g .K) left (search needs)) (search needs))
+    let left = own-left (rowPlaces (args .layer) (args .row) (args .fluxes .now)) (passed .fits) (passed .lentFit) in
+    placed-refused Index (λ z. omega arith) (c .no-row3 .ensures) (λ call rest asks. missing _ (λ g. g .R) (there _ (λ g. g .K) (left call rest asks) (search needs)) (search needs))
 
 fluxes-fit-requires : tie.Need-fluxes-fit-requires
 fluxes-fit-requires c κs = search needs
@@ -61,8 +61,8 @@ returns-4 c =
     let args = c .before .before .before .before .before .before .before .before .before .before .before .before .args in
     let w = worldOf (args .g) (args .air .now) (args .tracers .now) in
     let passed = c .before .before .before .before .before .before .before .before .before .common-places .ensures .passed (sym (c .before .before .before .before .before .before .before .before .number .ensures) ∙ c .before .before .before .before .before .before .before .if1 .taken) in
-    let left = zonal-left w (passed .fits) (args .layer) (args .row) (args .fluxes .now) (passed .lentFit) in
-    placed-refused Fluxes (λ z. omega arith) (c .no-row4 .ensures) (stop (there _ (λ g. g .R) (there _ (λ g. g .K) left (search needs)) (search needs)) (ap not (sym (c .before .before .fluxes-fit .ensures) ∙ c .before .if4 .left)))
+    let left = own-left (rowPlaces (args .layer) (args .row) (args .fluxes .now)) (passed .fits) (passed .lentFit) in
+    placed-refused Fluxes (λ z. omega arith) (c .no-row4 .ensures) (λ call rest asks. stop (there _ (λ g. g .R) (there _ (λ g. g .K) (left call rest asks) (search needs)) (search needs)) (ap not (sym (c .before .before .fluxes-fit .ensures) ∙ c .before .if4 .left)))
 
 row-start-requires : tie.Need-row-start-requires
 row-start-requires c κs =
@@ -117,25 +117,25 @@ returns-5 c =
     let args = c .before .before .before .before .before .before .before .before .before .before .before .before .before .before .before .before .before .args in
     let w = worldOf (args .g) (args .air .now) (args .tracers .now) in
     let passed = c .before .before .before .before .before .before .before .before .before .before .before .before .before .before .common-places .ensures .passed (sym (c .before .before .before .before .before .before .before .before .before .before .before .before .before .number .ensures) ∙ c .before .before .before .before .before .before .before .before .before .before .before .before .if1 .taken) in
-    let left = zonal-left w (passed .fits) (args .layer) (args .row) (args .fluxes .now) (passed .lentFit) in
+    let left = own-left (rowPlaces (args .layer) (args .row) (args .fluxes .now)) (passed .fits) (passed .lentFit) in
     let start = c .before .before .before .before .before .row-start .ensures in
     let long = eqb-true (length (args .fluxes .now)) (args .g .w) (passed .lentFit) in
     let inside : c .before .before .before .before .before .row-start .result + args .g .w ≤ length (args .air .now) = omega (arith, start .1, passed .fits .airLength) in
     let counted = c .before .before .count .ensures .is ∙ count-found w (args .layer) (args .row) (args .fluxes .now) long _ (start .0) inside in
-    placed-refused Zonal (λ z. omega arith) (c .no-row5 .ensures) (stop (next (there _ (λ g. g .R) (there _ (λ g. g .K) left (search needs)) (search needs)) (ap not (sym (c .before .before .before .before .before .before .before .fluxes-fit .ensures) ∙ c .before .before .before .before .before .before .if4 .taken))) (eq-eqb _ _ (sym counted ∙ omega arith)))
+    placed-refused Zonal (λ z. omega arith) (c .no-row5 .ensures) (λ call rest asks. stop (next (there _ (λ g. g .R) (there _ (λ g. g .K) (left call rest asks) (search needs)) (search needs)) (ap not (sym (c .before .before .before .before .before .before .before .fluxes-fit .ensures) ∙ c .before .before .before .before .before .before .if4 .taken))) (eq-eqb _ _ (sym counted ∙ omega arith)))
 
 returns-6 : tie.Need-returns-6
 returns-6 c =
     let args = c .before .before .before .before .before .before .before .before .before .before .before .before .before .before .before .before .args in
     let w = worldOf (args .g) (args .air .now) (args .tracers .now) in
     let passed = c .before .before .before .before .before .before .before .before .before .before .before .before .before .common-places .ensures .passed (sym (c .before .before .before .before .before .before .before .before .before .before .before .before .number .ensures) ∙ c .before .before .before .before .before .before .before .before .before .before .before .if1 .taken) in
-    let left = zonal-left w (passed .fits) (args .layer) (args .row) (args .fluxes .now) (passed .lentFit) in
+    let left = own-left (rowPlaces (args .layer) (args .row) (args .fluxes .now)) (passed .fits) (passed .lentFit) in
     let start = c .before .before .before .before .row-start .ensures in
     let long = eqb-true (length (args .fluxes .now)) (args .g .w) (passed .lentFit) in
     let inside : c .before .before .before .before .row-start .result + args .g .w ≤ length (args .air .now) = omega (arith, start .1, passed .fits .airLength) in
     let counted = c .before .count .ensures .is ∙ count-found w (args .layer) (args .row) (args .fluxes .now) long _ (start .0) inside in
     placed-found refl
-    record {
+    (record {
       fits = passed .fits;
       long = long;
       layerIn = search needs;
@@ -144,9 +144,8 @@ returns-6 c =
       countIs = counted;
       some = search needs;
       most = c .before .count .ensures .most;
-      accepting =
-          none (next (next (there _ (λ g. g .R) (there _ (λ g. g .K) left (search needs)) (search needs)) (ap not (sym (c .before .before .before .before .before .before .fluxes-fit .ensures) ∙ c .before .before .before .before .before .if4 .taken))) (ne-eqb _ _ (λ (z : zonalCount w (args .layer) (args .row) (args .fluxes .now) ≡ 0). omega (arith, counted))));
-    }
+    }, refl)
+    (λ call rest asks. next (next (there _ (λ g. g .R) (there _ (λ g. g .K) (left call rest asks) (search needs)) (search needs)) (ap not (sym (c .before .before .before .before .before .before .fluxes-fit .ensures) ∙ c .before .before .before .before .before .if4 .taken))) (ne-eqb _ _ (λ (z : zonalCount w (args .layer) (args .row) (args .fluxes .now) ≡ 0). omega (arith, counted))))
 
 pub row-place-spec : {M : Type 1} → statement M
 row-place-spec =

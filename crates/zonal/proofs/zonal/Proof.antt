@@ -2,6 +2,10 @@
 -- Assumes nothing.
 use mathlib.Core.Path.{refl, sym, _∙_}
 use native.Mathlib.Omega.{arith}
+use mathlib.Core.List.{[]}
+use Rattle.model.specs.Step.{zonal}
+use Rattle.units.specs.Agrees.{none}
+use Rattle.zonal.specs.Calls.{zonal-places}
 use Rattle.zonal.specs.World.{row-near, row-in-air, row-ready, zonal-agrees}
 use borrow.Author.Needs.{needs}
 use Rattle.zonal.proofs.zonal.Statement.{statement}
@@ -20,7 +24,9 @@ same-length-2 : tie.Need-same-length-2
 same-length-2 c = search needs
 
 returns : tie.Need-returns
-returns c = c .before .before .row-place .ensures .refused (λ z. omega (arith, c .before .number .ensures))
+returns c =
+    let a = c .before .before .before .before .before .before .before .args in
+    c .before .before .row-place .ensures .refused (λ z. omega (arith, c .before .number .ensures)) (zonal (a .layer) (a .row) (a .fluxes .now)) [] (refl, zonal-places _ _ _)
 
 cast-end : tie.Need-cast-end
 cast-end c = search needs
@@ -28,14 +34,20 @@ cast-end c = search needs
 add-end : tie.Need-add-end
 add-end c =
     let a = c .before .before .before .before .before .before .before .before .args in
-    let found = c .before .before .before .row-place .ensures .found (sym (c .before .before .number .ensures) ∙ c .before .if1 .taken) in
-    omega (arith, row-near (a .g) (a .air .now) (a .tracers .now) (a .layer) (a .row) (a .fluxes .now) _ _ found)
+    let z = (sym (c .before .before .number .ensures) ∙ c .before .if1 .taken) in
+    let placed = c .before .before .before .row-place .ensures in
+    let found = placed .found z .0 in
+    let accepting = none (placed .left z (zonal (a .layer) (a .row) (a .fluxes .now)) [] (refl, zonal-places _ _ _)) in
+    omega (arith, row-near (a .g) (a .air .now) (a .tracers .now) (a .layer) (a .row) (a .fluxes .now) _ _ found accepting)
 
 mul-sweep-row : tie.Need-mul-sweep-row
 mul-sweep-row c =
     let a = c .before .before .before .before .before .before .before .before .args in
-    let found = c .before .before .before .row-place .ensures .found (sym (c .before .before .number .ensures) ∙ c .before .if1 .taken) in
-    omega (arith, row-near (a .g) (a .air .now) (a .tracers .now) (a .layer) (a .row) (a .fluxes .now) _ _ found)
+    let z = (sym (c .before .before .number .ensures) ∙ c .before .if1 .taken) in
+    let placed = c .before .before .before .row-place .ensures in
+    let found = placed .found z .0 in
+    let accepting = none (placed .left z (zonal (a .layer) (a .row) (a .fluxes .now)) [] (refl, zonal-places _ _ _)) in
+    omega (arith, row-near (a .g) (a .air .now) (a .tracers .now) (a .layer) (a .row) (a .fluxes .now) _ _ found accepting)
 
 sub-sweep-row : tie.Need-sub-sweep-row
 sub-sweep-row c = search needs
@@ -46,14 +58,20 @@ part-sweep-row-start c = search needs
 part-sweep-row-end : tie.Need-part-sweep-row-end
 part-sweep-row-end c =
     let a = c .before .before .before .before .before .before .before .before .args in
-    let found = c .before .before .before .row-place .ensures .found (sym (c .before .before .number .ensures) ∙ c .before .if1 .taken) in
-    row-in-air (a .g) (a .air .now) (a .tracers .now) (a .layer) (a .row) (a .fluxes .now) _ _ found
+    let z = (sym (c .before .before .number .ensures) ∙ c .before .if1 .taken) in
+    let placed = c .before .before .before .row-place .ensures in
+    let found = placed .found z .0 in
+    let accepting = none (placed .left z (zonal (a .layer) (a .row) (a .fluxes .now)) [] (refl, zonal-places _ _ _)) in
+    row-in-air (a .g) (a .air .now) (a .tracers .now) (a .layer) (a .row) (a .fluxes .now) _ _ found accepting
 
 sweep-row-requires : tie.Need-sweep-row-requires
 sweep-row-requires c κs =
     let a = c .before .before .before .before .before .before .before .before .before .before .args in
-    let found = c .before .before .before .before .before .row-place .ensures .found (sym (c .before .before .before .before .number .ensures) ∙ c .before .before .before .if1 .taken) in
-    row-ready (a .g) (a .air .now) (a .tracers .now) (a .layer) (a .row) (a .fluxes .now) _ _ found
+    let z = (sym (c .before .before .before .before .number .ensures) ∙ c .before .before .before .if1 .taken) in
+    let placed = c .before .before .before .before .before .row-place .ensures in
+    let found = placed .found z .0 in
+    let accepting = none (placed .left z (zonal (a .layer) (a .row) (a .fluxes .now)) [] (refl, zonal-places _ _ _)) in
+    row-ready (a .g) (a .air .now) (a .tracers .now) (a .layer) (a .row) (a .fluxes .now) _ _ found accepting
 
 same-length-3 : tie.Need-same-length-3
 same-length-3 c = search needs
@@ -67,8 +85,11 @@ returns-2 c =
     let row-place-call = c .before .before .before .before .before .before .before .before .before .before .row-place in
     let number-call = c .before .before .before .before .before .before .before .before .before .number in
     let a = start .args in
-    let found = row-place-call .ensures .found (sym (number-call .ensures) ∙ c .before .before .before .before .before .before .before .before .if1 .taken) in
-    zonal-agrees (a .g) (a .air .now) (a .tracers .now) (a .layer) (a .row) (a .fluxes .now) _ _ found _ _ (c .before .before .before .before .sweep-row .ensures) _ refl refl
+    let z = (sym (number-call .ensures) ∙ c .before .before .before .before .before .before .before .before .if1 .taken) in
+    let placed = row-place-call .ensures in
+    let found = placed .found z .0 in
+    let accepting = none (placed .left z (zonal (a .layer) (a .row) (a .fluxes .now)) [] (refl, zonal-places _ _ _)) in
+    zonal-agrees (a .g) (a .air .now) (a .tracers .now) (a .layer) (a .row) (a .fluxes .now) _ _ found accepting _ _ (c .before .before .before .before .sweep-row .ensures) _ refl refl
 
 pub zonal-spec : {M : Type 1} → statement M
 zonal-spec =
