@@ -18,7 +18,8 @@ use Rattle.model.specs.Laws.Entries.{joined-more, written-middle, part-part, pa
 use Rattle.model.specs.Laws.Layer.{layer-regular}
 use Rattle.model.specs.Laws.Substep.{AirIn, length-after-flow}
 use Rattle.units.specs.declared.Grid as declared
-use Rattle.units.specs.Grid.{gridOf, InRange, world-cells-few}
+use Rattle.model.specs.Laws.Grid.{cells-most}
+use Rattle.units.specs.Grid.{gridOf, InRange}
 use Rattle.substep.specs.Faces.{flowOf, Same, stepped, same-stepped}
 use Rattle.substep.specs.Pieces.{GasNeed}
 use Rattle.substep.specs.Lent.{part-lent, put-back}
@@ -74,7 +75,7 @@ module _ (g : declared.Grid) (tracers air : List ℕ) (flow : Flow) (first : ℕ
   layer-room : (t : ℕ) → t < g .n → (t * all + first + width ≤ length tracers) × (t * all + first + width ≤ 811520)
   layer-room t h =
       let below : suc t * all ≤ g .n * all = mul-le-mul-right all h in
-      let most : g .n * all ≤ 8 * 101440 = mul-le-mul (need .range .highN) (world-cells-few g (need .range)) in
+      let most : g .n * all ≤ 8 * 101440 = mul-le-mul (need .range .highN) (cells-most (need .range)) in
       let long = need .tracersLong in
       let inside = need .inside in
       (omega arith, omega arith)

@@ -20,7 +20,8 @@ use Rattle.units.specs.declared.Grid as declared
 use Rattle.units.specs.declared.Answer.{Answer}
 use Rattle.units.specs.Answer.{numberOf, countOf, Agrees}
 use Rattle.units.specs.Agrees.{accepted-agrees}
-use Rattle.units.specs.Grid.{gridOf, worldOf, InRange, in-range, world-cells-few}
+use Rattle.model.specs.Laws.Grid.{cells-most}
+use Rattle.units.specs.Grid.{gridOf, worldOf, InRange, in-range}
 use Rattle.substep.specs.Faces.{flowOf, Same, same-allowed, same-after}
 use Rattle.substep.specs.Cells.{Moves, air-moves}
 use Rattle.substep.specs.Lent.{put-back}
@@ -47,7 +48,7 @@ module _ (g : declared.Grid) (air tracers : List ℕ) (k : ℕ) (fluxes : List �
   layer-in-air = rw (alike, found .fits .airLength) layer-in-world
 
   pub layer-near : first + wide ≤ 101440
-  layer-near = rw alike (le-trans layer-in-world (world-cells-few g range))
+  layer-near = rw alike (le-trans layer-in-world (cells-most range))
 
   -- the layer's air as it is lent
   abbrev lent : List ℕ

@@ -1,6 +1,34 @@
--- The numbers that document 01 names, each once. Laws use only the facts of them that they need.
--- Assumes nothing.
+-- The numbers that document 01 names, and the greatest sizes that follow from them, each once. Laws use only the facts of them that they need.
 use Prim.Native.Nat.{ℕ}
+
+-- "W columns round the globe (4 to 72), R rows from south to north (1 to 44), K layers from the top down (1 to 32) and N tracers (1 to 8)"
+abbrev pub leastColumns : ℕ
+leastColumns = 4
+
+abbrev pub mostColumns : ℕ
+mostColumns = 72
+
+abbrev pub mostRows : ℕ
+mostRows = 44
+
+abbrev pub mostLayers : ℕ
+mostLayers = 32
+
+abbrev pub mostTracers : ℕ
+mostTracers = 8
+
+-- the most cells and faces that a layer has, the most cells of a world, and the most amounts of all its tracers (laws in Laws/Grid)
+abbrev pub mostLayerCells : ℕ
+mostLayerCells = 3170
+
+abbrev pub mostFaces : ℕ
+mostFaces = 3240
+
+abbrev pub mostCells : ℕ
+mostCells = 101440
+
+abbrev pub mostAmounts : ℕ
+mostAmounts = 811520
 
 -- "Ratio: q = floor(65,536·T / M)": the scale of ratio, mismatch and piece
 abbrev pub scale : ℕ

@@ -6,7 +6,7 @@ use mathlib.Core.Bool.{Bool, true, false, not, _&&_}
 use lib.Dec.{leb, ltb, eqb}
 use lib.ListN.{length, set}
 use lib.IntN.{ℤ, natAbs}
-use Rattle.model.specs.Limits.{tableScale, totalLimit, zonalLimit, meridionalLimit, tableLimit}
+use Rattle.model.specs.Limits.{leastColumns, mostColumns, mostRows, mostLayers, mostTracers, tableScale, totalLimit, zonalLimit, meridionalLimit, tableLimit}
 use Rattle.model.specs.Basic.{at, part, every}
 use Rattle.model.specs.World.{Grid, World, layerCells, worldCells, layerStart, rowStart, tracerStart, withTracers, gas, gasTotal, airFits}
 use Rattle.model.specs.Sweep.{ring, layer, flux, serves, substepCount, swept}
@@ -41,7 +41,9 @@ abbrev pub within : ℕ → ℕ → ℕ → Bool
 within low n high = leb low n && leb n high
 
 abbrev pub gridFits : Grid → Bool
-gridFits g = within 4 (g .W) 72 && within 1 (g .R) 44 && within 1 (g .K) 32 && within 1 (g .N) 8
+gridFits g =
+    within leastColumns (g .W) mostColumns && within 1 (g .R) mostRows && within 1 (g .K) mostLayers &&
+    within 1 (g .N) mostTracers
 
 -- 5: "tracer, cell, layer or row absent"
 abbrev pub absent : ℕ → (Grid → ℕ) → Place

@@ -1,10 +1,46 @@
 // Air units, tracer units, mismatches, the grid, and the answer of a call.
 ghost use mathlib.Core.Path.{_≡_};
 ghost use Prim.Native.Nat.{_≤_, _+_};
+ghost use Rattle.model.specs.Limits.{mostLayerCells, mostCells};
 ghost use Rattle.model.specs.World.{layerCells, worldCells, layerStart, rowStart};
 ghost use Rattle.model.specs.Step.{gridFits};
 ghost use Rattle.units.specs.Grid.{gridOf, InRange, LayerThere, RowThere};
 ghost use Rattle.units.specs.Answer.{refusalNumber, numberOf, countOf};
+
+// The limits that the code needs, each once. Contracts tie them to the model's (crates/model/specs/Limits.antt).
+pub const SCALE: u64 = 65536; // of ratio, mismatch and piece
+
+pub const TABLE_SCALE: u32 = 65536; // of a table's b
+
+pub const AIR_LIMIT: u32 = 65535;
+
+pub const TOTAL_LIMIT: u64 = 268435455;
+
+pub const ZONAL_LIMIT: u32 = 1048560;
+
+pub const MERIDIONAL_LIMIT: u32 = 65535;
+
+pub const TABLE_LIMIT: u32 = 2097120;
+
+pub const MOST_SUBSTEPS: u32 = 16;
+
+pub const MOST_COLUMNS: usize = 72;
+
+pub const MOST_ROWS: usize = 44;
+
+pub const MOST_LAYERS: usize = 32;
+
+pub const MOST_EDGES: usize = 33; // of a column
+
+pub const MOST_TRACERS: usize = 8;
+
+pub const MOST_LAYER_CELLS: usize = 3170;
+
+pub const MOST_FACES: usize = 3240; // of a layer
+
+pub const PROGRAM_CELLS: usize = 2048; // of the largest world that the runner program takes
+
+pub const PROGRAM_TRACERS: usize = 2;
 
 // Air units and tracer units are separate counts: an amount of one is never added to an amount of the other.
 pub struct Air(pub u32);
@@ -91,17 +127,17 @@ pub fn count(a: Answer) -> u32
 pub fn grid_fits(g: Grid) -> bool
     ensures { λ r. ⌜ r ≡ gridFits (gridOf g) ⌝ }
 {
-    let columns = (4 <= g.w) & (g.w <= 72);
-    let rows = (1 <= g.r) & (g.r <= 44);
-    let layers = (1 <= g.k) & (g.k <= 32);
-    let tracers = (1 <= g.n) & (g.n <= 8);
+    let columns = (4 <= g.w) & (g.w <= MOST_COLUMNS as u32);
+    let rows = (1 <= g.r) & (g.r <= MOST_ROWS as u32);
+    let layers = (1 <= g.k) & (g.k <= MOST_LAYERS as u32);
+    let tracers = (1 <= g.n) & (g.n <= MOST_TRACERS as u32);
     columns & rows & layers & tracers
 }
 
 // C, the cells of a layer.
 pub fn layer_cells(g: Grid) -> u32
     requires { ⌜ InRange g ⌝ }
-    ensures { λ c. ⌜ (c ≡ layerCells (gridOf g)) × (c ≤ 3170) ⌝ }
+    ensures { λ c. ⌜ (c ≡ layerCells (gridOf g)) × (c ≤ mostLayerCells) ⌝ }
 {
     let w = g.w;
     let r = g.r;
@@ -111,7 +147,7 @@ pub fn layer_cells(g: Grid) -> u32
 // K·C, all cells of the world.
 pub fn world_cells(g: Grid) -> u32
     requires { ⌜ InRange g ⌝ }
-    ensures { λ c. ⌜ (c ≡ worldCells (gridOf g)) × (c ≤ 101440) ⌝ }
+    ensures { λ c. ⌜ (c ≡ worldCells (gridOf g)) × (c ≤ mostCells) ⌝ }
 {
     let k = g.k;
     k * layer_cells(g)

@@ -23,7 +23,8 @@ use Rattle.units.specs.declared.Grid as declared
 use Rattle.units.specs.declared.Answer.{Answer}
 use Rattle.units.specs.Answer.{numberOf, countOf, Agrees}
 use Rattle.units.specs.Agrees.{accepted-agrees}
-use Rattle.units.specs.Grid.{gridOf, worldOf, InRange, in-range, world-cells-few}
+use Rattle.model.specs.Laws.Grid.{cells-most}
+use Rattle.units.specs.Grid.{gridOf, worldOf, InRange, in-range}
 use Rattle.substep.specs.Lent.{put-back}
 use Rattle.row.specs.Substeps.{rowMesh, RowNeed, chain}
 use Rattle.rows.specs.Gas.{rowOf}
@@ -135,7 +136,7 @@ module _ (g : declared.Grid) (air tracers : List ℕ) (k r : ℕ) (fluxes : List
   row-in-air = rw (found .fits .airLength) row-in-world
 
   pub row-near : first + g .w ≤ 101440
-  row-near = le-trans row-in-world (world-cells-few g range)
+  row-near = le-trans row-in-world (cells-most range)
 
   -- the row's air, as it is lent
   abbrev lent : List ℕ
@@ -153,7 +154,7 @@ module _ (g : declared.Grid) (air tracers : List ℕ) (k r : ℕ) (fluxes : List
         row = row-lent-need w k r fluxes (found .long) first (found .start) row-in-air (range .highW);
         tracersLong = found .fits .tracersLength;
         inside = row-in-world;
-        few = world-cells-few g range;
+        few = cells-most range;
         most = found .most;
         serving =
             ap₂ (λ (m : ℕ) (l : List ℕ). serves (ring m) fluxes l count) (found .long) lent-is ∙

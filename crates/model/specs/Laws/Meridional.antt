@@ -13,16 +13,13 @@ use Rattle.model.specs.World.{Grid, World, worldCells, layerCells, layer
 use Rattle.model.specs.Sweep.{layer}
 use Rattle.model.specs.Step.{meridional, ownPlaces, accepted, refusal, step}
 use Rattle.model.specs.Lists.{CallInRange}
+use Rattle.model.specs.Laws.Grid.{layer-inside}
 use Rattle.model.specs.Laws.Layer.{layer-regular}
 use Rattle.model.specs.Laws.Range.{sweep-in-range}
 use Rattle.model.specs.Laws.Fractions.{mismatch-towards-high, mismatch-towards-low}
 use Rattle.model.specs.Laws.Step.{Fits, passed, found, accepted-passed}
 use Rattle.model.specs.Laws.Keeps.{AcceptedKeeps}
 use Rattle.model.specs.Laws.Sweep.{Sweeps, swept-kept, swept-cells-air, swept-alike, ChangesOnly, swept-changes-only, step-changes-only}
-
--- a layer lies in the world
-pub layer-inside : (g : Grid) (k : ℕ) → k < g .K → layerStart g k + layerCells g ≤ worldCells g
-layer-inside g k h = omega (arith, mul-le-mul-right (layerCells g) h)
 
 -- what the places of a meridional sweep tell, where it is accepted
 pub meridional-sweeps : (k : ℕ) (fluxes : List ℤ) (w : World) → refusal w (meridional k fluxes) ≡ 0 → Sweeps w (layer (w .grid .W) (w .grid .R)) (layerStart (w .grid) k) fluxes 1

@@ -14,6 +14,7 @@ use Rattle.model.specs.World.{Grid, World, worldCells, layerCells, rowSt
 use Rattle.model.specs.Sweep.{ring, substepCount}
 use Rattle.model.specs.Step.{zonal, firstOf, fluxTooLarge, commonPlaces, ownPlaces, accepted, refused, refusal, step, rowAir, zonalCount}
 use Rattle.model.specs.Lists.{CallInRange, SameReply}
+use Rattle.model.specs.Laws.Grid.{row-inside}
 use Rattle.model.specs.Laws.Ring.{ring-regular}
 use Rattle.model.specs.Laws.Range.{sweep-in-range}
 use Rattle.model.specs.Laws.Fractions.{mismatch-towards-high, mismatch-towards-low}
@@ -21,11 +22,6 @@ use Rattle.model.specs.Laws.Chain.{count-smallest}
 use Rattle.model.specs.Laws.Step.{Fits, firstOf-same, passed, found, step-accepted, step-refused, answer-is, own-refusal, common-passed, accepted-passed}
 use Rattle.model.specs.Laws.Keeps.{AcceptedKeeps}
 use Rattle.model.specs.Laws.Sweep.{Sweeps, swept-kept, swept-cells-air, swept-alike, SameCells, swept-same, ChangesOnly, swept-changes-only, step-changes-only}
-
--- a row of a layer lies in the world
-pub row-inside : (g : Grid) (k r : ℕ) → k < g .K → r < g .R → rowStart g k r + g .W ≤ worldCells g
-row-inside g k r hk hr =
-    omega (arith, mul-le-mul-right (layerCells g) hk, mul-le-mul-right (g .W) hr)
 
 -- what the places of a zonal sweep tell, where it is accepted
 pub zonal-sweeps : (k r : ℕ) (fluxes : List ℤ) (w : World) → refusal w (zonal k r fluxes) ≡ 0 → Sweeps w (ring (w .grid .W)) (rowStart (w .grid) k r) fluxes (zonalCount w k r fluxes)

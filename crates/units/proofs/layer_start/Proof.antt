@@ -5,7 +5,8 @@ use mathlib.Core.Path.{_≡_, ap, _∙_}
 use native.Mathlib.Nat.{mul-le-mul}
 use native.Mathlib.Omega.{arith}
 use Rattle.model.specs.World.{layerStart}
-use Rattle.units.specs.Grid.{gridOf, layer-inside}
+use Rattle.model.specs.Laws.Grid.{layer-inside}
+use Rattle.units.specs.Grid.{gridOf}
 use borrow.Author.Needs.{needs}
 use Rattle.units.proofs.layer_start.Statement.{statement}
 use Rattle.units.proofs.layer_start.Tie as tie
@@ -22,7 +23,7 @@ returns : tie.Need-returns
 returns c =
     let args = c .before .args in
     let is : args .k * c .layer-cells .result ≡ layerStart (gridOf (args .g)) (args .k) = ap (λ (n : ℕ). args .k * n) (c .layer-cells .ensures .0) in
-    (is, omega (arith, is, layer-inside (args .g) (args .k) (c .before .pre .layer)))
+    (is, omega (arith, is, layer-inside (gridOf (args .g)) (args .k) (c .before .pre .layer)))
 
 pub layer-start-spec : {M : Type 1} → statement M
 layer-start-spec = tie.close (tie.spec layer-cells-requires mul-result returns)

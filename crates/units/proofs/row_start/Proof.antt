@@ -5,7 +5,8 @@ use mathlib.Core.Path.{_≡_, ap}
 use native.Mathlib.Nat.{mul-le-mul}
 use native.Mathlib.Omega.{arith}
 use Rattle.model.specs.World.{rowStart}
-use Rattle.units.specs.Grid.{gridOf, row-inside}
+use Rattle.model.specs.Laws.Grid.{row-inside}
+use Rattle.units.specs.Grid.{gridOf}
 use borrow.Author.Needs.{needs}
 use Rattle.units.proofs.row_start.Statement.{statement}
 use Rattle.units.proofs.row_start.Tie as tie
@@ -45,7 +46,7 @@ returns : tie.Need-returns
 returns c =
     let args = c .before .args in
     let is : args .k * c .layer-cells .result + (1 + args .r * args .g .w) ≡ rowStart (gridOf (args .g)) (args .k) (args .r) = ap (λ (n : ℕ). args .k * n + (1 + args .r * args .g .w)) (c .layer-cells .ensures .0) in
-    (is, omega (arith, is, row-inside (args .g) (args .k) (args .r) (c .before .pre .layer) (c .before .pre .row)))
+    (is, omega (arith, is, row-inside (gridOf (args .g)) (args .k) (args .r) (c .before .pre .layer) (c .before .pre .row)))
 
 pub row-start-spec : {M : Type 1} → statement M
 row-start-spec =

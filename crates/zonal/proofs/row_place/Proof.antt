@@ -134,17 +134,19 @@ returns-6 c =
     let long = eqb-true (length (args .fluxes .now)) (args .g .w) (passed .lentFit) in
     let inside : c .before .before .before .before .row-start .result + args .g .w ≤ length (args .air .now) = omega (arith, start .1, passed .fits .airLength) in
     let counted = c .before .count .ensures .is ∙ count-found w (args .layer) (args .row) (args .fluxes .now) long _ (start .0) inside in
-    placed-found refl
-    (record {
-      fits = passed .fits;
-      long = long;
-      layerIn = search needs;
-      rowIn = search needs;
-      start = start .0;
-      countIs = counted;
-      some = search needs;
-      most = c .before .count .ensures .most;
-    }, refl)
+    placed-found refl (
+      record {
+        fits = passed .fits;
+        long = long;
+        layerIn = search needs;
+        rowIn = search needs;
+        start = start .0;
+        countIs = counted;
+        some = search needs;
+        most = c .before .count .ensures .most;
+      },
+      refl,
+    )
     (λ call rest asks. next (next (there _ (λ g. g .R) (there _ (λ g. g .K) (left call rest asks) (search needs)) (search needs)) (ap not (sym (c .before .before .before .before .before .before .fluxes-fit .ensures) ∙ c .before .before .before .before .before .if4 .taken))) (ne-eqb _ _ (λ (z : zonalCount w (args .layer) (args .row) (args .fluxes .now) ≡ 0). omega (arith, counted))))
 
 pub row-place-spec : {M : Type 1} → statement M
