@@ -12,7 +12,7 @@ use lib.ListN.{length, set}
 use Rattle.model.specs.Limits.{totalLimit}
 use Rattle.model.specs.Basic.{at}
 use Rattle.model.specs.World.{World, worldCells, withTracers, tracerStart, gas, gasTotal}
-use Rattle.model.specs.Step.{Call, Place, place, firstOf, lentFits, ownPlaces, refusal, accepted, tracerAbsent, cellAbsent, amountAt, load, emission, withdrawal, total, reading}
+use Rattle.model.specs.Step.{Call, Place, place, firstOf, lentFits, ownPlaces, refusal, accepted, tracerAbsent, cellAbsent, amountAt, load, emission, withdrawal, total, cell}
 use Rattle.model.specs.Laws.Basic.{at-part, term-le-sum}
 use Rattle.model.specs.Laws.Step.{Fits, passes, stops, own-refusal}
 use Rattle.units.specs.declared.Answer.{Answer}
@@ -149,15 +149,15 @@ total-agrees w fits t count h same =
     accepted-agrees w (total t) (Accepted count) w
     (tracer-there w fits (total t) refl t [] (total-places t) h ∙ none-left w) refl same refl
 
-pub reading-places : (t c : ℕ) → ownPlaces (reading t c) ≡ tracerAbsent t ∷ cellAbsent c ∷ []
+pub cell-places : (t c : ℕ) → ownPlaces (cell t c) ≡ tracerAbsent t ∷ cellAbsent c ∷ []
 unfolding ownPlaces
-reading-places t c = refl
+cell-places t c = refl
 
-pub reading-agrees : (w : World) (t c i whole : ℕ) → Found w t c i whole → Agrees w (reading t c) (Accepted (at (w .tracers) i)) w
+pub cell-agrees : (w : World) (t c i whole : ℕ) → Found w t c i whole → Agrees w (cell t c) (Accepted (at (w .tracers) i)) w
 unfolding accepted
-reading-agrees w t c i whole found =
-    accepted-agrees w (reading t c) _ w
-    (cell-there w (found .fits) (reading t c) refl t c [] (reading-places t c) (found .tracerIn) (found .cellIn) ∙ none-left w)
+cell-agrees w t c i whole found =
+    accepted-agrees w (cell t c) _ w
+    (cell-there w (found .fits) (cell t c) refl t c [] (cell-places t c) (found .tracerIn) (found .cellIn) ∙ none-left w)
     refl
     (sym (amount-found found))
     refl

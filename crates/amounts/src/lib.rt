@@ -1,6 +1,6 @@
 // The calls that move no air: load, emission, withdrawal, and the readings of a total and of a cell.
 ghost use mathlib.Core.Path.{_≡_};
-ghost use Rattle.model.specs.Step.{load as load-call, emission as emission-call, withdrawal as withdrawal-call, total as total-call, reading as reading-call};
+ghost use Rattle.model.specs.Step.{load as load-call, emission as emission-call, withdrawal as withdrawal-call, total as total-call, cell as cell-call};
 ghost use Rattle.units.specs.Grid.{worldOf};
 ghost use Rattle.units.specs.Answer.{Agrees};
 ghost use Rattle.amounts.specs.Calls.{IsNamed};
@@ -81,7 +81,7 @@ fn amount_place(g: Grid, air: &[u32], tracers: &[u32], tracer: u32, cell: u32) -
 
 // A cell's amount of a tracer, the cell numbered over all layers.
 pub fn cell(g: Grid, air: &[u32], tracers: &[u32], tracer: u32, cell: u32) -> Answer
-    ensures { λ r. ⌜ Agrees (worldOf g (now (air .entry)) (now (tracers .entry))) (reading-call tracer cell) r (worldOf g (now (air .entry)) (now (tracers .entry))) ⌝ }
+    ensures { λ r. ⌜ Agrees (worldOf g (now (air .entry)) (now (tracers .entry))) (cell-call tracer cell) r (worldOf g (now (air .entry)) (now (tracers .entry))) ⌝ }
 {
     let named = amount_place(g, air, tracers, tracer, cell);
     let answer = named.answer;

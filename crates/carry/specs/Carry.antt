@@ -41,8 +41,8 @@ module _ (stage r : Stage) (settled : IsSettled stage r) (input : List ℕ) (ans
   same-state : stateOf r air tracers ≡ stateOf stage air tracers
   same-state = plain-state r (settled .taken) air tracers ∙ sym (settled .same air tracers)
 
-  reading-is : readingIs (program.gridOf (stateOf stage air tracers)) input answer ≡ program.found (stateOf stage air tracers) input
-  reading-is = subst (λ (v : program.State). readingIs (program.gridOf v) input answer ≡ program.found v input) same-state (finds .reading air tracers)
+  cell-is : readingIs (program.gridOf (stateOf stage air tracers)) input answer ≡ program.found (stateOf stage air tracers) input
+  cell-is = subst (λ (v : program.State). readingIs (program.gridOf v) input answer ≡ program.found v input) same-state (finds .cell air tracers)
 
   whole-is : FoundWhole (stateOf stage air tracers) (drop 1 input) answer
   whole-is = subst (λ (v : program.State). FoundWhole v (drop 1 input) answer) same-state (finds .whole air tracers)
@@ -50,15 +50,15 @@ module _ (stage r : Stage) (settled : IsSettled stage r) (input : List ℕ) (ans
   pub carries-none : answer ≡ Nothing → Carries stage input outcome.Nothing air tracers air tracers
   unfolding program.outcomeOf
   carries-none e =
-      subst (λ (v : program.Reading). Leaves (program.outcomeOf (stateOf stage air tracers) (at input 0) v) outcome.Nothing air tracers air tracers)
-      (ap (readingIs (program.gridOf (stateOf stage air tracers)) input) (sym e) ∙ reading-is)
+      subst (λ (v : program.Finding). Leaves (program.outcomeOf (stateOf stage air tracers) (at input 0) v) outcome.Nothing air tracers air tracers)
+      (ap (readingIs (program.gridOf (stateOf stage air tracers)) input) (sym e) ∙ cell-is)
       (record { same = refl; airIs = refl; tracersIs = refl })
 
   pub carries-fault : (f : Fault) (number : ℕ) → answer ≡ Faulty f → number ≡ faultNumber f → Carries stage input (outcome.Last (record { kind = at input 0; answer = number; count = 0 })) air tracers air tracers
   unfolding program.outcomeOf
   carries-fault f number e n =
-      subst (λ (v : program.Reading). Leaves (program.outcomeOf (stateOf stage air tracers) (at input 0) v) (outcome.Last (record { kind = at input 0; answer = number; count = 0 })) air tracers air tracers)
-      (ap (readingIs (program.gridOf (stateOf stage air tracers)) input) (sym e) ∙ reading-is)
+      subst (λ (v : program.Finding). Leaves (program.outcomeOf (stateOf stage air tracers) (at input 0) v) (outcome.Last (record { kind = at input 0; answer = number; count = 0 })) air tracers air tracers)
+      (ap (readingIs (program.gridOf (stateOf stage air tracers)) input) (sym e) ∙ cell-is)
       (record { same = ap (λ (m : ℕ). program.last (program.line (at input 0) m 0)) n; airIs = refl; tracersIs = refl })
 
 -- ---- a stage at which a record other than a grid's is in place has a grid that the program took
@@ -91,7 +91,7 @@ module _ (stage r : Stage) (settled : IsSettled stage r) (input : List ℕ) (ans
   grid-is = grid ∙ sym (ap program.gridOf (settled .same air tracers) ∙ grid-any r air tracers)
 
   found-is : program.command (commandIs (program.gridOf (stateOf stage air tracers)) (drop 1 input) c) ≡ program.found (stateOf stage air tracers) input
-  found-is = ap (readingIs (program.gridOf (stateOf stage air tracers)) input) (sym e) ∙ reading-is stage r settled input answer finds air tracers
+  found-is = ap (readingIs (program.gridOf (stateOf stage air tracers)) input) (sym e) ∙ cell-is stage r settled input answer finds air tracers
 
   command-is : commandIs (gridOf g) (take (length input - 1) (drop 1 input)) c ≡ commandIs (program.gridOf (stateOf stage air tracers)) (drop 1 input) c
   command-is = ap₂ (λ (x : model.Grid) (b : List ℕ). commandIs x b c) grid-is (take-rest input 1)
@@ -125,6 +125,6 @@ module _ (stage r : Stage) (settled : IsSettled stage r) (input : List ℕ) (ans
   pub carries-record : (o : code.Outcome) (airLeft tracersLeft : List ℕ) → CarriesCommand g (at input 0) c (take (length input - 1) (drop 1 input)) o air tracers airLeft tracersLeft → Carries stage input o air tracers airLeft tracersLeft
   unfolding program.outcomeOf
   carries-record o airLeft tracersLeft carries =
-      subst (λ (v : program.Reading). Leaves (program.outcomeOf (stateOf stage air tracers) (at input 0) v) o air tracers airLeft tracersLeft) found-is
+      subst (λ (v : program.Finding). Leaves (program.outcomeOf (stateOf stage air tracers) (at input 0) v) o air tracers airLeft tracersLeft) found-is
       (subst (λ (v : program.Command). Leaves (program.carriedOut (stateOf stage air tracers) (at input 0) v) o air tracers airLeft tracersLeft) command-is
       (carries (stateOf stage air tracers) ready))

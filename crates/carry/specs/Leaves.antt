@@ -10,7 +10,7 @@ use Rattle.model.specs.Basic.{written}
 use Rattle.model.specs.World as model
 use Rattle.model.specs.Sweep.{swept}
 use Rattle.model.specs.Remap.{remapped}
-use Rattle.model.specs.Step.{Call, load, emission, withdrawal, zonal, meridional, remap, total, reading, accepted, refused, refusal, step, Result}
+use Rattle.model.specs.Step.{Call, load, emission, withdrawal, zonal, meridional, remap, total, cell, accepted, refused, refusal, step, Result}
 use Rattle.model.specs.Laws.Step.{step-accepted, step-refused}
 use Rattle.units.specs.declared.Grid as declared
 use Rattle.units.specs.declared.Answer.{Answer}
@@ -43,7 +43,7 @@ accepted-grid w (zonal k r fluxes) = refl
 accepted-grid w (meridional k fluxes) = refl
 accepted-grid w (remap table) = refl
 accepted-grid w (total t) = refl
-accepted-grid w (reading t c) = refl
+accepted-grid w (cell t c) = refl
 
 next-grid : (w : model.World) (call : Call) → step w call .next .grid ≡ w .grid
 unfolding refused

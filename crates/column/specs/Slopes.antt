@@ -10,7 +10,7 @@ use borrow.Author.Tests.{eqb-false, eq-eqb, ne-eqb}
 use lib.Dec.{eqb}
 use Rattle.model.specs.Basic.{at, tabFrom, tab}
 use Rattle.model.specs.Scheme.{ratio, mismatch, plain}
-use Rattle.model.specs.Remap.{Layer, layerMismatch, layers}
+use Rattle.model.specs.Remap.{ColumnLayer, layerMismatch, layers}
 use Rattle.model.specs.Laws.Basic.{at-tab}
 use Rattle.model.specs.Laws.Scheme.{mismatch-twice}
 use Rattle.model.specs.Laws.Column.{layerOf}
@@ -19,7 +19,7 @@ use Rattle.substep.specs.Pieces.{AreRatios}
 use Rattle.column.specs.Gas.{slopeAt}
 
 -- the layers that the lists hold
-abbrev pub layerAt : Bool → ℕ → List ℕ → List ℕ → List ℕ → ℕ → Layer
+abbrev pub layerAt : Bool → ℕ → List ℕ → List ℕ → List ℕ → ℕ → ColumnLayer
 layerAt cap k air gas q i = record { air = at air i; tracer = at gas i; slope = slopeAt cap k q i }
 
 tab-same : {A : Type 0} (i n : ℕ) (f g : ℕ → A) → ((t : ℕ) → t < i + n → f t ≡ g t) → tabFrom i n f ≡ tabFrom i n g

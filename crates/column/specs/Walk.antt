@@ -14,7 +14,7 @@ use Rattle.units.specs.declared.Mismatch as code
 use Rattle.model.specs.Limits.{airLimit, totalLimit}
 use Rattle.model.specs.Basic.{at, sum, tab}
 use Rattle.model.specs.Scheme.{Mismatch, ratio, lowPiece}
-use Rattle.model.specs.Remap.{Layer, airAbove, edge, layers, amountAbove}
+use Rattle.model.specs.Remap.{ColumnLayer, airAbove, edge, layers, amountAbove}
 use Rattle.model.specs.Laws.Basic.{le-or-lt, sum-none, sum-more, sum-ext, sum-zero, sum-le, sum-same, sum-split, sum-fewer, sum-tab, steps-rise, tab-ext}
 use Rattle.model.specs.Laws.Scheme.{ratio-safe}
 use Rattle.model.specs.Laws.Above.{layerPiece, airOf, tracerOf, layerPart, amount-is, amount-none, amount-rises, part-is, part-none, parts-whole}
@@ -24,7 +24,7 @@ use Rattle.column.specs.Gas.{slopeAt, Spans, WalkNeed, IsRemapped}
 use Rattle.column.specs.Slopes.{layerAt, layers-are, slope-small}
 
 -- ---- G at a point of layer i: the whole layers above it, and the low-end piece of what is left
-module _ (f : ℕ → Layer) (n : ℕ) (has : (k : ℕ) → k < n → 1 ≤ f k .air) where
+module _ (f : ℕ → ColumnLayer) (n : ℕ) (has : (k : ℕ) → k < n → 1 ≤ f k .air) where
   pub amount-at : (i x : ℕ) → i < n → airOf f i ≤ x → x ≤ airOf f (suc i) → amountAbove (tab n f) x ≡ tracerOf f i + layerPiece (f i) (x - airOf f i)
   amount-at i x h low high =
       let part : ℕ → ℕ = λ k. layerPart f k x in

@@ -9,12 +9,12 @@ use lib.ListN.{take, replicate}
 use Rattle.model.specs.Basic.{tab}
 use Rattle.model.specs.World.{World, layerStart, rowStart, gasTotal, airTotal}
 use Rattle.model.specs.Sweep.{ring, layer}
-use Rattle.model.specs.Step.{Call, load, emission, withdrawal, zonal, meridional, remap, total, reading, firstOf, lentFits, ownPlaces, refusal, accepted, step}
+use Rattle.model.specs.Step.{Call, load, emission, withdrawal, zonal, meridional, remap, total, cell, firstOf, lentFits, ownPlaces, refusal, accepted, step}
 use Rattle.model.specs.Lists.{Loaded, callAt, after, point, emitted, withdrawn, HasRatio, CallInRange, Alike, namesNoOther, SameReply}
 use Rattle.model.specs.Laws.Step.{Fits, own-refusal, fits-loaded, loaded-fits, step-accepted, answer-is}
 use Rattle.model.specs.Laws.Keeps.{StepKeeps, step-keeps, names-grid}
 use Rattle.model.specs.Laws.Lists.{EachKeeps, points-kept, points-alike, points-ratio}
-use Rattle.model.specs.Laws.Amounts.{load-keeps, emission-keeps, withdrawal-keeps, total-keeps, reading-keeps}
+use Rattle.model.specs.Laws.Amounts.{load-keeps, emission-keeps, withdrawal-keeps, total-keeps, cell-keeps}
 use Rattle.model.specs.Laws.Sweep.{ChainOf, swept-chain}
 use Rattle.model.specs.Laws.Zonal.{zonal-sweeps, zonal-range, zonal-keeps}
 use Rattle.model.specs.Laws.Meridional.{meridional-sweeps, meridional-range, meridional-keeps}
@@ -45,7 +45,7 @@ call-keeps (meridional k fluxes) =
     step-keeps (meridional k fluxes) (λ w fits e. meridional-keeps k fluxes w fits e (meridional-range k fluxes w fits e))
 call-keeps (remap table) = step-keeps (remap table) (remap-keeps table)
 call-keeps (total t) = step-keeps (total t) (total-keeps t)
-call-keeps (reading t c) = step-keeps (reading t c) (reading-keeps t c)
+call-keeps (cell t c) = step-keeps (cell t c) (cell-keeps t c)
 
 each-keeps : (calls : List Call) → EachKeeps calls
 each-keeps calls i = call-keeps (callAt calls i)
@@ -100,7 +100,7 @@ worked =
     zonal 1 0 (four (pos 0) (pos 1000) (pos 0) (pos 0)) ∷
     remap (0 ∷ 0 ∷ 0 ∷ 32768 ∷ 200 ∷ 0 ∷ 0 ∷ 65536 ∷ []) ∷
     remap (0 ∷ 0 ∷ 200 ∷ 0 ∷ 200 ∷ 0 ∷ 0 ∷ 65536 ∷ []) ∷
-    reading 0 8 ∷
+    cell 0 8 ∷
     []
 
 pub worked-start : Loaded stair

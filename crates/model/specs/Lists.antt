@@ -10,7 +10,7 @@ use Rattle.model.specs.Basic.{at, part}
 use Rattle.model.specs.World.{World, worldCells, layerCells, rowStart, layerStart, gas}
 use Rattle.model.specs.Sweep.{ring, layer}
 use Rattle.model.specs.Range.{SweepInRange, RemapInRange}
-use Rattle.model.specs.Step.{Call, load, emission, withdrawal, zonal, meridional, remap, total, reading, Exchange, none, brings, takes, Named, nobody, tracer, meaning, step, rowAir, layerAir, zonalCount}
+use Rattle.model.specs.Step.{Call, load, emission, withdrawal, zonal, meridional, remap, total, cell, Exchange, none, brings, takes, Named, nobody, tracer, meaning, step, rowAir, layerAir, zonalCount}
 
 -- "It starts with the world of an accepted load."
 abbrev pub Loaded : World → Type 0
@@ -74,7 +74,7 @@ CallInRange w t (meridional k fluxes) =
     (part (gas w t) (layerStart (w .grid) k) (layerCells (w .grid)))
 CallInRange w t (remap table) = RemapInRange (w .grid) table (w .air) (gas w t)
 CallInRange w t (total t') = Unit {0}
-CallInRange w t (reading t' c) = Unit {0}
+CallInRange w t (cell t' c) = Unit {0}
 
 -- "Take two accepted loads on the same grid, N included, alike in all but the other tracers": `own` tells the tracers that are not the others
 pub record Alike (own : ℕ → Bool) (w v : World) : Type 0 where

@@ -22,7 +22,7 @@ unfoldable pub edge : List ℕ → ℕ → ℕ → ℕ
 edge table P j = at table (2 * j) + at table (2 * j + 1) * P / tableScale
 
 -- A layer of a column: its air, its tracer, its mismatch
-pub record Layer : Type 0 where
+pub record ColumnLayer : Type 0 where
   pub air : ℕ
   pub tracer : ℕ
   pub slope : Mismatch
@@ -38,12 +38,12 @@ layerMismatch cap K air gas k =
           (ratio (at air (suc k)) (at gas (suc k)))
     ]
 
-unfoldable pub layers : Bool → ℕ → List ℕ → List ℕ → List Layer
+unfoldable pub layers : Bool → ℕ → List ℕ → List ℕ → List ColumnLayer
 layers cap K air gas =
     tab K (λ k. record { air = at air k; tracer = at gas k; slope = layerMismatch cap K air gas k })
 
 -- "Let G(x) be the tracer in the x units of air from the top: whole layers, then a low-end piece."
-unfoldable pub amountAbove : List Layer → ℕ → ℕ
+unfoldable pub amountAbove : List ColumnLayer → ℕ → ℕ
 amountAbove [] x = 0
 amountAbove (l ∷ below) x =
     elim (leb (l .air) x) [
@@ -55,7 +55,7 @@ amountAbove (l ∷ below) x =
 abbrev pub newAir : List ℕ → ℕ → ℕ → ℕ
 newAir table P j = edge table P (suc j) - edge table P j
 
-abbrev pub newTracer : List ℕ → ℕ → List Layer → ℕ → ℕ
+abbrev pub newTracer : List ℕ → ℕ → List ColumnLayer → ℕ → ℕ
 newTracer table P ls j = amountAbove ls (edge table P (suc j)) - amountAbove ls (edge table P j)
 
 -- "in some column edges don't rise strictly, or a new layer exceeds 65,535": that this is not so

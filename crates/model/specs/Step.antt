@@ -21,7 +21,7 @@ pub data Call : Type 0 where
   meridional : (k : ℕ) → List ℤ → Call
   remap : List ℕ → Call
   total : (t : ℕ) → Call
-  reading : (t c : ℕ) → Call
+  cell : (t c : ℕ) → Call
 
 -- A place: its number, and the test of whether it applies
 pub record Place : Type 0 where
@@ -183,7 +183,7 @@ meaning (total t) =
       names = tracer t;
       exchange = λ w. none;
     }
-meaning (reading t c) =
+meaning (cell t c) =
     record {
       lent = λ g. true;
       places = tracerAbsent t ∷ cellAbsent c ∷ [];

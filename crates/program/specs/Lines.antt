@@ -4,15 +4,15 @@ use Prim.Native.Nat.{ℕ, zero, suc, _+_}
 use mathlib.Core.List.{List, [], _∷_, _++_}
 use lib.ListN.{take, drop}
 use Rattle.program.specs.Bytes.{decimal}
-use Rattle.program.specs.Records.{State, start, Line, Reading, none, onward, last, found, needed, outcomeOf}
+use Rattle.program.specs.Records.{State, start, Line, Finding, none, onward, last, found, needed, outcomeOf}
 
 -- A record that was read: what the reader found, and the line that it prints
 pub record Entry : Type 0 where
-  pub reading : Reading
+  pub finding : Finding
   pub printed : Line
 
-abbrev pub entry : Reading → Line → Entry
-entry reading printed = record { reading = reading; printed = printed }
+abbrev pub entry : Finding → Line → Entry
+entry finding printed = record { finding = finding; printed = printed }
 
 -- The records in a list of bytes, of which the first `skipped` belong to a body that has been read.
 -- "It reads standard input: one byte of kind, then a body". "Empty input prints nothing."

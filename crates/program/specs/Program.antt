@@ -21,6 +21,6 @@ nothingYet = account 0 0 0
 
 -- Each total that the program prints equals the loaded amount plus the amounts of the emission records answered 0 less those of the withdrawal records answered 0, since the last accepted load.
 -- `before` are the records before the one that asks for the total of tracer t.
-pub printed-totals : (bytes : List ℕ) (before after : List Entry) (e : Entry) (t : ℕ) → entries bytes ≡ before ++ (e ∷ after) → e .reading ≡ command (make (total t)) → e .printed .answer ≡ 0 → e .printed .count + accountAfter t nothingYet before .withdrawnSince ≡ accountAfter t nothingYet before .loadedAmount + accountAfter t nothingYet before .emittedSince
+pub printed-totals : (bytes : List ℕ) (before after : List Entry) (e : Entry) (t : ℕ) → entries bytes ≡ before ++ (e ∷ after) → e .finding ≡ command (make (total t)) → e .printed .answer ≡ 0 → e .printed .count + accountAfter t nothingYet before .withdrawnSince ≡ accountAfter t nothingYet before .loadedAmount + accountAfter t nothingYet before .emittedSince
 unfolding Says
 printed-totals bytes before after e t split asked answered = all-say 0 start bytes t nothingYet tt before after e split asked answered

@@ -8,7 +8,7 @@ use lib.ListN.{length, getD}
 use Rattle.model.specs.Limits.{programCells, programTracers}
 use Rattle.model.specs.Basic.{at}
 use Rattle.model.specs.World.{Grid, World, worldCells}
-use Rattle.model.specs.Step.{Call, load, emission, withdrawal, zonal, meridional, remap, total, reading, gridFits, step}
+use Rattle.model.specs.Step.{Call, load, emission, withdrawal, zonal, meridional, remap, total, cell, gridFits, step}
 use Rattle.program.specs.Bytes.{numberAt, numbersAt, fluxesAt}
 
 -- The kinds, "1 grid" to "9 cell"
@@ -107,16 +107,16 @@ commandOf g zonalKind body = make (zonal (at body 0) (at body 1) (fluxesAt body 
 commandOf g meridionalKind body = make (meridional (at body 0) (fluxesAt body 1 (g .W * (g .R + 1))))
 commandOf g remapKind body = make (remap (numbersAt body 0 (2 * (g .K + 1))))
 commandOf g totalKind body = make (total (at body 0))
-commandOf g cellKind body = make (reading (at body 0) (numberAt body 1 2))
+commandOf g cellKind body = make (cell (at body 0) (numberAt body 1 2))
 
 -- What the reader finds: no byte, a refusal of the program's own, or a command
-pub data Reading : Type 0 where
-  nothing : Reading
-  fault : ℕ → Reading
-  command : Command → Reading
+pub data Finding : Type 0 where
+  nothing : Finding
+  fault : ℕ → Finding
+  command : Command → Finding
 
 -- "Kind is tested before length, length before the call's own places". 14: "input ends inside a record"
-unfoldable pub found : State → List ℕ → Reading
+unfoldable pub found : State → List ℕ → Finding
 found s [] = nothing
 found s (byte ∷ body) =
     elim (inPlace s (kindOf byte)) [
@@ -169,7 +169,7 @@ carriedOut s byte (make call) =
     (loaded (step (worldOf s) call .next))
 
 -- what comes of the record whose kind is `byte`, of what the reader found in it
-unfoldable pub outcomeOf : State → ℕ → Reading → Outcome
+unfoldable pub outcomeOf : State → ℕ → Finding → Outcome
 outcomeOf s byte nothing = none
 outcomeOf s byte (fault number) = last (line byte number 0)
 outcomeOf s byte (command c) = carriedOut s byte c

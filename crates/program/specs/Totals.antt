@@ -5,8 +5,8 @@ use mathlib.Core.List.{List, [], _∷_}
 use mathlib.Core.Bool.{Bool, true, false}
 use lib.Dec.{eqb}
 use Rattle.model.specs.World.{gasTotal}
-use Rattle.model.specs.Step.{Call, load, emission, withdrawal, zonal, meridional, remap, total, reading}
-use Rattle.program.specs.Records.{setGrid, setWorld, make, Reading, nothing, fault, command}
+use Rattle.model.specs.Step.{Call, load, emission, withdrawal, zonal, meridional, remap, total, cell}
+use Rattle.program.specs.Records.{setGrid, setWorld, make, Finding, nothing, fault, command}
 use Rattle.program.specs.Lines.{Entry}
 
 pub record Account : Type 0 where
@@ -31,19 +31,19 @@ booked t a (zonal k r fluxes) = a
 booked t a (meridional k fluxes) = a
 booked t a (remap table) = a
 booked t a (total t') = a
-booked t a (reading t' c) = a
+booked t a (cell t' c) = a
 
 -- a record answered 0: a load begins the account anew
-abbrev pub notedReading : ℕ → Account → Reading → Account
-notedReading t a nothing = a
-notedReading t a (fault n) = a
-notedReading t a (command (setGrid g)) = a
-notedReading t a (command (setWorld w)) = account (gasTotal w t) 0 0
-notedReading t a (command (make call)) = booked t a call
+abbrev pub notedFinding : ℕ → Account → Finding → Account
+notedFinding t a nothing = a
+notedFinding t a (fault n) = a
+notedFinding t a (command (setGrid g)) = a
+notedFinding t a (command (setWorld w)) = account (gasTotal w t) 0 0
+notedFinding t a (command (make call)) = booked t a call
 
 -- a record: one that was refused changes nothing
 abbrev pub noted : ℕ → Account → Entry → Account
-noted t a e = elim (e .printed .answer) [ zero ↦ notedReading t a (e .reading) | suc n ↦ a ]
+noted t a e = elim (e .printed .answer) [ zero ↦ notedFinding t a (e .finding) | suc n ↦ a ]
 
 -- the account of tracer t after some records
 unfoldable pub accountAfter : ℕ → Account → List Entry → Account

@@ -34,10 +34,10 @@ commandIs g body (Zonal p) = program.make (step.zonal (p .layer) (p .row) (fluxe
 commandIs g body (Meridional p) = program.make (step.meridional (p .layer) (fluxesAt body 1 (g .W * (g .R + 1))))
 commandIs g body Remap = program.make (step.remap (numbersAt body 0 (2 * (g .K + 1))))
 commandIs g body (Total p) = program.make (step.total (p .tracer))
-commandIs g body (Cell p) = program.make (step.reading (p .tracer) (p .cell))
+commandIs g body (Cell p) = program.make (step.cell (p .tracer) (p .cell))
 
 -- the number and the command of each case of the reader's answer; the body is what follows the kind byte
-abbrev pub readingIs : model.Grid → List ℕ → found.Found → program.Reading
+abbrev pub readingIs : model.Grid → List ℕ → found.Found → program.Finding
 readingIs g input Nothing = program.nothing
 readingIs g input (Faulty f) = program.fault (faultNumber f)
 readingIs g input (Record c) = program.command (commandIs g (drop 1 input) c)
@@ -66,7 +66,7 @@ FoundWhole s body (Record c) = IsWhole s body c
 
 -- the reader finds what the model finds, whatever the buffers hold
 pub record Finds (stage : Stage) (input : List ℕ) (r : found.Found) : Type 0 where
-  pub reading : (air tracers : List ℕ) → readingIs (program.gridOf (stateOf stage air tracers)) input r ≡ program.found (stateOf stage air tracers) input
+  pub cell : (air tracers : List ℕ) → readingIs (program.gridOf (stateOf stage air tracers)) input r ≡ program.found (stateOf stage air tracers) input
   pub whole : (air tracers : List ℕ) → FoundWhole (stateOf stage air tracers) (drop 1 input) r
 
 abbrev pub isKnown : program.Kind → Bool

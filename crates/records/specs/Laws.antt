@@ -227,7 +227,7 @@ parse-need k input s g placed whole =
 
 pub finds-nothing : (stage : Stage) (input : List ℕ) → length input ≡ 0 → Finds stage input Nothing
 unfolding program.found
-finds-nothing stage [] e = record { reading = λ air tracers. refl; whole = λ air tracers. tt }
+finds-nothing stage [] e = record { cell = λ air tracers. refl; whole = λ air tracers. tt }
 finds-nothing stage (byte ∷ body) e = absurd (omega (arith, e))
 
 module _ (stage r : Stage) (input : List ℕ) (k : program.Kind) (settled : IsSettled stage r) (kind : k ≡ program.kindOf (at input 0)) (some : 0 < length input) where
@@ -247,7 +247,7 @@ module _ (stage r : Stage) (input : List ℕ) (k : program.Kind) (settled : IsSe
   pub finds-misplaced : program.inPlace (plainState r [] []) k ≡ false → Finds stage input (Faulty fault.Kind)
   finds-misplaced e =
       record {
-        reading =
+        cell =
             λ air tracers.
             sym (ap (program.found (stateOf stage air tracers)) split ∙ found-misplaced _ (at input 0) (drop 1 input) (in-state air tracers false e));
         whole = λ air tracers. tt;
@@ -257,7 +257,7 @@ module _ (stage r : Stage) (input : List ℕ) (k : program.Kind) (settled : IsSe
     pub finds-short : length input - 1 < program.bodyLength g k → Finds stage input (Faulty fault.Length)
     finds-short h =
         record {
-          reading =
+          cell =
               λ air tracers.
               sym
               (ap (program.found (stateOf stage air tracers)) split ∙
@@ -273,7 +273,7 @@ module _ (stage r : Stage) (input : List ℕ) (k : program.Kind) (settled : IsSe
       pub finds-record : Finds stage input (Record c)
       finds-record =
           record {
-            reading =
+            cell =
                 λ air tracers.
                 ap program.command (commands _ ∙ ap (λ (x : program.Kind). program.commandOf (program.gridOf (stateOf stage air tracers)) x (drop 1 input)) kind) ∙
                 sym

@@ -3,8 +3,8 @@
 use mathlib.Core.Path.{refl, sym, _∙_}
 use native.Mathlib.Omega.{arith}
 use mathlib.Core.List.{[]}
-use Rattle.model.specs.Step.{reading}
-use Rattle.amounts.specs.Calls.{reading-places, reading-agrees}
+use Rattle.model.specs.Step.{cell}
+use Rattle.amounts.specs.Calls.{cell-places, cell-agrees}
 use borrow.Author.Needs.{needs}
 use Rattle.amounts.proofs.cell.Statement.{statement}
 use Rattle.amounts.proofs.cell.Tie as tie
@@ -18,7 +18,7 @@ number-requires c κs = search needs
 returns : tie.Need-returns
 returns c =
     let start = c .before .before .before .before .before in
-    c .before .before .amount-place .ensures .refused (λ z. omega (arith, c .before .number .ensures)) (reading (start .args .tracer) (start .args .cell)) [] refl (reading-places _ _)
+    c .before .before .amount-place .ensures .refused (λ z. omega (arith, c .before .number .ensures)) (cell (start .args .tracer) (start .args .cell)) [] refl (cell-places _ _)
 
 mul-t11 : tie.Need-mul-t11
 mul-t11 c = omega (arith, c .before .before .amount-place .ensures .found (sym (c .before .number .ensures) ∙ c .if1 .taken) .near)
@@ -27,7 +27,7 @@ shared-slice-read-t9 : tie.Need-shared-slice-read-t9
 shared-slice-read-t9 c = c .before .before .before .amount-place .ensures .found (sym (c .before .before .number .ensures) ∙ c .before .if1 .taken) .inside
 
 returns-2 : tie.Need-returns-2
-returns-2 c = reading-agrees _ _ _ _ _ (c .before .before .before .amount-place .ensures .found (sym (c .before .before .number .ensures) ∙ c .before .if1 .taken))
+returns-2 c = cell-agrees _ _ _ _ _ (c .before .before .before .amount-place .ensures .found (sym (c .before .before .number .ensures) ∙ c .before .if1 .taken))
 
 pub cell-spec : {M : Type 1} → statement M
 cell-spec =

@@ -2,7 +2,7 @@
 -- Assumes nothing.
 use Prim.Native.Nat.{_+_, _*_}
 use mathlib.Core.Path.{ap}
-use Rattle.model.specs.Step.{emission, withdrawal, zonal, meridional, remap, total, reading}
+use Rattle.model.specs.Step.{emission, withdrawal, zonal, meridional, remap, total, cell}
 use Rattle.units.specs.Grid.{gridOf}
 use Rattle.program.specs.Bytes.{numbersAt, fluxesAt}
 use Rattle.records.specs.declared.Command.the-variants.{Zonal, Meridional, Remap}
@@ -156,7 +156,7 @@ returns-9 c =
     let c6 = c .before .before .before .before .c6 in
     let start = c .before .before .before .before .before .before .before .before .before in
     let p = c6 .given .0 .0 in
-    makes-call (start .args .g) (start .args .c) (start .args .body .now) _ _ _ _ _ (reading (p .tracer) (p .cell)) (ap (commandIs (gridOf (start .args .g)) (start .args .body .now)) (c6 .given .1)) (c .cell .ensures)
+    makes-call (start .args .g) (start .args .c) (start .args .body .now) _ _ _ _ _ (cell (p .tracer) (p .cell)) (ap (commandIs (gridOf (start .args .g)) (start .args .body .now)) (c6 .given .1)) (c .cell .ensures)
 
 pub make-spec : {M : Type 1} → statement M
 make-spec =

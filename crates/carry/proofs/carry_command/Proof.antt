@@ -60,7 +60,7 @@ is-call (Total p) h =
 is-call (Cell p) h =
     record {
       noGrid = λ e. let z : _≡_ {A = ℕ} 0 1 = cc in omega arith;
-      call = λ g body. step.reading (p .tracer) (p .cell);
+      call = λ g body. step.cell (p .tracer) (p .cell);
       asks = λ g body. refl;
     }
 

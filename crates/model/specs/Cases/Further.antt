@@ -7,7 +7,7 @@ use mathlib.Core.Path.{refl}
 use lib.IntN.{ℤ, pos, negℤ}
 use lib.ListN.{replicate, set}
 use Rattle.model.specs.World.{Grid, World, worldCells}
-use Rattle.model.specs.Step.{Call, load, emission, withdrawal, zonal, meridional, remap, total, reading}
+use Rattle.model.specs.Step.{Call, load, emission, withdrawal, zonal, meridional, remap, total, cell}
 use Rattle.model.specs.Cases.{Case, Hold, hold, computes}
 use Rattle.model.specs.Cases.Marked.{grid, world, four, six, row, gives, refuses, hundreds, peak, sweep, stair}
 
@@ -100,7 +100,7 @@ scheme =
     (ten 9 2 244 61 143 28 97 178 13 48 ++ ten 71 13 186 60 193 153 9 108 120 64 ++
     ten 4 6 10 9 20 13 28 23 28 29 ++ ten 42 144 48 57 56 67 162 77 76 87) ∷
     keeps "x6 total" twos (total 1) 986 ∷
-    keeps "x6 cell" twos (reading 1 19) 79 ∷
+    keeps "x6 cell" twos (cell 1 19) 79 ∷
     gives "x8 remap of four layers" deep (remap (0 ∷ 0 ∷ 20 ∷ 3000 ∷ 10 ∷ 20000 ∷ 40 ∷ 50000 ∷ 0 ∷ 65536 ∷ [])) 42
     (six 33 36 37 36 35 32 ++ six 68 81 89 85 76 62 ++ six 167 191 206 196 181 158 ++ six 32 44 51 47 39 26)
     (six 16 2 27 18 35 5 ++ six 34 16 63 63 41 14 ++ six 97 175 130 103 163 79 ++ six 28 11 79 36 15 16) ∷
@@ -176,8 +176,8 @@ amounts =
     refuses "zonal, row" peak (zonal 0 1 (replicate 4 (pos 0))) 5 ∷
     refuses "meridional, layer" peak (meridional 1 (replicate 8 (pos 0))) 5 ∷
     refuses "total, tracer" peak (total 1) 5 ∷
-    refuses "cell, tracer" peak (reading 1 0) 5 ∷
-    refuses "cell, cell" peak (reading 0 6) 5 ∷
+    refuses "cell, tracer" peak (cell 1 0) 5 ∷
+    refuses "cell, cell" peak (cell 0 6) 5 ∷
     gives "emission to the limit" peak (emission 0 5 268435055) 0 hundreds (six 0 0 100 200 100 268435055) ∷
     refuses "emission over the limit" peak (emission 0 5 268435056) 6 ∷
     refuses "emission, greatest" peak (emission 0 0 4294967295) 6 ∷

@@ -11,21 +11,21 @@ use borrow.Author.Tests.{leb-true, leb-false, lt-leb}
 use lib.Dec.{leb}
 use Rattle.model.specs.Basic.{sum, tab, tabFrom}
 use Rattle.model.specs.Scheme.{opposite, lowPiece}
-use Rattle.model.specs.Remap.{Layer, amountAbove}
+use Rattle.model.specs.Remap.{ColumnLayer, amountAbove}
 use Rattle.model.specs.Laws.Basic.{le-or-lt, sum-ext, sum-first, sum-fewer, sum-zero, sum-le, sum-times}
 use Rattle.model.specs.Laws.Fractions.{CellRoom, lost, Leaves, leaves-same, leaves-join, leaves-near, Near, two-floors, middle-leaves, low-leaves, high-leaves, all-leaves}
 use Rattle.model.specs.Laws.Scheme.{Safe, piece-none, piece-whole, piece-rises, piece-constant}
 
 -- the tracer in the m units of air from the low end of a layer
-abbrev pub layerPiece : Layer → ℕ → ℕ
+abbrev pub layerPiece : ColumnLayer → ℕ → ℕ
 layerPiece l m = lowPiece (l .slope) (l .air) (l .tracer) m
 
 -- a layer may lean by its slope at both ends
-abbrev pub Leans : Bool → ℕ → ℕ → Layer → Type 0
+abbrev pub Leans : Bool → ℕ → ℕ → ColumnLayer → Type 0
 Leans b H L l = CellRoom b H L (l .air) (l .tracer) (l .slope .size)
 
 -- ---- as a sum over the layers: from each the low-end piece of as much of its air as lies in the x units
-amount-first : (l : Layer) (below : List Layer) → 1 ≤ l .air → amountAbove below 0 ≡ 0 → (x : ℕ) → amountAbove (l ∷ below) x ≡ layerPiece l (min x (l .air)) + amountAbove below (x - l .air)
+amount-first : (l : ColumnLayer) (below : List ColumnLayer) → 1 ≤ l .air → amountAbove below 0 ≡ 0 → (x : ℕ) → amountAbove (l ∷ below) x ≡ layerPiece l (min x (l .air)) + amountAbove below (x - l .air)
 unfolding amountAbove
 amount-first l below has none x = go (leb (l .air) x) refl
   where
@@ -38,7 +38,7 @@ amount-first l below has none x = go (leb (l .air) x) refl
         let past : x - l .air ≡ 0 = omega arith in
         rw (e, amountAbove, min-eq-left h, past, none, add-zero)
 
-module _ (f : ℕ → Layer) where
+module _ (f : ℕ → ColumnLayer) where
   -- the air and the tracer of the k layers at the low end
   abbrev pub airOf : ℕ → ℕ
   airOf k = sum k (λ i. f i .air)

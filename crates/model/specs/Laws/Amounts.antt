@@ -14,7 +14,7 @@ use lib.Seq.{set-getD}
 use Rattle.model.specs.Limits.{totalLimit}
 use Rattle.model.specs.Basic.{at}
 use Rattle.model.specs.World.{World, worldCells, gas, gasTotal}
-use Rattle.model.specs.Step.{Call, load, emission, withdrawal, total, reading, ownPlaces, accepted, refusal, withAmount, amountAt}
+use Rattle.model.specs.Step.{Call, load, emission, withdrawal, total, cell, ownPlaces, accepted, refusal, withAmount, amountAt}
 use Rattle.model.specs.Lists.{whenAccepted, emits, withdraws, Alike}
 use Rattle.model.specs.Laws.World.{length-gas, gas-changed, gas-unchanged, total-changed}
 use Rattle.model.specs.Laws.Step.{Fits, passed, found, own-refusal, answer-is}
@@ -154,10 +154,10 @@ total-keeps t w fits e =
       apart = λ own other. alike-same own w;
     }
 
-pub reading-keeps : (t c : ℕ) (w : World) → Fits w → refusal w (reading t c) ≡ 0 → AcceptedKeeps w (reading t c)
+pub cell-keeps : (t c : ℕ) (w : World) → Fits w → refusal w (cell t c) ≡ 0 → AcceptedKeeps w (cell t c)
 unfolding accepted ownPlaces
-reading-keeps t c w fits e =
-    let p = found t (λ g. g .N) _ w (sym (own-refusal w (reading t c) fits refl) ∙ e) in
+cell-keeps t c w fits e =
+    let p = found t (λ g. g .N) _ w (sym (own-refusal w (cell t c) fits refl) ∙ e) in
     record {
       kept = kept-same fits (λ t'. refl) (λ t'. refl);
       inRange = λ t' h. tt;

@@ -11,7 +11,7 @@ use Rattle.model.specs.Limits.{totalLimit}
 use Rattle.model.specs.Basic.{at, sum}
 use Rattle.model.specs.World.{Grid, World, worldCells, gas, gasTotal, airTotal}
 use Rattle.model.specs.Remap.{remapServes}
-use Rattle.model.specs.Step.{Call, load, emission, withdrawal, zonal, meridional, remap, total, reading, Exchange, none, brings, takes, Named, nobody, tracer, meaning, Place, firstOf, absent, tracerAbsent, cellAbsent, lentFits, ownPlaces, accepted, refused, refusal, step}
+use Rattle.model.specs.Step.{Call, load, emission, withdrawal, zonal, meridional, remap, total, cell, Exchange, none, brings, takes, Named, nobody, tracer, meaning, Place, firstOf, absent, tracerAbsent, cellAbsent, lentFits, ownPlaces, accepted, refused, refusal, step}
 use Rattle.model.specs.Lists.{whenAccepted, bringsIn, takesOut, ownOnly, emits, withdraws, HasRatio, CallInRange, Alike, namesOwn, namesNoOther, SameReply}
 use Rattle.model.specs.Laws.Step.{Fits, firstOf-same, step-accepted, step-refused, answer-is, own-refusal, lent-refusal}
 
@@ -125,7 +125,7 @@ module _ (own : ℕ → Bool) (w v : World) (alike : Alike own w v) where
   own-places-alike (meridional k fluxes) named = unfold firstOf in air-alike (meridional k fluxes)
   own-places-alike (remap table) named = unfold firstOf remapServes in air-alike (remap table)
   own-places-alike (total t) named = absent-alike t (λ g. g .N) _ (λ present. none-alike)
-  own-places-alike (reading t c) named = tracer-cell-alike t c _ (λ present. none-alike)
+  own-places-alike (cell t c) named = tracer-cell-alike t c _ (λ present. none-alike)
 
   refusal-alike : (call : Call) → Fits w → Fits v → namesNoOther own w call ≡ true → refusal w call ≡ refusal v call
   refusal-alike call fw fv named = go (lentFits (w .grid) call) refl

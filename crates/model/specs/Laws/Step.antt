@@ -11,7 +11,7 @@ use lib.ListN.{length}
 use Rattle.model.specs.Limits.{totalLimit}
 use Rattle.model.specs.Basic.{at}
 use Rattle.model.specs.World.{Grid, World, worldCells, gasTotal, airFits}
-use Rattle.model.specs.Step.{Call, load, emission, withdrawal, zonal, meridional, remap, total, reading, Place, firstOf, absent, gridFits, lentFits, lengthsFit, commonPlaces, ownPlaces, accepted, refused, refusal, step}
+use Rattle.model.specs.Step.{Call, load, emission, withdrawal, zonal, meridional, remap, total, cell, Place, firstOf, absent, gridFits, lentFits, lengthsFit, commonPlaces, ownPlaces, accepted, refused, refusal, step}
 use Rattle.model.specs.Lists.{Loaded}
 use Rattle.model.specs.Laws.Basic.{every-at, every-true}
 

@@ -9,16 +9,16 @@ use native.Mathlib.Omega.{arith}
 use lib.Dec.{eqb}
 use lib.ListN.{length}
 use Rattle.model.specs.World.{Grid, World, gasTotal}
-use Rattle.model.specs.Step.{Call, load, emission, withdrawal, zonal, meridional, remap, total, reading, ownPlaces, accepted, refused, step, Result}
+use Rattle.model.specs.Step.{Call, load, emission, withdrawal, zonal, meridional, remap, total, cell, ownPlaces, accepted, refused, step, Result}
 use Rattle.model.specs.Lists.{whenAccepted, emits, withdraws}
 use Rattle.model.specs.Laws.Step.{Fits, found as present, own-refusal, loaded-fits, step-accepted, step-refused, answer-is}
 use Rattle.model.specs.Laws.Entries.{below-or-not}
 use Rattle.model.specs.Demand3.{call-keeps}
-use Rattle.program.specs.Records.{Kind, unknown, gridKind, loadKind, emissionKind, withdrawalKind, zonalKind, meridionalKind, remapKind, totalKind, cellKind, kindOf, State, start, gridded, loaded, worldOf, gridOf, isLoaded, inPlace, bodyLength, commandOf, gridRefusal, Command, setGrid, setWorld, make, Reading, nothing, fault, command, Line, line, afterLoad, Outcome, none, onward, last, found, needed, carriedOut, outcomeOf}
+use Rattle.program.specs.Records.{Kind, unknown, gridKind, loadKind, emissionKind, withdrawalKind, zonalKind, meridionalKind, remapKind, totalKind, cellKind, kindOf, State, start, gridded, loaded, worldOf, gridOf, isLoaded, inPlace, bodyLength, commandOf, gridRefusal, Command, setGrid, setWorld, make, Finding, nothing, fault, command, Line, line, afterLoad, Outcome, none, onward, last, found, needed, carriedOut, outcomeOf}
 use Rattle.program.specs.Lines.{Entry, entry, entriesFrom}
 use Rattle.program.specs.Laws.Lines.{firstOutcome, entries-none, entries-onward, entries-last}
 use Rattle.program.specs.Laws.Records.{found-misplaced, found-short, found-command}
-use Rattle.program.specs.Totals.{Account, when, booked, notedReading, noted, accountAfter}
+use Rattle.program.specs.Totals.{Account, when, booked, notedFinding, noted, accountAfter}
 
 -- the account of tracer t says what the loaded world holds of it
 pub record Balanced (t : ℕ) (w : World) (a : Account) : Type 0 where
@@ -31,7 +31,7 @@ Sound t (gridded g) a = Unit {0}
 Sound t (loaded w) a = Balanced t w a
 
 -- ---- a record that was answered 0, and one that was refused
-noted-accepted : (t : ℕ) (a : Account) (e : Entry) → e .printed .answer ≡ 0 → noted t a e ≡ notedReading t a (e .reading)
+noted-accepted : (t : ℕ) (a : Account) (e : Entry) → e .printed .answer ≡ 0 → noted t a e ≡ notedFinding t a (e .finding)
 noted-accepted t a e h = rw (h, noted)
 
 noted-refused : (t : ℕ) (a : Account) (e : Entry) (n : ℕ) → e .printed .answer ≡ suc n → noted t a e ≡ a
@@ -73,7 +73,7 @@ module _ (t : ℕ) (w : World) (a : Account) where
   is-booked (meridional k fluxes) e = nothing-booked (meridional k fluxes) refl refl refl
   is-booked (remap table) e = nothing-booked (remap table) refl refl refl
   is-booked (total t') e = nothing-booked (total t') refl refl refl
-  is-booked (reading t' c) e = nothing-booked (reading t' c) refl refl refl
+  is-booked (cell t' c) e = nothing-booked (cell t' c) refl refl refl
 
 -- ---- the account stays sound over a call
 module _ (t : ℕ) (w : World) (call : Call) (a : Account) (sound : Balanced t w a) where
@@ -169,17 +169,17 @@ module _ (t : ℕ) (byte : ℕ) (a : Account) (l : Line) (next : State) where
   unfolding outcomeOf
   record-sound s bytes sound e = go (found s (byte ∷ bytes)) refl
     where
-      go : (r : Reading) → found s (byte ∷ bytes) ≡ r → Sound t next (noted t a (entry (found s (byte ∷ bytes)) l))
+      go : (r : Finding) → found s (byte ∷ bytes) ≡ r → Sound t next (noted t a (entry (found s (byte ∷ bytes)) l))
       go nothing q = absurd (let z : _≡_ {A = ℕ} 0 1 = let o : none ≡ onward l next = rw q at e in cc in omega arith)
       go (fault n) q =
           absurd (let z : _≡_ {A = ℕ} 0 1 = let o : last (line byte n 0) ≡ onward l next = rw q at e in cc in omega arith)
       go (command c) q =
-          subst (λ (r : Reading). Sound t next (noted t a (entry r l))) (sym q)
+          subst (λ (r : Finding). Sound t next (noted t a (entry r l))) (sym q)
           (command-sound s c (λ call same. found-loaded s byte bytes call (q ∙ ap command same)) sound (rw q at e))
 
 -- ---- an accepted total, printed in a loaded world
 unfoldable pub Says : ℕ → Account → Entry → Type 0
-Says t a e = e .reading ≡ command (make (total t)) → e .printed .answer ≡ 0 → e .printed .count + a .withdrawnSince ≡ a .loadedAmount + a .emittedSince
+Says t a e = e .finding ≡ command (make (total t)) → e .printed .answer ≡ 0 → e .printed .count + a .withdrawnSince ≡ a .loadedAmount + a .emittedSince
 
 total-count : (w : World) (t : ℕ) → Fits w → step w (total t) .answer ≡ 0 → (t < w .grid .N) × (step w (total t) .count ≡ gasTotal w t)
 unfolding accepted ownPlaces
