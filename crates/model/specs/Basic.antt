@@ -1,5 +1,4 @@
 -- Words of arithmetic and lists that document 01 uses without defining them: an entry, a sum, a list of values, every, some, the smallest.
--- Assumes nothing.
 use Prim.Native.Nat.{ℕ, zero, suc, _+_, _-_}
 use mathlib.Core.List.{List, [], _∷_, _++_}
 use mathlib.Core.Bool.{Bool, true, false, _&&_, _||_}

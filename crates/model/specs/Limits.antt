@@ -2,9 +2,6 @@
 use Prim.Native.Nat.{ℕ}
 
 -- "W columns round the globe (4 to 72), R rows from south to north (1 to 44), K layers from the top down (1 to 32) and N tracers (1 to 8)"
-abbrev pub leastColumns : ℕ
-leastColumns = 4
-
 abbrev pub mostColumns : ℕ
 mostColumns = 72
 

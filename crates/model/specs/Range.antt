@@ -8,6 +8,7 @@ use lib.Dec.{ltb, eqb}
 use lib.IntN.{ℤ}
 use Rattle.model.specs.Basic.{at, some}
 use Rattle.model.specs.World.{Grid, layerCells}
+use Rattle.model.specs.Scheme.{Rule}
 use Rattle.model.specs.Sweep.{Mesh, Sides, between, southCap, northCap, airAfter, gasAfter}
 use Rattle.model.specs.Remap.{column, columnAir, isCap, layers, newAir, newTracer, shareAir}
 
@@ -34,33 +35,33 @@ faceCount (southCap k n) = n
 faceCount (northCap k n) = n
 
 -- cell c is in range after substep s + 1 of n, over the amounts just before that substep
-unfoldable pub substepInRange : Mesh → List ℤ → ℕ → List ℕ → List ℕ → ℕ → ℕ → Bool
-substepInRange mesh fluxes n air gas s c =
+unfoldable pub substepInRange : Rule → Mesh → List ℤ → ℕ → List ℕ → List ℕ → ℕ → ℕ → Bool
+substepInRange rule mesh fluxes n air gas s c =
     inRange (mesh .cells) (isNear mesh c)
     (airAfter mesh fluxes n air s)
-    (gasAfter mesh fluxes n air gas s)
+    (gasAfter rule mesh fluxes n air gas s)
     (faceCount (mesh .sides c) + 1)
     (at (airAfter mesh fluxes n air (suc s)) c)
-    (at (gasAfter mesh fluxes n air gas (suc s)) c)
+    (at (gasAfter rule mesh fluxes n air gas (suc s)) c)
 
-abbrev pub SweepInRange : Mesh → List ℤ → ℕ → List ℕ → List ℕ → Type 0
-SweepInRange mesh fluxes n air gas =
-    (s c : ℕ) → s < n → c < mesh .cells → substepInRange mesh fluxes n air gas s c ≡ true
+abbrev pub SweepInRange : Rule → Mesh → List ℤ → ℕ → List ℕ → List ℕ → Type 0
+SweepInRange rule mesh fluxes n air gas =
+    (s c : ℕ) → s < n → c < mesh .cells → substepInRange rule mesh fluxes n air gas s c ≡ true
 
 -- "In a remap it is the old layers that share air with the new one, and those next above and below them."
 unfoldable pub isNearLayer : ℕ → (ℕ → Bool) → ℕ → Bool
 isNearLayer K shares k = shares k || (ltb 0 k && shares (k - 1)) || (ltb (suc k) K && shares (suc k))
 
 -- ".. and 2 for a remap": new layer j of the column at place c
-unfoldable pub layerInRange : Grid → List ℕ → List ℕ → List ℕ → ℕ → ℕ → Bool
-layerInRange g table air gas c j =
+unfoldable pub layerInRange : Rule → Grid → List ℕ → List ℕ → List ℕ → ℕ → ℕ → Bool
+layerInRange rule g table air gas c j =
     let old : List ℕ = column g air c in
     let had : List ℕ = column g gas c in
     let P : ℕ = columnAir g air c in
     inRange (g .K) (isNearLayer (g .K) (shareAir table old P j)) old had 2
     (newAir table P j)
-    (newTracer table P (layers (isCap g c) (g .K) old had) j)
+    (newTracer table P (layers rule (isCap g c) (g .K) old had) j)
 
-abbrev pub RemapInRange : Grid → List ℕ → List ℕ → List ℕ → Type 0
-RemapInRange g table air gas =
-    (c j : ℕ) → c < layerCells g → j < g .K → layerInRange g table air gas c j ≡ true
+abbrev pub RemapInRange : Rule → Grid → List ℕ → List ℕ → List ℕ → Type 0
+RemapInRange rule g table air gas =
+    (c j : ℕ) → c < layerCells g → j < g .K → layerInRange rule g table air gas c j ≡ true

@@ -7,7 +7,7 @@ use lib.Dec.{leb, ltb, eqb}
 use Rattle.model.specs.Limits.{airLimit, tableScale}
 use Rattle.model.specs.Basic.{at, sum, tab, every, howMany}
 use Rattle.model.specs.World.{Grid, World, layerCells, worldCells, layerStart, moved}
-use Rattle.model.specs.Scheme.{Mismatch, ratio, mismatch, plain, lowPiece}
+use Rattle.model.specs.Scheme.{Mismatch, Rule, ruleOf, ratio, plain, lowPiece}
 
 -- "A column is one cell place through all K layers"
 unfoldable pub column : Grid → List ℕ → ℕ → List ℕ
@@ -28,19 +28,19 @@ pub record ColumnLayer : Type 0 where
   pub slope : Mismatch
 
 -- "Caps (in a remap too), and the top and bottom layers in a remap, have D = 0."
-unfoldable pub layerMismatch : Bool → ℕ → List ℕ → List ℕ → ℕ → Mismatch
-layerMismatch cap K air gas k =
+unfoldable pub layerMismatch : Rule → Bool → ℕ → List ℕ → List ℕ → ℕ → Mismatch
+layerMismatch rule cap K air gas k =
     elim (cap || eqb k 0 || eqb (suc k) K) [
       | true ↦ plain
       | false ↦
-          mismatch (ratio (at air (k - 1)) (at gas (k - 1)))
+          rule (ratio (at air (k - 1)) (at gas (k - 1)))
           (ratio (at air k) (at gas k))
           (ratio (at air (suc k)) (at gas (suc k)))
     ]
 
-unfoldable pub layers : Bool → ℕ → List ℕ → List ℕ → List ColumnLayer
-layers cap K air gas =
-    tab K (λ k. record { air = at air k; tracer = at gas k; slope = layerMismatch cap K air gas k })
+unfoldable pub layers : Rule → Bool → ℕ → List ℕ → List ℕ → List ColumnLayer
+layers rule cap K air gas =
+    tab K (λ k. record { air = at air k; tracer = at gas k; slope = layerMismatch rule cap K air gas k })
 
 -- "Let G(x) be the tracer in the x units of air from the top: whole layers, then a low-end piece."
 unfoldable pub amountAbove : List ColumnLayer → ℕ → ℕ
@@ -86,9 +86,9 @@ columnAir g air c = airAbove (column g air c) (g .K)
 unfoldable pub remappedAir : Grid → List ℕ → List ℕ → List ℕ
 remappedAir g table air = overCells g (λ k c. newAir table (columnAir g air c) k)
 
-unfoldable pub remappedGas : Grid → List ℕ → List ℕ → List ℕ → List ℕ
-remappedGas g table air gas =
-    overCells g (λ k c. newTracer table (columnAir g air c) (layers (isCap g c) (g .K) (column g air c) (column g gas c)) k)
+unfoldable pub remappedGas : Rule → Grid → List ℕ → List ℕ → List ℕ → List ℕ
+remappedGas rule g table air gas =
+    overCells g (λ k c. newTracer table (columnAir g air c) (layers rule (isCap g c) (g .K) (column g air c) (column g gas c)) k)
 
 -- "in some column", "summed over columns": the world's remap, when it serves, and its count
 unfoldable pub remapServes : World → List ℕ → Bool
@@ -101,4 +101,4 @@ remapCount w table =
 
 unfoldable pub remapped : World → List ℕ → World
 remapped w table =
-    moved w (remappedAir (w .grid) table (w .air)) (λ t. remappedGas (w .grid) table (w .air))
+    moved w (remappedAir (w .grid) table (w .air)) (λ t. remappedGas (ruleOf w t) (w .grid) table (w .air))

@@ -5,6 +5,7 @@ use mathlib.Core.Bool.{Bool, true, false, not}
 use lib.Dec.{leb}
 use Rattle.model.specs.Limits.{scale}
 use Rattle.model.specs.Basic.{distance}
+use Rattle.model.specs.World.{World}
 
 -- "Ratio: q = floor(65,536·T / M)"
 unfoldable pub ratio : ℕ → ℕ → ℕ
@@ -15,8 +16,12 @@ pub record Mismatch : Type 0 where
   pub size : ℕ
   pub positive : Bool
 
+-- A rule of the mismatch: D of a cell of ratio q, from the ratios qa and qb of its neighbours on the low and on the high side
+abbrev pub Rule : Type 0
+Rule = ℕ → ℕ → ℕ → Mismatch
+
 -- "a neighbour on its low side (qa) and on its high side (qb): size = the smallest of |qb − qa|/2 rounded down, 2(q − least of the three), 2(greatest of the three − q); sign = that of qb − qa"
-unfoldable pub mismatch : ℕ → ℕ → ℕ → Mismatch
+unfoldable pub mismatch : Rule
 mismatch qa q qb =
     record {
       size =
@@ -25,6 +30,10 @@ mismatch qa q qb =
           (2 * (max qa (max q qb) - q)));
       positive = leb qa qb;
     }
+
+-- the rule for tracer t of a world: document 01 has one for all
+abbrev pub ruleOf : World → ℕ → Rule
+ruleOf w t = mismatch
 
 -- "D = 0"
 abbrev pub plain : Mismatch

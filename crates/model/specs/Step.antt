@@ -1,16 +1,18 @@
--- Document 01, "Refusals by place of checking" and "Emission, withdrawal, load, readings": a call, its places of refusal in order, and `step`, what a call answers and leaves.
--- Total: nothing is assumed of the world or of the call's arguments. A place's test is computed only when it is reached.
+-- Document 01, "Refusals by place of checking" and "Emission, withdrawal, load, readings": a call, what it means, and `step`, what it answers and leaves.
+-- Total in any world and any arguments. A place's test is computed only when it is reached.
 use Prim.Native.Nat.{ℕ, zero, suc, _+_, _*_, _-_}
 use mathlib.Core.List.{List, [], _∷_, _++_}
 use mathlib.Core.Bool.{Bool, true, false, not, _&&_}
 use lib.Dec.{leb, ltb, eqb}
 use lib.ListN.{length, set}
 use lib.IntN.{ℤ, natAbs}
-use Rattle.model.specs.Limits.{leastColumns, mostColumns, mostRows, mostLayers, mostTracers, tableScale, totalLimit, zonalLimit, meridionalLimit, tableLimit}
+use Rattle.model.specs.Limits.{mostColumns, mostRows, mostLayers, mostTracers, tableScale, totalLimit, zonalLimit, meridionalLimit, tableLimit}
 use Rattle.model.specs.Basic.{at, part, every}
-use Rattle.model.specs.World.{Grid, World, layerCells, worldCells, layerStart, rowStart, tracerStart, withTracers, gas, gasTotal, airFits}
-use Rattle.model.specs.Sweep.{ring, layer, flux, serves, substepCount, swept}
+use Rattle.model.specs.World.{Grid, World, layerCells, worldCells, layerStart, rowStart, tracerStart, withAmounts, gas, gasTotal, airFits}
+use Rattle.model.specs.Scheme.{ruleOf}
+use Rattle.model.specs.Sweep.{Mesh, ring, layer, flux, serves, substepCount, swept}
 use Rattle.model.specs.Remap.{remapServes, remapCount, remapped}
+use Rattle.model.specs.Range.{SweepInRange, RemapInRange}
 
 -- A call, with its arguments as lent
 pub data Call : Type 0 where
@@ -42,24 +44,12 @@ within low n high = leb low n && leb n high
 
 abbrev pub gridFits : Grid → Bool
 gridFits g =
-    within leastColumns (g .W) mostColumns && within 1 (g .R) mostRows && within 1 (g .K) mostLayers &&
+    within 4 (g .W) mostColumns && within 1 (g .R) mostRows && within 1 (g .K) mostLayers &&
     within 1 (g .N) mostTracers
 
--- 5: "tracer, cell, layer or row absent"
+-- 5: "tracer, cell, layer or row absent": its number is not below the grid's
 abbrev pub absent : ℕ → (Grid → ℕ) → Place
 absent i many = place 5 (λ w. not (ltb i (many (w .grid))))
-
-abbrev pub tracerAbsent : ℕ → Place
-tracerAbsent t = absent t (λ g. g .N)
-
-abbrev pub cellAbsent : ℕ → Place
-cellAbsent c = absent c worldCells
-
-abbrev pub layerAbsent : ℕ → Place
-layerAbsent k = absent k (λ g. g .K)
-
-abbrev pub rowAbsent : ℕ → Place
-rowAbsent r = absent r (λ g. g .R)
 
 -- 8: "size above 1,048,560 (zonal) or 65,535 (meridional)"
 abbrev pub fluxTooLarge : List ℤ → ℕ → Place
@@ -95,75 +85,87 @@ pub record Result : Type 0 where
 
 -- The world with another amount of tracer t in cell c
 abbrev pub withAmount : World → ℕ → ℕ → ℕ → World
-withAmount w t c amount = withTracers w (set (w .tracers) (tracerStart (w .grid) t + c) amount)
+withAmount w t c amount = withAmounts w (w .air) (set (w .tracers) (tracerStart (w .grid) t + c) amount)
 
--- What a call brings in or takes out when it is accepted
-pub data Exchange : Type 0 where
-  none : Exchange
-  brings : (t amount : ℕ) → Exchange
-  takes : (t amount : ℕ) → Exchange
+-- The units of one tracer that come in and go out
+pub record Exchange : Type 0 where
+  pub emitted : ℕ
+  pub withdrawn : ℕ
+
+abbrev pub noExchange : Exchange
+noExchange = record { emitted = 0; withdrawn = 0 }
 
 -- The tracer that a call names, if it names one
 pub data Named : Type 0 where
   nobody : Named
   tracer : ℕ → Named
 
--- What a call means: whether the list that it lends has the grid's length, its own places in the table's order, and, where it is accepted, its count, the world afterwards and what it exchanged.
--- "Counts not named are 0."
-pub record Meaning : Type 0 where
+-- What a call means: whether the list that it lends has the grid's length; its own places, in the table's order; where it is accepted, its count and the world afterwards; the tracer that it names; what it exchanges of tracer t, and the range that it promises for tracer t, where it is accepted
+pub record Meaning : Type 1 where
   pub lent : Grid → Bool
   pub places : List Place
   pub count : World → ℕ
   pub next : World → World
   pub names : Named
-  pub exchange : World → Exchange
+  pub exchange : World → ℕ → Exchange
+  pub range : World → ℕ → Type 0
+
+-- a call that reads: it leaves the world as it is
+abbrev pub reads : Named → List Place → (World → ℕ) → Meaning
+reads names places count =
+    record {
+      lent = λ g. true;
+      places = places;
+      count = count;
+      next = λ w. w;
+      names = names;
+      exchange = λ w t. noExchange;
+      range = λ w t. Unit {0};
+    }
+
+-- one that changes the amount of tracer t in cell c, and exchanges x of that tracer. "Counts not named are 0."
+abbrev pub changes : ℕ → ℕ → Place → (ℕ → ℕ) → Exchange → Meaning
+changes t c refusing new x =
+    record {
+      lent = λ g. true;
+      places = absent t (λ g. g .N) ∷ absent c worldCells ∷ refusing ∷ [];
+      count = λ w. 0;
+      next = λ w. withAmount w t c (new (amountAt w t c));
+      names = tracer t;
+      exchange = λ w t'. elim (eqb t t') [ true ↦ x | false ↦ noExchange ];
+      range = λ w t'. Unit {0};
+    }
+
+-- one that sweeps the cells of a mesh, from cell `start` on
+abbrev pub sweeps : (Grid → Mesh) → (Grid → ℕ) → List ℤ → (World → ℕ) → (Grid → Bool) → List Place → Meaning
+sweeps mesh start fluxes count lent places =
+    let cells : World → List ℕ → List ℕ = λ w l. part l (start (w .grid)) (mesh (w .grid) .cells) in
+    record {
+      lent = lent;
+      places = places;
+      count = count;
+      next = λ w. swept w (mesh (w .grid)) (start (w .grid)) fluxes (count w);
+      names = nobody;
+      exchange = λ w t. noExchange;
+      range = λ w t. SweepInRange (ruleOf w t) (mesh (w .grid)) fluxes (count w) (cells w (w .air)) (cells w (gas w t));
+    }
 
 abbrev pub meaning : Call → Meaning
-meaning load =
-    record { lent = λ g. true; places = []; count = λ w. 0; next = λ w. w; names = nobody; exchange = λ w. none }
--- 6: "total would pass 268,435,455"
+-- "A load checks lent air and tracers, changes nothing in them, and they are the world from then on."
+meaning load = reads nobody [] (λ w. 0)
+-- "Emission adds, and withdrawal takes, an amount". 6: "total would pass 268,435,455". 7: "cell has less than the amount"
 meaning (emission t c amount) =
-    record {
-      lent = λ g. true;
-      places = tracerAbsent t ∷ cellAbsent c ∷ place 6 (λ w. ltb totalLimit (gasTotal w t + amount)) ∷ [];
-      count = λ w. 0;
-      next = λ w. withAmount w t c (amountAt w t c + amount);
-      names = tracer t;
-      exchange = λ w. brings t amount;
-    }
--- 7: "cell has less than the amount"
+    changes t c (place 6 (λ w. ltb totalLimit (gasTotal w t + amount))) (λ T. T + amount) (record { emitted = amount; withdrawn = 0 })
 meaning (withdrawal t c amount) =
-    record {
-      lent = λ g. true;
-      places = tracerAbsent t ∷ cellAbsent c ∷ place 7 (λ w. ltb (amountAt w t c) amount) ∷ [];
-      count = λ w. 0;
-      next = λ w. withAmount w t c (amountAt w t c - amount);
-      names = tracer t;
-      exchange = λ w. takes t amount;
-    }
+    changes t c (place 7 (λ w. ltb (amountAt w t c) amount)) (λ T. T - amount) (record { emitted = 0; withdrawn = amount })
 -- 9: "no n from 1 to 16 serves"
 meaning (zonal k r fluxes) =
-    record {
-      lent = λ g. eqb (length fluxes) (g .W);
-      places = layerAbsent k ∷ rowAbsent r ∷ fluxTooLarge fluxes zonalLimit ∷ place 9 (λ w. eqb (zonalCount w k r fluxes) 0) ∷ [];
-      count = λ w. zonalCount w k r fluxes;
-      next = λ w. let n : ℕ = zonalCount w k r fluxes in swept w (ring (w .grid .W)) (rowStart (w .grid) k r) fluxes n;
-      names = nobody;
-      exchange = λ w. none;
-    }
+    sweeps (λ g. ring (g .W)) (λ g. rowStart g k r) fluxes (λ w. zonalCount w k r fluxes) (λ g. eqb (length fluxes) (g .W))
+    (absent k (λ g. g .K) ∷ absent r (λ g. g .R) ∷ fluxTooLarge fluxes zonalLimit ∷ place 9 (λ w. eqb (zonalCount w k r fluxes) 0) ∷ [])
 -- 10: "its substep is not allowed": a meridional sweep "is one substep under the same rules, with count 1"
 meaning (meridional k fluxes) =
-    record {
-      lent = λ g. eqb (length fluxes) (g .W * (g .R + 1));
-      places =
-          layerAbsent k ∷ fluxTooLarge fluxes meridionalLimit ∷
-          place 10 (λ w. not (serves (layer (w .grid .W) (w .grid .R)) fluxes (layerAir w k) 1)) ∷
-          [];
-      count = λ w. 1;
-      next = λ w. swept w (layer (w .grid .W) (w .grid .R)) (layerStart (w .grid) k) fluxes 1;
-      names = nobody;
-      exchange = λ w. none;
-    }
+    sweeps (λ g. layer (g .W) (g .R)) (λ g. layerStart g k) fluxes (λ w. 1) (λ g. eqb (length fluxes) (g .W * (g .R + 1)))
+    (absent k (λ g. g .K) ∷ fluxTooLarge fluxes meridionalLimit ∷ place 10 (λ w. not (serves (layer (w .grid .W) (w .grid .R)) fluxes (layerAir w k) 1)) ∷ [])
 meaning (remap table) =
     record {
       lent = λ g. eqb (length table) (2 * (g .K + 1));
@@ -171,27 +173,12 @@ meaning (remap table) =
       count = λ w. remapCount w table;
       next = λ w. remapped w table;
       names = nobody;
-      exchange = λ w. none;
+      exchange = λ w t. noExchange;
+      range = λ w t. RemapInRange (ruleOf w t) (w .grid) table (w .air) (gas w t);
     }
 -- "Readings give a tracer's total or one cell's amount as the count."
-meaning (total t) =
-    record {
-      lent = λ g. true;
-      places = tracerAbsent t ∷ [];
-      count = λ w. gasTotal w t;
-      next = λ w. w;
-      names = tracer t;
-      exchange = λ w. none;
-    }
-meaning (cell t c) =
-    record {
-      lent = λ g. true;
-      places = tracerAbsent t ∷ cellAbsent c ∷ [];
-      count = λ w. amountAt w t c;
-      next = λ w. w;
-      names = tracer t;
-      exchange = λ w. none;
-    }
+meaning (total t) = reads (tracer t) (absent t (λ g. g .N) ∷ []) (λ w. gasTotal w t)
+meaning (cell t c) = reads (tracer t) (absent t (λ g. g .N) ∷ absent c worldCells ∷ []) (λ w. amountAt w t c)
 
 -- 2: "a lent length is not the grid's"; a sweep's fluxes and a remap's table are lent too
 abbrev pub lentFits : Grid → Call → Bool

@@ -9,7 +9,7 @@ use lib.IntN.{ℤ, pos, negsuc}
 use Rattle.model.specs.Limits.{mostSubsteps}
 use Rattle.model.specs.Basic.{at, sum, tab, every, smallest, part, written}
 use Rattle.model.specs.World.{World, airFits, moved}
-use Rattle.model.specs.Scheme.{Mismatch, ratio, mismatch, plain, highPiece, lowPiece}
+use Rattle.model.specs.Scheme.{Mismatch, Rule, ruleOf, ratio, plain, highPiece, lowPiece}
 
 -- The faces of a cell: a low and a high one; or, of a cap, n faces from face k on, all on its high side (south) or all on its low side (north)
 pub data Sides : Type 0 where
@@ -17,14 +17,13 @@ pub data Sides : Type 0 where
   southCap : ℕ → ℕ → Sides
   northCap : ℕ → ℕ → Sides
 
--- Cells and faces of a sweep: how many, the cell on the low and on the high side of a face, the faces of a cell; and the rule that gives a cell's mismatch
+-- Cells and faces of a sweep: how many, the cell on the low and on the high side of a face, the faces of a cell
 pub record Mesh : Type 0 where
   pub cells : ℕ
   pub faces : ℕ
   pub lowCell : ℕ → ℕ
   pub highCell : ℕ → ℕ
   pub sides : ℕ → Sides
-  pub rule : ℕ → ℕ → ℕ → Mismatch
 
 -- The row of W columns: "flux i crosses the face from column i to column i + 1 (the last to column 0) .. High side is east."
 abbrev pub eastOf : ℕ → ℕ → ℕ
@@ -35,7 +34,7 @@ westOf W i = elim i [ zero ↦ W - 1 | suc j ↦ j ]
 
 unfoldable pub ring : ℕ → Mesh
 ring W =
-    record { cells = W; faces = W; lowCell = λ i. i; highCell = eastOf W; sides = λ i. between (westOf W i) i; rule = mismatch }
+    record { cells = W; faces = W; lowCell = λ i. i; highCell = eastOf W; sides = λ i. between (westOf W i) i }
 
 -- The layer of W columns and R rows between two caps, n = R·W: "flux g·W + i crosses between rows g − 1 and g in column i .. row −1 is the south cap, row R the north cap. High side is north."
 -- Cell 1 + j is column i of row r with j = r·W + i; its low face is j and its high face W + j.
@@ -57,7 +56,6 @@ layer W R =
       lowCell = southOf W;
       highCell = northOf (R * W);
       sides = layerSides W (R * W);
-      rule = mismatch;
     }
 
 -- What passes each face, towards its high side and towards its low side
@@ -119,21 +117,21 @@ allowed mesh flow air =
 abbrev pub cellRatio : List ℕ → List ℕ → ℕ → ℕ
 cellRatio air gas c = ratio (at air c) (at gas c)
 
-unfoldable pub cellMismatch : Mesh → List ℕ → List ℕ → ℕ → Mismatch
-cellMismatch mesh air gas c =
+unfoldable pub cellMismatch : Rule → Mesh → List ℕ → List ℕ → ℕ → Mismatch
+cellMismatch rule mesh air gas c =
     elim (mesh .sides c) [
       | between l h ↦
-          mesh .rule (cellRatio air gas (mesh .lowCell l)) (cellRatio air gas c) (cellRatio air gas (mesh .highCell h))
+          rule (cellRatio air gas (mesh .lowCell l)) (cellRatio air gas c) (cellRatio air gas (mesh .highCell h))
       | southCap k n ↦ plain
       | northCap k n ↦ plain
     ]
 
 -- "all pieces are taken from the amounts before it, an eastward one from the giver's high end, a westward one from the low end"
-unfoldable pub pieces : Mesh → Flow → List ℕ → List ℕ → Flow
-pieces mesh flow air gas =
+unfoldable pub pieces : Rule → Mesh → Flow → List ℕ → List ℕ → Flow
+pieces rule mesh flow air gas =
     record {
-      toHigh = λ f. let c = mesh .lowCell f in highPiece (cellMismatch mesh air gas c) (at air c) (at gas c) (flow .toHigh f);
-      toLow = λ f. let c = mesh .highCell f in lowPiece (cellMismatch mesh air gas c) (at air c) (at gas c) (flow .toLow f);
+      toHigh = λ f. let c = mesh .lowCell f in highPiece (cellMismatch rule mesh air gas c) (at air c) (at gas c) (flow .toHigh f);
+      toLow = λ f. let c = mesh .highCell f in lowPiece (cellMismatch rule mesh air gas c) (at air c) (at gas c) (flow .toLow f);
     }
 
 -- The air after s of n substeps, and a tracer's amounts after s of n substeps: the chain of a sweep, from the amounts before it (s = 0) to those it leaves (s = n)
@@ -141,11 +139,11 @@ unfoldable pub airAfter : Mesh → List ℤ → ℕ → List ℕ → ℕ → Lis
 airAfter mesh fluxes n air zero = air
 airAfter mesh fluxes n air (suc s) = afterFlow mesh (parts fluxes n (suc s)) (airAfter mesh fluxes n air s)
 
-unfoldable pub gasAfter : Mesh → List ℤ → ℕ → List ℕ → List ℕ → ℕ → List ℕ
-gasAfter mesh fluxes n air gas zero = gas
-gasAfter mesh fluxes n air gas (suc s) =
-    let before : List ℕ = gasAfter mesh fluxes n air gas s in
-    afterFlow mesh (pieces mesh (parts fluxes n (suc s)) (airAfter mesh fluxes n air s) before) before
+unfoldable pub gasAfter : Rule → Mesh → List ℤ → ℕ → List ℕ → List ℕ → ℕ → List ℕ
+gasAfter rule mesh fluxes n air gas zero = gas
+gasAfter rule mesh fluxes n air gas (suc s) =
+    let before : List ℕ = gasAfter rule mesh fluxes n air gas s in
+    afterFlow mesh (pieces rule mesh (parts fluxes n (suc s)) (airAfter mesh fluxes n air s) before) before
 
 -- "n serves if all n substeps, one after another, are allowed"
 unfoldable pub serves : Mesh → List ℤ → List ℕ → ℕ → Bool
@@ -161,4 +159,4 @@ swept w mesh a fluxes n =
     let old : List ℕ = part (w .air) a (mesh .cells) in
     moved w
     (written (w .air) a (airAfter mesh fluxes n old n))
-    (λ t l. written l a (gasAfter mesh fluxes n old (part l a (mesh .cells)) n))
+    (λ t l. written l a (gasAfter (ruleOf w t) mesh fluxes n old (part l a (mesh .cells)) n))

@@ -1,5 +1,4 @@
 -- Document 01, "What it carries": the grid, the numbering of its cells, and the world, with its lists exactly as lent.
--- Assumes nothing of the grid's numbers, of the lists' lengths or of their entries.
 use Prim.Native.Nat.{ℕ, _+_, _*_}
 use mathlib.Core.List.{List}
 use mathlib.Core.Bool.{Bool, _&&_}
@@ -40,10 +39,7 @@ pub record World : Type 0 where
   pub air : List ℕ
   pub tracers : List ℕ
 
--- a world with other tracers, and with other air too
-abbrev pub withTracers : World → List ℕ → World
-withTracers w tracers = record { grid = w .grid; air = w .air; tracers = tracers }
-
+-- a world with other air and other tracers
 abbrev pub withAmounts : World → List ℕ → List ℕ → World
 withAmounts w air tracers = record { grid = w .grid; air = air; tracers = tracers }
 

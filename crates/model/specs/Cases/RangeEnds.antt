@@ -6,6 +6,7 @@ use mathlib.Core.Bool.{Bool, true, false}
 use mathlib.Core.Path.{_≡_, refl}
 use lib.IntN.{ℤ, pos, negℤ}
 use Rattle.model.specs.Basic.{at}
+use Rattle.model.specs.Scheme.{mismatch}
 use Rattle.model.specs.Sweep.{ring, airAfter, gasAfter, substepCount}
 use Rattle.model.specs.Remap.{airAbove, layers, edgesServe, shareAir, newAir, newTracer}
 use Rattle.model.specs.Range.{inRange, isNear, isNearLayer}
@@ -31,7 +32,7 @@ unfoldable pub rowHolds : ℕ → Bool
 rowHolds e =
     inRange 4 (isNear (ring 4) 3) rowAir rowGas e
     (at (airAfter (ring 4) rowFluxes 1 rowAir 1) 3)
-    (at (gasAfter (ring 4) rowFluxes 1 rowAir rowGas 1) 3)
+    (at (gasAfter mismatch (ring 4) rowFluxes 1 rowAir rowGas 1) 3)
 
 pub row-holds : rowHolds 3 ≡ true
 unfolding rowHolds computes inRange isNear
@@ -63,7 +64,7 @@ unfoldable pub columnHolds : ℕ → Bool
 columnHolds e =
     inRange 3 (isNearLayer 3 (shareAir edges columnAir P 1)) columnAir columnGas e
     (newAir edges P 1)
-    (newTracer edges P (layers false 3 columnAir columnGas) 1)
+    (newTracer edges P (layers mismatch false 3 columnAir columnGas) 1)
 
 pub column-holds : columnHolds 2 ≡ true
 unfolding columnHolds computes inRange isNearLayer

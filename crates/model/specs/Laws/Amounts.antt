@@ -1,41 +1,55 @@
 -- What load, emission, withdrawal and the two readings keep when they are accepted: the calls that move no air.
--- Assumes a world that fits, as one does after an accepted load.
+-- Assumes a world that calls reach.
 use Prim.Native.Nat.{ℕ, _+_, _-_, _≤_, _<_}
-use mathlib.Core.List.{List}
+use mathlib.Core.List.{List, [], _∷_}
 use mathlib.Core.Bool.{Bool, true, false, true≢false}
 use mathlib.Core.Path.{_≡_, refl, sym, _∙_, ap}
 use mathlib.Core.Logic.{_≢_}
 use native.Mathlib.Decide.{ℕ-discrete}
 use native.Mathlib.Omega.{arith}
 use borrow.Author.Tests.{ltb-false, eq-eqb, ne-eqb}
-use lib.Dec.{eqb, lit<}
+use lib.Dec.{ltb, eqb, lit<}
 use lib.ListN.{length-set}
 use lib.Seq.{set-getD}
 use Rattle.model.specs.Limits.{totalLimit}
 use Rattle.model.specs.Basic.{at}
 use Rattle.model.specs.World.{World, worldCells, gas, gasTotal}
-use Rattle.model.specs.Step.{Call, load, emission, withdrawal, total, cell, ownPlaces, accepted, refusal, withAmount, amountAt}
-use Rattle.model.specs.Lists.{whenAccepted, emits, withdraws, Alike}
+use Rattle.model.specs.Step.{load, emission, withdrawal, total, cell, Place, firstOf, absent, withAmount, amountAt, Exchange, noExchange, nobody, tracer, meaning, changes}
+use Rattle.model.specs.Lists.{Alike}
 use Rattle.model.specs.Laws.World.{length-gas, gas-changed, gas-unchanged, total-changed}
-use Rattle.model.specs.Laws.Step.{Fits, passed, found, own-refusal, answer-is}
-use Rattle.model.specs.Laws.Keeps.{Kept, kept-same, alike-same, names-present, named-alike, named-total-alike, AcceptedKeeps}
+use Rattle.model.specs.Laws.Step.{Fits, Reached, passed, found}
+use Rattle.model.specs.Laws.Keeps.{Kept, names-present, named-alike, named-total-alike, absent-alike, none-alike, last-alike, MeaningKeeps, reads-keep}
+
+-- what a passed last place tells: the new amount is the old one with what comes in and without what goes out, and the total stays within its limit
+record Room (w : World) (t c : ℕ) (new : ℕ → ℕ) (x : Exchange) : Type 0 where
+  balance : amountAt w t c + x .emitted ≡ new (amountAt w t c) + x .withdrawn
+  most : gasTotal w t ≤ totalLimit → gasTotal w t + x .emitted ≤ totalLimit + x .withdrawn
+
+tracer-cell-alike : (own : ℕ → Bool) (w v : World) → Alike own w v → (t c : ℕ) (ps : List Place) → (t < w .grid .N → firstOf ps w ≡ firstOf ps v) → firstOf (absent t (λ g. g .N) ∷ absent c worldCells ∷ ps) w ≡ firstOf (absent t (λ g. g .N) ∷ absent c worldCells ∷ ps) v
+tracer-cell-alike own w v a t c ps rest =
+    absent-alike own w v a t (λ g. g .N) _ (λ present. absent-alike own w v a c worldCells ps (λ inside. rest present))
 
 -- ---- the world with another amount of tracer t in cell c
-module _ (w : World) (fits : Fits w) (t c x : ℕ) (present : t < w .grid .N) (inside : c < worldCells (w .grid)) where
+module _ (w : World) (reached : Reached w) (t c x : ℕ) (present : t < w .grid .N) (inside : c < worldCells (w .grid)) where
+  fits : Fits w
+  fits = reached .fits
+
   amount-total : gasTotal (withAmount w t c x) t + amountAt w t c ≡ gasTotal w t + x
   amount-total = total-changed w t c x inside (length-gas w t (fits .tracersLength) present)
 
-  -- `came` units of gas t come in and `went` go out, and none of the other gases
-  amount-kept : (came went : ℕ → ℕ) → amountAt w t c + came t ≡ x + went t → ((t' : ℕ) → t' ≢ t → (came t' ≡ 0) × (went t' ≡ 0)) → gasTotal w t + came t ≤ totalLimit + went t → Kept w (withAmount w t c x) came went
-  amount-kept came went balance others room =
+  -- x' of gas t is exchanged, and nothing of the other gases
+  amount-kept : (x' : Exchange) → amountAt w t c + x' .emitted ≡ x + x' .withdrawn → gasTotal w t + x' .emitted ≤ totalLimit + x' .withdrawn → Kept w (withAmount w t c x) (λ t'. elim (eqb t t') [ true ↦ x' | false ↦ noExchange ])
+  amount-kept x' balance room =
       record {
-        fits =
+        reached =
             record {
-              grid = fits .grid;
-              airLength = fits .airLength;
-              tracersLength = length-set (w .tracers) _ x ∙ fits .tracersLength;
-              air = fits .air;
-              totals = λ t' h. totals t' h (ℕ-discrete t' t);
+              fits = record {
+                grid = fits .grid;
+                airLength = fits .airLength;
+                tracersLength = length-set (w .tracers) _ x ∙ fits .tracersLength;
+                air = fits .air;
+                totals = λ t' h. totals t' h (ℕ-discrete t' t);
+              };
             };
         sameGrid = refl;
         gasKept = λ t' h. kept t' h (ℕ-discrete t' t);
@@ -43,18 +57,28 @@ module _ (w : World) (fits : Fits w) (t c x : ℕ) (present : t < w .grid .N) (i
         ratioKept = λ t' z h no-in no-out r. rw (same t' no-in no-out (ℕ-discrete t' t)) r;
       }
     where
+      -- what is exchanged of each gas
+      of : ℕ → Exchange
+      of t' = elim (eqb t t') [ true ↦ x' | false ↦ noExchange ]
+
+      own : of t ≡ x'
+      own = rw (of, eq-eqb t t refl)
+
+      other : (t' : ℕ) → t' ≢ t → of t' ≡ noExchange
+      other t' h = rw (of, ne-eqb t t' (λ q. h (sym q)))
+
       totals : (t' : ℕ) → t' < w .grid .N → Dec (t' ≡ t) → gasTotal (withAmount w t c x) t' ≤ totalLimit
       totals t' h (yes q) = rw q (omega (arith, amount-total))
       totals t' h (no q) = rw (gas-unchanged w t c x inside t' q) (fits .totals t' h)
 
-      kept : (t' : ℕ) → t' < w .grid .N → Dec (t' ≡ t) → gasTotal (withAmount w t c x) t' + went t' ≡ gasTotal w t' + came t'
-      kept t' h (yes q) = rw q (omega (arith, amount-total))
-      kept t' h (no q) = rw (gas-unchanged w t c x inside t' q, others t' q .0, others t' q .1)
+      kept : (t' : ℕ) → t' < w .grid .N → Dec (t' ≡ t) → gasTotal (withAmount w t c x) t' + of t' .withdrawn ≡ gasTotal w t' + of t' .emitted
+      kept t' h (yes q) = rw (q, own) (omega (arith, amount-total))
+      kept t' h (no q) = rw (gas-unchanged w t c x inside t' q, other t' q)
 
-      same : (t' : ℕ) → came t' ≡ 0 → went t' ≡ 0 → Dec (t' ≡ t) → gas (withAmount w t c x) t' ≡ gas w t'
+      same : (t' : ℕ) → of t' .emitted ≡ 0 → of t' .withdrawn ≡ 0 → Dec (t' ≡ t) → gas (withAmount w t c x) t' ≡ gas w t'
       same t' no-in no-out (yes q) =
-          let a : came t ≡ 0 = rw q at no-in in
-          let b : went t ≡ 0 = rw q at no-out in
+          let a : x' .emitted ≡ 0 = rw (q, own) at no-in in
+          let b : x' .withdrawn ≡ 0 = rw (q, own) at no-out in
           let x-is : x ≡ amountAt w t c = omega arith in
           rw (q, gas-changed w t c x inside, x-is) (set-getD (gas w t) c 0)
       same t' no-in no-out (no q) = gas-unchanged w t c x inside t' q
@@ -87,80 +111,56 @@ module _ (own : ℕ → Bool) (w : World) (t c : ℕ) (inside : c < worldCells (
         sameGas = λ t' o. sym (gas-unchanged w t c x inside t' (λ q. true≢false (sym o ∙ ap own q ∙ other)));
       }
 
--- ---- the amounts that count as emitted or withdrawn
-own-amount : (w : World) (call : Call) (t amount : ℕ) → refusal w call ≡ 0 → whenAccepted w call (eqb t t) amount ≡ amount
-own-amount w call t amount e = rw (answer-is w call, e, eq-eqb t t refl, whenAccepted)
-
-other-amount : (w : World) (call : Call) (t t' amount : ℕ) → t' ≢ t → whenAccepted w call (eqb t t') amount ≡ 0
-other-amount w call t t' amount h = rw (ne-eqb t t' (λ q. h (sym q)), whenAccepted)
-
 -- ---- the calls
-pub load-keeps : (w : World) → Fits w → refusal w load ≡ 0 → AcceptedKeeps w load
-unfolding accepted
-load-keeps w fits e =
+pub load-keeps : MeaningKeeps (meaning load)
+load-keeps = reads-keep nobody [] _ (λ own w v a named. none-alike own w v a) (λ own w v a named e. refl)
+
+pub total-keeps : (t : ℕ) → MeaningKeeps (meaning (total t))
+total-keeps t =
+    reads-keep (tracer t) _ _
+    (λ own w v a named. absent-alike own w v a t (λ g. g .N) [] (λ present. none-alike own w v a))
+    (λ own w v a named e. named-total-alike own w v a t named (found t (λ g. g .N) [] w e .0))
+
+pub cell-keeps : (t c : ℕ) → MeaningKeeps (meaning (cell t c))
+cell-keeps t c =
+    reads-keep (tracer t) _ _
+    (λ own w v a named. tracer-cell-alike own w v a t c [] (λ present. none-alike own w v a))
+    (λ own w v a named e. ap (λ (l : List ℕ). at l c) (named-alike own w v a t named (found t (λ g. g .N) _ w e .0)))
+
+-- a call that changes one amount, where its last place reads no other gas, and leaves room for what comes in and goes out
+changes-keep : (t c : ℕ) (last : Place) (new : ℕ → ℕ) (x : Exchange) → ((own : ℕ → Bool) (w v : World) → Alike own w v → gas w t ≡ gas v t → gasTotal w t ≡ gasTotal v t → last .applies w ≡ last .applies v) → ((w : World) → firstOf (last ∷ []) w ≡ 0 → Room w t c new x) → MeaningKeeps (changes t c last new x)
+changes-keep t c last new x reading room =
     record {
-      kept = kept-same fits (λ t. refl) (λ t. refl);
-      inRange = λ t h. tt;
-      alike = λ own v fv a named. (a, refl);
-      apart = λ own other. absurd (true≢false other);
+      sameGrid = λ w. refl;
+      samePlaces =
+          λ own w v a named.
+          tracer-cell-alike own w v a t c _
+          (λ present. last-alike own w v a last (reading own w v a (named-alike own w v a t named present) (named-total-alike own w v a t named present)));
+      accepts =
+          λ w reached e.
+          let p = found t (λ g. g .N) _ w e in
+          let q = found c worldCells _ w (p .1) in
+          let r = room w (q .1) in
+          record {
+            kept = amount-kept w reached t c _ (p .0) (q .0) x (r .balance) (r .most (reached .fits .totals t (p .0)));
+            inRange = λ t' h. tt;
+            alike = λ own v vv a named. (amount-alike own w t c (q .0) v a (named-alike own w v a t named (p .0)) new, refl);
+            apart = λ own other. amount-apart own w t c (q .0) _ (names-present own w t (p .0) ∙ other);
+          };
     }
 
-pub emission-keeps : (t c amount : ℕ) (w : World) → Fits w → refusal w (emission t c amount) ≡ 0 → AcceptedKeeps w (emission t c amount)
-unfolding accepted ownPlaces
-emission-keeps t c amount w fits e =
-    let call : Call = emission t c amount in
-    let p = found t (λ g. g .N) _ w (sym (own-refusal w call fits refl) ∙ e) in
-    let q = found c worldCells _ w (p .1) in
-    let room = ltb-false totalLimit (gasTotal w t + amount) (passed _ _ w (lit< tt) (q .1) .0) in
-    let came = own-amount w call t amount e in
-    record {
-      kept =
-          amount-kept w fits t c (amountAt w t c + amount) (p .0) (q .0) (λ t'. emits w t' call) (λ t'. 0)
-          (omega (arith, came))
-          (λ t' h. (other-amount w call t t' amount h, refl))
-          (omega (arith, came, room));
-      inRange = λ t' h. tt;
-      alike = λ own v fv a named. (amount-alike own w t c (q .0) v a (named-alike own w v a t named (p .0)) (λ x. x + amount), refl);
-      apart = λ own other. amount-apart own w t c (q .0) _ (names-present own w t (p .0) ∙ other);
-    }
+pub emission-keeps : (t c amount : ℕ) → MeaningKeeps (meaning (emission t c amount))
+emission-keeps t c amount =
+    changes-keep t c _ (λ T. T + amount) (record { emitted = amount; withdrawn = 0 })
+    (λ own w v a gases totals. ap (λ (x : ℕ). ltb totalLimit (x + amount)) totals)
+    (λ w e.
+    let room = ltb-false totalLimit (gasTotal w t + amount) (passed _ [] w (lit< tt) e .0) in
+    record { balance = omega arith; most = λ h. omega (arith, room) })
 
-pub withdrawal-keeps : (t c amount : ℕ) (w : World) → Fits w → refusal w (withdrawal t c amount) ≡ 0 → AcceptedKeeps w (withdrawal t c amount)
-unfolding accepted ownPlaces
-withdrawal-keeps t c amount w fits e =
-    let call : Call = withdrawal t c amount in
-    let p = found t (λ g. g .N) _ w (sym (own-refusal w call fits refl) ∙ e) in
-    let q = found c worldCells _ w (p .1) in
-    let held = ltb-false (amountAt w t c) amount (passed _ _ w (lit< tt) (q .1) .0) in
-    let went = own-amount w call t amount e in
-    record {
-      kept =
-          amount-kept w fits t c (amountAt w t c - amount) (p .0) (q .0) (λ t'. 0) (λ t'. withdraws w t' call)
-          (omega (arith, went, held))
-          (λ t' h. (refl, other-amount w call t t' amount h))
-          (omega (arith, fits .totals t (p .0)));
-      inRange = λ t' h. tt;
-      alike = λ own v fv a named. (amount-alike own w t c (q .0) v a (named-alike own w v a t named (p .0)) (λ x. x - amount), refl);
-      apart = λ own other. amount-apart own w t c (q .0) _ (names-present own w t (p .0) ∙ other);
-    }
-
-pub total-keeps : (t : ℕ) (w : World) → Fits w → refusal w (total t) ≡ 0 → AcceptedKeeps w (total t)
-unfolding accepted ownPlaces
-total-keeps t w fits e =
-    let p = found t (λ g. g .N) _ w (sym (own-refusal w (total t) fits refl) ∙ e) in
-    record {
-      kept = kept-same fits (λ t'. refl) (λ t'. refl);
-      inRange = λ t' h. tt;
-      alike = λ own v fv a named. (a, named-total-alike own w v a t named (p .0));
-      apart = λ own other. alike-same own w;
-    }
-
-pub cell-keeps : (t c : ℕ) (w : World) → Fits w → refusal w (cell t c) ≡ 0 → AcceptedKeeps w (cell t c)
-unfolding accepted ownPlaces
-cell-keeps t c w fits e =
-    let p = found t (λ g. g .N) _ w (sym (own-refusal w (cell t c) fits refl) ∙ e) in
-    record {
-      kept = kept-same fits (λ t'. refl) (λ t'. refl);
-      inRange = λ t' h. tt;
-      alike = λ own v fv a named. (a, ap (λ (l : List ℕ). at l c) (named-alike own w v a t named (p .0)));
-      apart = λ own other. alike-same own w;
-    }
+pub withdrawal-keeps : (t c amount : ℕ) → MeaningKeeps (meaning (withdrawal t c amount))
+withdrawal-keeps t c amount =
+    changes-keep t c _ (λ T. T - amount) (record { emitted = 0; withdrawn = amount })
+    (λ own w v a gases totals. ap (λ (l : List ℕ). ltb (at l c) amount) gases)
+    (λ w e.
+    let held = ltb-false (amountAt w t c) amount (passed _ [] w (lit< tt) e .0) in
+    record { balance = omega (arith, held); most = λ h. omega arith })

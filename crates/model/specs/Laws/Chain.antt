@@ -13,8 +13,10 @@ use lib.ListN.{length}
 use lib.IntN.{ℤ}
 use Rattle.model.specs.Limits.{mostSubsteps}
 use Rattle.model.specs.Basic.{at, sum}
+use Rattle.model.specs.Scheme.{Rule}
 use Rattle.model.specs.Sweep.{Mesh, parts, airAfter, gasAfter, serves, substepCount}
 use Rattle.model.specs.Laws.Basic.{every-at, term-le-sum, Smallest, none, found, smallest-is}
+use Rattle.model.specs.Laws.Scheme.{Limited}
 use Rattle.model.specs.Laws.Mesh.{Regular}
 use Rattle.model.specs.Laws.Substep.{AirIn, Allowed, allowed-is, length-after-flow, total-after-flow, gas-total-after-flow, even-after}
 
@@ -25,10 +27,10 @@ module _ (mesh : Mesh) (fluxes : List ℤ) (n : ℕ) (air : List ℕ) where
   length-air-after e zero = e
   length-air-after e (suc s) = length-after-flow mesh _ _
 
-  pub length-gas-after : (gas : List ℕ) → length gas ≡ mesh .cells → (s : ℕ) → length (gasAfter mesh fluxes n air gas s) ≡ mesh .cells
+  pub length-gas-after : (rule : Rule) (gas : List ℕ) → length gas ≡ mesh .cells → (s : ℕ) → length (gasAfter rule mesh fluxes n air gas s) ≡ mesh .cells
   unfolding gasAfter
-  length-gas-after gas e zero = e
-  length-gas-after gas e (suc s) = length-after-flow mesh _ _
+  length-gas-after rule gas e zero = e
+  length-gas-after rule gas e (suc s) = length-after-flow mesh _ _
 
 -- ---- where n serves, each of its substeps is allowed
 pub serves-allowed : (mesh : Mesh) (fluxes : List ℤ) (air : List ℕ) (n : ℕ) → serves mesh fluxes air n ≡ true → (s : ℕ) → s < n → Allowed mesh (parts fluxes n (suc s)) (airAfter mesh fluxes n air s)
@@ -49,24 +51,24 @@ module _ (mesh : Mesh) (regular : Regular mesh) (fluxes : List ℤ) (air : List 
       total-after-flow mesh _ _ (serves-allowed mesh fluxes air n serving s h .covers) regular ∙
       air-after-total s (omega arith)
 
-  module _ (gas : List ℕ) where
-    pub gas-after-total : (s : ℕ) → s ≤ n → sum (mesh .cells) (at (gasAfter mesh fluxes n air gas s)) ≡ sum (mesh .cells) (at gas)
+  module _ {rule : Rule} (limited : Limited rule) (gas : List ℕ) where
+    pub gas-after-total : (s : ℕ) → s ≤ n → sum (mesh .cells) (at (gasAfter rule mesh fluxes n air gas s)) ≡ sum (mesh .cells) (at gas)
     unfolding gasAfter
     gas-after-total zero h = refl
     gas-after-total (suc s) h =
-        gas-total-after-flow mesh regular _ _ _ (air-after-in s (omega arith)) (serves-allowed mesh fluxes air n serving s h .covers) ∙
+        gas-total-after-flow limited mesh regular _ _ _ (air-after-in s (omega arith)) (serves-allowed mesh fluxes air n serving s h .covers) ∙
         gas-after-total s (omega arith)
 
     -- no amount passes the total
-    pub gas-after-le : (s : ℕ) → s ≤ n → (c : ℕ) → c < mesh .cells → at (gasAfter mesh fluxes n air gas s) c ≤ sum (mesh .cells) (at gas)
+    pub gas-after-le : (s : ℕ) → s ≤ n → (c : ℕ) → c < mesh .cells → at (gasAfter rule mesh fluxes n air gas s) c ≤ sum (mesh .cells) (at gas)
     gas-after-le s h c inside = rw (← (gas-after-total s h)) (term-le-sum (mesh .cells) _ c inside)
 
     -- a constant whole-number ratio stays
-    pub even-chain : (z : ℕ) → ((c : ℕ) → c < mesh .cells → at gas c ≡ z * at air c) → (s : ℕ) → s ≤ n → (c : ℕ) → c < mesh .cells → at (gasAfter mesh fluxes n air gas s) c ≡ z * at (airAfter mesh fluxes n air s) c
+    pub even-chain : (z : ℕ) → ((c : ℕ) → c < mesh .cells → at gas c ≡ z * at air c) → (s : ℕ) → s ≤ n → (c : ℕ) → c < mesh .cells → at (gasAfter rule mesh fluxes n air gas s) c ≡ z * at (airAfter mesh fluxes n air s) c
     unfolding airAfter gasAfter
     even-chain z even zero h = even
     even-chain z even (suc s) h =
-        even-after mesh regular _ _ _ (air-after-in s (omega arith)) z (even-chain z even s (omega arith)) (serves-allowed mesh fluxes air n serving s h .covers)
+        even-after limited mesh regular _ _ _ (air-after-in s (omega arith)) z (even-chain z even s (omega arith)) (serves-allowed mesh fluxes air n serving s h .covers)
 
 -- ---- the count: "the smallest n from 1 to 16"
 pub record IsCount (mesh : Mesh) (fluxes : List ℤ) (air : List ℕ) (n : ℕ) : Type 0 where

@@ -11,13 +11,13 @@ use borrow.Author.Tests.{ltb-true, lt-ltb, leb-true, eqb-true, eqb-false}
 use lib.Dec.{eqb, leb, ltb}
 use Rattle.model.specs.Limits.{scale, airLimit, tableScale}
 use Rattle.model.specs.Basic.{at, sum, tab}
-use Rattle.model.specs.Scheme.{Mismatch, ratio, mismatch, plain}
+use Rattle.model.specs.Scheme.{Mismatch, Rule, ratio, plain}
 use Rattle.model.specs.Remap.{ColumnLayer, airAbove, edge, layerMismatch, layers, amountAbove, newAir, newTracer, edgesServe, shareAir}
 use Rattle.model.specs.Range.{inRange, isNearLayer}
 use Rattle.model.specs.Step.{tableFits}
 use Rattle.model.specs.Laws.Basic.{both, every-at, sum-steps, steps-rise}
-use Rattle.model.specs.Laws.Scheme.{Safe, mismatch-safe, plain-safe, mismatch-equal, ratio-constant}
-use Rattle.model.specs.Laws.Fractions.{Inside, room-level, room-between, mismatch-towards-high, mismatch-towards-low, Bounded, in-range}
+use Rattle.model.specs.Laws.Scheme.{Limited, Safe, ratio-safe, plain-safe, ratio-constant}
+use Rattle.model.specs.Laws.Fractions.{Inside, room-level, room-between, Monotone, Bounded, in-range}
 use Rattle.model.specs.Laws.Above.{Leans, amount-none, amount-whole, amount-rises, amount-even, layer-between, amount-between}
 
 -- ---- edges that serve, of a table that fits
@@ -63,28 +63,28 @@ module _ (K : ℕ) (table : List ℕ) (P : ℕ) (edges : Edges K table P) where
   new-air-sum = omega (arith, sum-steps K (edge table P) edge-rises, edges .first, edges .last)
 
 -- ---- a column's layers
-abbrev pub layerOf : Bool → ℕ → List ℕ → List ℕ → ℕ → ColumnLayer
-layerOf cap K air gas k = record { air = at air k; tracer = at gas k; slope = layerMismatch cap K air gas k }
+abbrev pub layerOf : Rule → Bool → ℕ → List ℕ → List ℕ → ℕ → ColumnLayer
+layerOf rule cap K air gas k = record { air = at air k; tracer = at gas k; slope = layerMismatch rule cap K air gas k }
 
-layers-are : (cap : Bool) (K : ℕ) (air gas : List ℕ) → layers cap K air gas ≡ tab K (layerOf cap K air gas)
+layers-are : (rule : Rule) (cap : Bool) (K : ℕ) (air gas : List ℕ) → layers rule cap K air gas ≡ tab K (layerOf rule cap K air gas)
 unfolding layers
-layers-are cap K air gas = refl
+layers-are rule cap K air gas = refl
 
 -- a layer's slope: none, or the mismatch between the layers above and below it
 abbrev layerRatio : List ℕ → List ℕ → ℕ → ℕ
 layerRatio air gas k = ratio (at air k) (at gas k)
 
-abbrev Slope : ℕ → List ℕ → List ℕ → ℕ → Mismatch → Type 0
-Slope K air gas k D =
+abbrev Slope : Rule → ℕ → List ℕ → List ℕ → ℕ → Mismatch → Type 0
+Slope rule K air gas k D =
     (D ≡ plain) ⊎
-    ((0 < k) × (suc k < K) × (D ≡ mismatch (layerRatio air gas (k - 1)) (layerRatio air gas k) (layerRatio air gas (suc k))))
+    ((0 < k) × (suc k < K) × (D ≡ rule (layerRatio air gas (k - 1)) (layerRatio air gas k) (layerRatio air gas (suc k))))
 
-layer-slope : (cap : Bool) (K : ℕ) (air gas : List ℕ) (k : ℕ) → k < K → Slope K air gas k (layerMismatch cap K air gas k)
+layer-slope : (rule : Rule) (cap : Bool) (K : ℕ) (air gas : List ℕ) (k : ℕ) → k < K → Slope rule K air gas k (layerMismatch rule cap K air gas k)
 unfolding layerMismatch
-layer-slope true K air gas k h = inl refl
-layer-slope false K air gas k h = go (eqb k 0) (eqb (suc k) K) refl refl
+layer-slope rule true K air gas k h = inl refl
+layer-slope rule false K air gas k h = go (eqb k 0) (eqb (suc k) K) refl refl
   where
-    go : (u v : Bool) → eqb k 0 ≡ u → eqb (suc k) K ≡ v → Slope K air gas k (layerMismatch false K air gas k)
+    go : (u v : Bool) → eqb k 0 ≡ u → eqb (suc k) K ≡ v → Slope rule K air gas k (layerMismatch rule false K air gas k)
     go true v e e₂ = inl (rw (e, layerMismatch))
     go false true e e₂ = inl (rw (e, e₂, layerMismatch))
     go false false e e₂ =
@@ -112,83 +112,83 @@ module _ (K : ℕ) (shares : ℕ → Bool) (k : ℕ) (shared : shares k ≡ true
       rw (e, shared, lt-ltb k K h', or-true)
 
 -- ---- new tracers
-module _ (cap : Bool) (K : ℕ) (table air gas : List ℕ) (has : (k : ℕ) → k < K → 1 ≤ at air k) where
-  layer-safe : (k : ℕ) → k < K → Safe (layerMismatch cap K air gas k) (at air k) (at gas k)
+module _ {rule : Rule} (limited : Limited rule) (cap : Bool) (K : ℕ) (table air gas : List ℕ) (has : (k : ℕ) → k < K → 1 ≤ at air k) where
+  layer-safe : (k : ℕ) → k < K → Safe (layerMismatch rule cap K air gas k) (at air k) (at gas k)
   layer-safe k h =
       ⊎-elim
-      (λ (e : layerMismatch cap K air gas k ≡ plain). rw e (plain-safe (at air k) (at gas k)))
-      (λ inner. rw (inner .2) (mismatch-safe _ _ (at air k) (at gas k)))
-      (layer-slope cap K air gas k h)
+      (λ (e : layerMismatch rule cap K air gas k ≡ plain). rw e (plain-safe (at air k) (at gas k)))
+      (λ inner. ratio-safe (layerMismatch rule cap K air gas k) (at air k) (at gas k) (rw (inner .2) (limited .atMostTwice _ _ _)))
+      (layer-slope rule cap K air gas k h)
 
-  layer-level : (z : ℕ) → ((k : ℕ) → k < K → at gas k ≡ z * at air k) → (k : ℕ) → k < K → layerMismatch cap K air gas k .size ≡ 0
+  layer-level : (z : ℕ) → ((k : ℕ) → k < K → at gas k ≡ z * at air k) → (k : ℕ) → k < K → layerMismatch rule cap K air gas k .size ≡ 0
   layer-level z even k h =
       ⊎-elim
-      (λ (e : layerMismatch cap K air gas k ≡ plain). rw e)
-      (λ inner. rw (inner .2, same (k - 1) (omega arith), same (suc k) (inner .1)) (mismatch-equal (scale * z) _))
-      (layer-slope cap K air gas k h)
+      (λ (e : layerMismatch rule cap K air gas k ≡ plain). rw e)
+      (λ inner. rw (inner .2, same (k - 1) (omega arith), same (suc k) (inner .1)) (limited .noneBetweenEqual (scale * z) _))
+      (layer-slope rule cap K air gas k h)
     where
       same : (i : ℕ) → i < K → layerRatio air gas i ≡ scale * z
       same i hi = ratio-constant (at air i) (at gas i) z (has i hi) (even i hi)
 
   -- a layer near which none passes a fraction may lean by its slope
-  layer-leans : (shares : ℕ → Bool) (b : Bool) (H L : ℕ) → ((d : ℕ) → d < K → isNearLayer K shares d ≡ true → Inside b H L (at air d) (at gas d)) → (k : ℕ) → k < K → shares k ≡ true → Leans b H L (layerOf cap K air gas k)
-  layer-leans shares b H L inside k h shared =
+  layer-leans : Monotone rule → (shares : ℕ → Bool) (b : Bool) (H L : ℕ) → ((d : ℕ) → d < K → isNearLayer K shares d ≡ true → Inside b H L (at air d) (at gas d)) → (k : ℕ) → k < K → shares k ≡ true → Leans b H L (layerOf rule cap K air gas k)
+  layer-leans monotone shares b H L inside k h shared =
       let here = inside k h (near-self K shares k shared) in
       ⊎-elim
-      (λ (e : layerMismatch cap K air gas k ≡ plain). rw e (room-level b H L _ _ here))
+      (λ (e : layerMismatch rule cap K air gas k ≡ plain). rw e (room-level b H L _ _ here))
       (λ inner.
       let up : k - 1 < K = omega arith in
       rw (inner .2)
       (room-between b H L (at air k) (at gas k) (has k h) here _ (at air (k - 1)) (at gas (k - 1)) (at air (suc k)) (at gas (suc k)) (has _ up) (has _ (inner .1))
       (inside _ up (near-above K shares k shared (inner .0) h))
       (inside _ (inner .1) (near-below K shares k shared))
-      (mismatch-towards-low _ _ _)
-      (mismatch-towards-high _ _ _)))
-      (layer-slope cap K air gas k h)
+      (monotone .towardsLow _ _ _)
+      (monotone .towardsHigh _ _ _)))
+      (layer-slope rule cap K air gas k h)
 
   module _ (edges : Edges K table (airAbove air K)) where
     -- G at the edges: it never falls, so no new tracer is cut off
     above : ℕ → ℕ
-    above j = amountAbove (layers cap K air gas) (edge table (airAbove air K) j)
+    above j = amountAbove (layers rule cap K air gas) (edge table (airAbove air K) j)
 
-    pub new-tracer-not-cut : (j : ℕ) → j < K → amountAbove (layers cap K air gas) (edge table (airAbove air K) j) ≤ amountAbove (layers cap K air gas) (edge table (airAbove air K) (suc j))
+    pub new-tracer-not-cut : (j : ℕ) → j < K → amountAbove (layers rule cap K air gas) (edge table (airAbove air K) j) ≤ amountAbove (layers rule cap K air gas) (edge table (airAbove air K) (suc j))
     new-tracer-not-cut j h =
-        rw (layers-are cap K air gas)
-        (amount-rises (layerOf cap K air gas) K has layer-safe _ _ (omega (arith, edges .rises j h)))
+        rw (layers-are rule cap K air gas)
+        (amount-rises (layerOf rule cap K air gas) K has layer-safe _ _ (omega (arith, edges .rises j h)))
 
     -- together the new layers have the column's tracer
-    pub new-tracer-sum : sum K (newTracer table (airAbove air K) (layers cap K air gas)) ≡ sum K (at gas)
+    pub new-tracer-sum : sum K (newTracer table (airAbove air K) (layers rule cap K air gas)) ≡ sum K (at gas)
     unfolding above
     new-tracer-sum = omega (arith, sum-steps K above new-tracer-not-cut, start, end)
       where
         start : above 0 ≡ 0
-        start = rw (edges .first, layers-are cap K air gas) (amount-none (layerOf cap K air gas) K has)
+        start = rw (edges .first, layers-are rule cap K air gas) (amount-none (layerOf rule cap K air gas) K has)
 
         end : above K ≡ sum K (at gas)
-        end = rw (edges .last, layers-are cap K air gas) (amount-whole (layerOf cap K air gas) K has)
+        end = rw (edges .last, layers-are rule cap K air gas) (amount-whole (layerOf rule cap K air gas) K has)
 
     -- a whole-number ratio stays
-    pub new-tracer-even : (z : ℕ) → ((k : ℕ) → k < K → at gas k ≡ z * at air k) → (j : ℕ) → j < K → newTracer table (airAbove air K) (layers cap K air gas) j ≡ z * newAir table (airAbove air K) j
+    pub new-tracer-even : (z : ℕ) → ((k : ℕ) → k < K → at gas k ≡ z * at air k) → (j : ℕ) → j < K → newTracer table (airAbove air K) (layers rule cap K air gas) j ≡ z * newAir table (airAbove air K) j
     new-tracer-even z even j h = ap₂ _-_ (at-edge (suc j) h) (at-edge j (omega arith)) ∙ sym (mul-sub z _ _)
       where
-        at-edge : (j : ℕ) → j ≤ K → amountAbove (layers cap K air gas) (edge table (airAbove air K) j) ≡ z * edge table (airAbove air K) j
+        at-edge : (j : ℕ) → j ≤ K → amountAbove (layers rule cap K air gas) (edge table (airAbove air K) j) ≡ z * edge table (airAbove air K) j
         at-edge j h =
-            rw (layers-are cap K air gas)
-            (amount-even (layerOf cap K air gas) K has z (λ k p. (layer-level z even k p, even k p)) _ (edge-le K table _ edges j h))
+            rw (layers-are rule cap K air gas)
+            (amount-even (layerOf rule cap K air gas) K has z (λ k p. (layer-level z even k p, even k p)) _ (edge-le K table _ edges j h))
 
     -- ---- the range: a new layer passes no fraction that bounds the layers near it, but for 1/scale and a unit
     shared : (j k : ℕ) → max (airAbove air k) (edge table (airAbove air K) j) < min (airAbove air (suc k)) (edge table (airAbove air K) (suc j)) → shareAir table air (airAbove air K) j k ≡ true
     unfolding shareAir
     shared j k h = lt-ltb _ _ h
 
-    new-layer-bounded : (j : ℕ) → j < K → Bounded K (isNearLayer K (shareAir table air (airAbove air K) j)) air gas 1 (newAir table (airAbove air K) j) (newTracer table (airAbove air K) (layers cap K air gas) j)
-    new-layer-bounded j h b H L inside =
-        rw (layers-are cap K air gas)
-        (amount-between (layerOf cap K air gas) K has layer-safe b H L _ _ (edges .rises j h) (edge-le K table _ edges (suc j) h)
-        (λ k hk s. layer-leans (shareAir table air (airAbove air K) j) b H L inside k hk (shared j k s)))
+    new-layer-bounded : Monotone rule → (j : ℕ) → j < K → Bounded K (isNearLayer K (shareAir table air (airAbove air K) j)) air gas 1 (newAir table (airAbove air K) j) (newTracer table (airAbove air K) (layers rule cap K air gas) j)
+    new-layer-bounded monotone j h b H L inside =
+        rw (layers-are rule cap K air gas)
+        (amount-between (layerOf rule cap K air gas) K has layer-safe b H L _ _ (edges .rises j h) (edge-le K table _ edges (suc j) h)
+        (λ k hk s. layer-leans monotone (shareAir table air (airAbove air K) j) b H L inside k hk (shared j k s)))
 
-    pub new-layer-in-range : (j : ℕ) → j < K → inRange K (isNearLayer K (shareAir table air (airAbove air K) j)) air gas 2 (newAir table (airAbove air K) j) (newTracer table (airAbove air K) (layers cap K air gas) j) ≡ true
-    new-layer-in-range j h =
-        let some = layer-between (layerOf cap K air gas) K has K _ _ (omega arith) (edges .rises j h) (edge-le K table _ edges (suc j) h) in
+    pub new-layer-in-range : Monotone rule → (j : ℕ) → j < K → inRange K (isNearLayer K (shareAir table air (airAbove air K) j)) air gas 2 (newAir table (airAbove air K) j) (newTracer table (airAbove air K) (layers rule cap K air gas) j) ≡ true
+    new-layer-in-range monotone j h =
+        let some = layer-between (layerOf rule cap K air gas) K has K _ _ (omega arith) (edges .rises j h) (edge-le K table _ edges (suc j) h) in
         in-range K _ air gas (some .0) (some .1) (near-self K (shareAir table air (airAbove air K) j) _ (shared j _ (some .2))) (has _ (some .1)) 1 _ _ (new-air-least K table _ edges j h) (edges .most j h)
-        (new-layer-bounded j h)
+        (new-layer-bounded monotone j h)

@@ -10,7 +10,8 @@ use borrow.Author.Tests.{leb-true, leb-false, ltb-false}
 use lib.Dec.{leb, ltb}
 use Rattle.model.specs.Limits.{scale, airLimit}
 use Rattle.model.specs.Basic.{at, sum, some}
-use Rattle.model.specs.Scheme.{ratio, Mismatch, mismatch, opposite, highPiece, lowPiece}
+use Rattle.model.specs.World.{World}
+use Rattle.model.specs.Scheme.{ratio, Mismatch, Rule, mismatch, ruleOf, opposite, highPiece, lowPiece}
 use Rattle.model.specs.Range.{inRange}
 use Rattle.model.specs.Laws.Basic.{sum-ext, some-unless}
 use Rattle.model.specs.Laws.Scheme.{Safe, numerator, numerator-none, numerator-whole, numerators-meet, piece-is, tilt-le-level, mismatch-low, mismatch-high}
@@ -56,15 +57,23 @@ module _ (qa q qb : ℕ) where
   sorted true e = omega (arith, leb-true qa qb e)
   sorted false e = omega (arith, leb-false qa qb e)
 
-  pub mismatch-towards-high : Towards (mismatch qa q qb) q qb
+  mismatch-towards-high : Towards (mismatch qa q qb) q qb
   unfolding mismatch
   mismatch-towards-high b =
       leaning-le b _ _ q qb qa (sorted _ refl .0) (mismatch-low qa q qb) (mismatch-high qa q qb)
 
-  pub mismatch-towards-low : Towards (opposite (mismatch qa q qb)) q qa
+  mismatch-towards-low : Towards (opposite (mismatch qa q qb)) q qa
   unfolding mismatch
   mismatch-towards-low b =
       leaning-le b _ _ q qa qb (sorted _ refl .1) (rw (min-comm qb qa) (mismatch-low qa q qb)) (rw (max-comm qb qa) (mismatch-high qa q qb))
+
+-- ---- what the range asks of a rule besides: towards a neighbour the mismatch goes at most twice the way to its ratio
+pub record Monotone (rule : Rule) : Type 0 where
+  pub towardsHigh : (qa q qb : ℕ) → Towards (rule qa q qb) q qb
+  pub towardsLow : (qa q qb : ℕ) → Towards (opposite (rule qa q qb)) q qa
+
+pub rule-monotone : (w : World) (t : ℕ) → Monotone (ruleOf w t)
+rule-monotone w t = record { towardsHigh = mismatch-towards-high; towardsLow = mismatch-towards-low }
 
 pub level-towards : (s : Bool) (q r : ℕ) → Towards (record { size = 0; positive = s }) q r
 level-towards true q r true = omega arith

@@ -6,13 +6,13 @@ use native.Mathlib.Nat.{mul-le-mul, mul-le-mul-right}
 use native.Mathlib.Omega.{arith}
 use borrow.Author.Tests.{leb-true}
 use lib.Dec.{leb}
-use Rattle.model.specs.Limits.{leastColumns, mostColumns, mostRows, mostLayers, mostTracers, mostLayerCells, mostFaces, mostCells, mostAmounts}
+use Rattle.model.specs.Limits.{mostColumns, mostRows, mostLayers, mostTracers, mostLayerCells, mostFaces, mostCells, mostAmounts}
 use Rattle.model.specs.World.{Grid, layerCells, worldCells, layerStart, rowStart}
 use Rattle.model.specs.Step.{within, gridFits}
 
 -- W, R, K and N are in their ranges
 pub record InRange (g : Grid) : Type 0 where
-  pub lowW : leastColumns ≤ g .W
+  pub lowW : 4 ≤ g .W
   pub highW : g .W ≤ mostColumns
   pub lowR : 1 ≤ g .R
   pub highR : g .R ≤ mostRows
@@ -31,8 +31,8 @@ pub in-range : (g : Grid) → gridFits g ≡ true → InRange g
 in-range g e =
     let p = and-eq-true-iff _ (within 1 (g .N) mostTracers) .0 e in
     let q = and-eq-true-iff _ (within 1 (g .K) mostLayers) .0 (p .0) in
-    let r = and-eq-true-iff (within leastColumns (g .W) mostColumns) (within 1 (g .R) mostRows) .0 (q .0) in
-    let columns = within-true leastColumns (g .W) mostColumns (r .0) in
+    let r = and-eq-true-iff (within 4 (g .W) mostColumns) (within 1 (g .R) mostRows) .0 (q .0) in
+    let columns = within-true 4 (g .W) mostColumns (r .0) in
     let rows = within-true 1 (g .R) mostRows (r .1) in
     let layers = within-true 1 (g .K) mostLayers (q .1) in
     let tracers = within-true 1 (g .N) mostTracers (p .1) in

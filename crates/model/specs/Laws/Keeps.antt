@@ -1,42 +1,50 @@
--- What one call keeps of a world, as a record of facts: an accepted call, and from that any call, since a refused one changes nothing.
--- Assumes a world that fits, as one does after an accepted load; independence speaks of two such worlds that are alike.
+-- What one call keeps of a world, as a record of facts: an accepted call by its meaning, and from that any call, since a refused one changes nothing.
+-- Assumes a world that calls reach; independence speaks of two such worlds that are alike.
 use Prim.Native.Nat.{ℕ, zero, suc, _+_, _<_}
 use mathlib.Core.List.{List, [], _∷_}
-use mathlib.Core.Bool.{Bool, true, false, not, and-false, false≢true}
+use mathlib.Core.Bool.{Bool, true, false, not, false≢true}
 use mathlib.Core.Path.{_≡_, refl, sym, _∙_, ap, ap₂}
 use native.Mathlib.Omega.{arith}
 use borrow.Author.Tests.{ltb-true, lt-ltb, not-false}
-use lib.Dec.{ltb, eqb, eqb·suc-zero}
-use Rattle.model.specs.Limits.{totalLimit}
+use lib.Dec.{ltb}
 use Rattle.model.specs.Basic.{at, sum}
-use Rattle.model.specs.World.{Grid, World, worldCells, gas, gasTotal, airTotal}
-use Rattle.model.specs.Remap.{remapServes}
-use Rattle.model.specs.Step.{Call, load, emission, withdrawal, zonal, meridional, remap, total, cell, Exchange, none, brings, takes, Named, nobody, tracer, meaning, Place, firstOf, absent, tracerAbsent, cellAbsent, lentFits, ownPlaces, accepted, refused, refusal, step}
-use Rattle.model.specs.Lists.{whenAccepted, bringsIn, takesOut, ownOnly, emits, withdraws, HasRatio, CallInRange, Alike, namesOwn, namesNoOther, SameReply}
-use Rattle.model.specs.Laws.Step.{Fits, firstOf-same, step-accepted, step-refused, answer-is, own-refusal, lent-refusal}
+use Rattle.model.specs.World.{Grid, World, withAmounts, worldCells, gas, gasTotal, airTotal}
+use Rattle.model.specs.Step.{Call, Place, firstOf, absent, Exchange, noExchange, Named, nobody, tracer, Meaning, meaning, reads, lentFits, ownPlaces, accepted, refused, refusal, step}
+use Rattle.model.specs.Lists.{exchanged, added, HasRatio, CallInRange, Alike, namesOwn, namesNoOther, SameReply}
+use Rattle.model.specs.Laws.Step.{Reached, firstOf-same, step-accepted, step-refused, answer-is, own-refusal, lent-refusal, accepted-passed}
 
--- ---- what is kept from one world to a later one, where `came t` units of gas t came in and `went t` went out
-pub record Kept (w next : World) (came went : ℕ → ℕ) : Type 0 where
-  pub fits : Fits next
+-- ---- what is kept from one world to a later one, where x t of gas t is exchanged
+pub record Kept (w next : World) (x : ℕ → Exchange) : Type 0 where
+  pub reached : Reached next
   pub sameGrid : next .grid ≡ w .grid
-  pub gasKept : (t : ℕ) → t < w .grid .N → gasTotal next t + went t ≡ gasTotal w t + came t
+  pub gasKept : (t : ℕ) → t < w .grid .N → gasTotal next t + x t .withdrawn ≡ gasTotal w t + x t .emitted
   pub airKept : airTotal next ≡ airTotal w
-  pub ratioKept : (t z : ℕ) → t < w .grid .N → came t ≡ 0 → went t ≡ 0 → HasRatio w t z → HasRatio next t z
+  pub ratioKept : (t z : ℕ) → t < w .grid .N → x t .emitted ≡ 0 → x t .withdrawn ≡ 0 → HasRatio w t z → HasRatio next t z
 
-pub kept-same : {w : World} {came went : ℕ → ℕ} → Fits w → ((t : ℕ) → came t ≡ 0) → ((t : ℕ) → went t ≡ 0) → Kept w w came went
-kept-same fits none-came none-went =
+pub kept-same : {w : World} {x : ℕ → Exchange} → Reached w → ((t : ℕ) → x t ≡ noExchange) → Kept w w x
+kept-same {w} {x} reached none =
     record {
-      fits = fits;
+      reached = reached;
       sameGrid = refl;
-      gasKept = λ t h. omega (arith, none-came t, none-went t);
+      gasKept = λ t h. rw (none t);
       airKept = refl;
       ratioKept = λ t z h p q r. r;
     }
 
-pub kept-trans : {w v u : World} {came went came' went' : ℕ → ℕ} → Kept w v came went → Kept v u came' went' → Kept w u (λ t. came t + came' t) (λ t. went t + went' t)
-kept-trans {w} {v} {u} {came} {went} {came'} {went'} p q =
+kept-as : {w next : World} {x y : ℕ → Exchange} → ((t : ℕ) → y t ≡ x t) → Kept w next x → Kept w next y
+kept-as same k =
     record {
-      fits = q .fits;
+      reached = k .reached;
+      sameGrid = k .sameGrid;
+      gasKept = λ t h. rw (same t) (k .gasKept t h);
+      airKept = k .airKept;
+      ratioKept = λ t z h p q. k .ratioKept t z h (rw (same t) at p) (rw (same t) at q);
+    }
+
+pub kept-trans : {w v u : World} {x y : ℕ → Exchange} → Kept w v x → Kept v u y → Kept w u (λ t. added (x t) (y t))
+kept-trans {w} {v} {u} {x} {y} p q =
+    record {
+      reached = q .reached;
       sameGrid = q .sameGrid ∙ p .sameGrid;
       gasKept = λ t h. omega (arith, p .gasKept t h, q .gasKept t (still h));
       airKept = q .airKept ∙ p .airKept;
@@ -63,143 +71,147 @@ alike-trans a b =
     }
 
 -- a present tracer that a call names is an own one, or another
-pub names-present : (own : ℕ → Bool) (w : World) (t : ℕ) → t < w .grid .N → own t ≡ namesOwn own w t
+pub names-present : (own : ℕ → Bool) (w : World) (t : ℕ) → t < w .grid .N → own t ≡ namesOwn own w (tracer t)
 names-present own w t present = rw (lt-ltb t (w .grid .N) present, namesOwn)
 
 -- which gases a call names in two worlds of the same grid
-module _ (own : ℕ → Bool) (w v : World) (sameGrid : w .grid ≡ v .grid) where
-  names-own-grid : (t : ℕ) → namesOwn own w t ≡ namesOwn own v t
-  names-own-grid t = ap (λ (g : Grid). elim (ltb t (g .N)) [ true ↦ own t | false ↦ true ]) sameGrid
+pub names-grid : (own : ℕ → Bool) (w v : World) → w .grid ≡ v .grid → (named : Named) → namesOwn own w named ≡ namesOwn own v named
+names-grid own w v sameGrid nobody = refl
+names-grid own w v sameGrid (tracer t) =
+    ap (λ (g : Grid). elim (ltb t (g .N)) [ true ↦ own t | false ↦ true ]) sameGrid
 
-  own-only-grid : (named : Named) → ownOnly own w named ≡ ownOnly own v named
-  own-only-grid nobody = refl
-  own-only-grid (tracer t) = names-own-grid t
-
-  pub names-grid : (call : Call) → namesNoOther own w call ≡ namesNoOther own v call
-  names-grid call = own-only-grid (meaning call .names)
-
--- a call in two worlds alike: the gases that it names, and its refusal, if it names no other
+-- a call in two worlds alike: the gases that it names, and its places
 module _ (own : ℕ → Bool) (w v : World) (alike : Alike own w v) where
-  pub named-alike : (t : ℕ) → namesOwn own w t ≡ true → t < w .grid .N → gas w t ≡ gas v t
+  pub named-alike : (t : ℕ) → namesOwn own w (tracer t) ≡ true → t < w .grid .N → gas w t ≡ gas v t
   named-alike t named present = alike .sameGas t (names-present own w t present ∙ named)
 
-  pub named-total-alike : (t : ℕ) → namesOwn own w t ≡ true → t < w .grid .N → gasTotal w t ≡ gasTotal v t
+  pub named-total-alike : (t : ℕ) → namesOwn own w (tracer t) ≡ true → t < w .grid .N → gasTotal w t ≡ gasTotal v t
   named-total-alike t named present =
       ap₂ (λ (g : Grid) (l : List ℕ). sum (worldCells g) (at l)) (alike .sameGrid) (named-alike t named present)
 
   -- what is named is absent in both worlds or in neither; the last place; no place
-  absent-alike : (i : ℕ) (many : Grid → ℕ) (ps : List Place) → (i < many (w .grid) → firstOf ps w ≡ firstOf ps v) → firstOf (absent i many ∷ ps) w ≡ firstOf (absent i many ∷ ps) v
+  pub absent-alike : (i : ℕ) (many : Grid → ℕ) (ps : List Place) → (i < many (w .grid) → firstOf ps w ≡ firstOf ps v) → firstOf (absent i many ∷ ps) w ≡ firstOf (absent i many ∷ ps) v
   absent-alike i many ps rest =
       firstOf-same (absent i many) ps w v
       (ap (λ (g : Grid). not (ltb i (many g))) (alike .sameGrid))
       (λ there. rest (ltb-true _ _ (not-false _ there)))
 
-  tracer-cell-alike : (t c : ℕ) (ps : List Place) → (t < w .grid .N → firstOf ps w ≡ firstOf ps v) → firstOf (tracerAbsent t ∷ cellAbsent c ∷ ps) w ≡ firstOf (tracerAbsent t ∷ cellAbsent c ∷ ps) v
-  tracer-cell-alike t c ps rest =
-      absent-alike t (λ g. g .N) (cellAbsent c ∷ ps) (λ present. absent-alike c worldCells ps (λ inside. rest present))
-
-  none-alike : firstOf [] w ≡ firstOf [] v
+  pub none-alike : firstOf [] w ≡ firstOf [] v
   unfolding firstOf
   none-alike = refl
 
-  last-alike : (p : Place) → p .applies w ≡ p .applies v → firstOf (p ∷ []) w ≡ firstOf (p ∷ []) v
+  pub last-alike : (p : Place) → p .applies w ≡ p .applies v → firstOf (p ∷ []) w ≡ firstOf (p ∷ []) v
   last-alike p same = firstOf-same p [] w v same (λ passed. none-alike)
 
-  -- a call's own places, as far as they read the grid and the air alone
-  air-alike : (call : Call) → firstOf (ownPlaces call) (record { grid = w .grid; air = w .air; tracers = [] }) ≡ firstOf (ownPlaces call) (record { grid = v .grid; air = v .air; tracers = [] })
-  air-alike call =
-      ap₂ (λ (g : Grid) (a : List ℕ). firstOf (ownPlaces call) (record { grid = g; air = a; tracers = [] }))
-      (alike .sameGrid)
-      (alike .sameAir)
+  -- places that read the grid and the air alone
+  pub air-alike : (ps : List Place) → firstOf ps (withAmounts w (w .air) []) ≡ firstOf ps (withAmounts v (v .air) [])
+  air-alike ps =
+      ap₂ (λ (g : Grid) (a : List ℕ). firstOf ps (record { grid = g; air = a; tracers = [] })) (alike .sameGrid) (alike .sameAir)
 
-  own-places-alike : (call : Call) → namesNoOther own w call ≡ true → firstOf (ownPlaces call) w ≡ firstOf (ownPlaces call) v
+-- ---- what a call keeps, by its meaning
+-- one whose own places are passed; `alike` is for a call that names no other gas than the own ones, `apart` for one that names another
+pub record AcceptedKeeps (w : World) (m : Meaning) : Type 0 where
+  pub kept : Kept w (m .next w) (m .exchange w)
+  pub inRange : (t : ℕ) → t < w .grid .N → m .range w t
+  pub alike : (own : ℕ → Bool) (v : World) → Reached v → Alike own w v → namesOwn own w (m .names) ≡ true → Alike own (m .next w) (m .next v) × (m .count w ≡ m .count v)
+  pub apart : (own : ℕ → Bool) → namesOwn own w (m .names) ≡ false → Alike own w (m .next w)
+
+-- in any world its grid stays, and its own places do not tell two worlds alike apart, if it names no other gas
+pub record MeaningKeeps (m : Meaning) : Type 0 where
+  pub sameGrid : (w : World) → m .next w .grid ≡ w .grid
+  pub samePlaces : (own : ℕ → Bool) (w v : World) → Alike own w v → namesOwn own w (m .names) ≡ true → firstOf (m .places) w ≡ firstOf (m .places) v
+  pub accepts : (w : World) → Reached w → firstOf (m .places) w ≡ 0 → AcceptedKeeps w m
+
+-- a call that reads keeps all, if its places and its count read no other gas than the one that it names
+pub reads-keep : (names : Named) (ps : List Place) (count : World → ℕ) → ((own : ℕ → Bool) (w v : World) → Alike own w v → namesOwn own w names ≡ true → firstOf ps w ≡ firstOf ps v) → ((own : ℕ → Bool) (w v : World) → Alike own w v → namesOwn own w names ≡ true → firstOf ps w ≡ 0 → count w ≡ count v) → MeaningKeeps (reads names ps count)
+reads-keep names ps count places counts =
+    record {
+      sameGrid = λ w. refl;
+      samePlaces = places;
+      accepts =
+          λ w reached e.
+          record {
+            kept = kept-same reached (λ t. refl);
+            inRange = λ t h. tt;
+            alike = λ own v rv a named. (a, counts own w v a named e);
+            apart = λ own other. alike-same own w;
+          };
+    }
+
+-- ---- what `step` keeps: a refused call changes nothing
+pub record StepKeeps (w : World) (call : Call) : Type 0 where
+  pub kept : Kept w (step w call .next) (λ t. exchanged w t call)
+  pub inRange : (t : ℕ) → t < w .grid .N → step w call .answer ≡ 0 → CallInRange w t call
+  pub independent : (own : ℕ → Bool) (v : World) → Reached v → Alike own w v → Alike own (step w call .next) (step v call .next) × (namesNoOther own w call ≡ true → SameReply w v call)
+
+exchange-accepted : (w : World) (call : Call) → step w call .answer ≡ 0 → (t : ℕ) → exchanged w t call ≡ meaning call .exchange w t
+exchange-accepted w call e t = rw (e, exchanged)
+
+exchange-refused : (w : World) (call : Call) (n : ℕ) → step w call .answer ≡ suc n → (t : ℕ) → exchanged w t call ≡ noExchange
+exchange-refused w call n e t = rw (e, exchanged)
+
+module _ (call : Call) (keeps : MeaningKeeps (meaning call)) where
+  accepts : (w : World) → Reached w → refusal w call ≡ 0 → AcceptedKeeps w (meaning call)
   unfolding ownPlaces
-  own-places-alike load named = none-alike
-  own-places-alike (emission t c amount) named =
-      tracer-cell-alike t c _
-      (λ present. last-alike _ (ap (λ (x : ℕ). ltb totalLimit (x + amount)) (named-total-alike t named present)))
-  own-places-alike (withdrawal t c amount) named =
-      tracer-cell-alike t c _
-      (λ present. last-alike _ (ap (λ (l : List ℕ). ltb (at l c) amount) (named-alike t named present)))
-  own-places-alike (zonal k r fluxes) named = unfold firstOf in air-alike (zonal k r fluxes)
-  own-places-alike (meridional k fluxes) named = unfold firstOf in air-alike (meridional k fluxes)
-  own-places-alike (remap table) named = unfold firstOf remapServes in air-alike (remap table)
-  own-places-alike (total t) named = absent-alike t (λ g. g .N) _ (λ present. none-alike)
-  own-places-alike (cell t c) named = tracer-cell-alike t c _ (λ present. none-alike)
+  accepts w reached e = keeps .accepts w reached (accepted-passed w call e .2)
 
-  refusal-alike : (call : Call) → Fits w → Fits v → namesNoOther own w call ≡ true → refusal w call ≡ refusal v call
-  refusal-alike call fw fv named = go (lentFits (w .grid) call) refl
+  step-kept : (w : World) → Reached w → (n : ℕ) → refusal w call ≡ n → Kept w (step w call .next) (λ t. exchanged w t call)
+  unfolding accepted refused
+  step-kept w reached zero e =
+      kept-as (exchange-accepted w call (answer-is w call ∙ e))
+      (rw (step-accepted w call e) (accepts w reached e .kept))
+  step-kept w reached (suc n) e =
+      rw (step-refused w call n e) (kept-same reached (exchange-refused w call n (answer-is w call ∙ e)))
+
+  -- its refusal in two worlds alike, if it names no other gas
+  refusal-alike : (own : ℕ → Bool) (w v : World) → Alike own w v → Reached w → Reached v → namesNoOther own w call ≡ true → refusal w call ≡ refusal v call
+  unfolding ownPlaces
+  refusal-alike own w v alike ww vv named = go (lentFits (w .grid) call) refl
     where
       go : (b : Bool) → lentFits (w .grid) call ≡ b → refusal w call ≡ refusal v call
       go true e =
-          own-refusal w call fw e ∙ own-places-alike call named ∙
-          sym (own-refusal v call fv (rw (alike .sameGrid) at e))
-      go false e = lent-refusal w call fw e ∙ sym (lent-refusal v call fv (rw (alike .sameGrid) at e))
-
--- ---- what one call keeps
--- an accepted call; `alike` is for a call that names no other gas than the own ones, `apart` for one that names another
-pub record AcceptedKeeps (w : World) (call : Call) : Type 0 where
-  pub kept : Kept w (accepted w call .next) (λ t. emits w t call) (λ t. withdraws w t call)
-  pub inRange : (t : ℕ) → t < w .grid .N → CallInRange w t call
-  pub alike : (own : ℕ → Bool) (v : World) → Fits v → Alike own w v → namesNoOther own w call ≡ true → Alike own (accepted w call .next) (accepted v call .next) × (accepted w call .count ≡ accepted v call .count)
-  pub apart : (own : ℕ → Bool) → namesNoOther own w call ≡ false → Alike own w (accepted w call .next)
-
--- any call
-pub record StepKeeps (w : World) (call : Call) : Type 0 where
-  pub kept : Kept w (step w call .next) (λ t. emits w t call) (λ t. withdraws w t call)
-  pub inRange : (t : ℕ) → t < w .grid .N → step w call .answer ≡ 0 → CallInRange w t call
-  pub independent : (own : ℕ → Bool) (v : World) → Fits v → Alike own w v → Alike own (step w call .next) (step v call .next) × (namesNoOther own w call ≡ true → SameReply w v call)
-
--- a refused call brings nothing in and takes nothing out
-when-refused : (w : World) (call : Call) (named : Bool) (amount n : ℕ) → refusal w call ≡ suc n → whenAccepted w call named amount ≡ 0
-when-refused w call named amount n e = rw (answer-is w call, whenAccepted, e, eqb·suc-zero n, and-false named)
-
-none-exchanged : (w : World) (call : Call) (n : ℕ) → refusal w call ≡ suc n → (t : ℕ) (x : Exchange) → (bringsIn w call t x ≡ 0) × (takesOut w call t x ≡ 0)
-none-exchanged w call n e t none = (refl, refl)
-none-exchanged w call n e t (brings t' amount) = (when-refused w call (eqb t' t) amount n e, refl)
-none-exchanged w call n e t (takes t' amount) = (refl, when-refused w call (eqb t' t) amount n e)
-
-refused-none : (w : World) (call : Call) (n : ℕ) → refusal w call ≡ suc n → (t : ℕ) → (emits w t call ≡ 0) × (withdraws w t call ≡ 0)
-refused-none w call n e t = none-exchanged w call n e t (meaning call .exchange w)
-
--- a call keeps what it keeps when it is accepted: a refused one changes nothing
-module _ (call : Call) (when : (w : World) → Fits w → refusal w call ≡ 0 → AcceptedKeeps w call) where
-  step-kept : (w : World) → Fits w → (n : ℕ) → refusal w call ≡ n → Kept w (step w call .next) (λ t. emits w t call) (λ t. withdraws w t call)
-  unfolding refused
-  step-kept w fits zero e = rw (step-accepted w call e) (when w fits e .kept)
-  step-kept w fits (suc n) e =
-      rw (step-refused w call n e)
-      (kept-same fits (λ t. refused-none w call n e t .0) (λ t. refused-none w call n e t .1))
+          own-refusal w call (ww .fits) e ∙ keeps .samePlaces own w v alike named ∙
+          sym (own-refusal v call (vv .fits) (rw (alike .sameGrid) at e))
+      go false e = lent-refusal w call (ww .fits) e ∙ sym (lent-refusal v call (vv .fits) (rw (alike .sameGrid) at e))
 
   -- a call that names another gas leaves the own ones alone
-  step-apart : (own : ℕ → Bool) (w : World) → Fits w → namesNoOther own w call ≡ false → (n : ℕ) → refusal w call ≡ n → Alike own w (step w call .next)
-  unfolding refused
-  step-apart own w fits other zero e = rw (step-accepted w call e) (when w fits e .apart own other)
-  step-apart own w fits other (suc n) e = rw (step-refused w call n e) (alike-same own w)
+  step-apart : (own : ℕ → Bool) (w : World) → Reached w → namesNoOther own w call ≡ false → (n : ℕ) → refusal w call ≡ n → Alike own w (step w call .next)
+  unfolding accepted refused
+  step-apart own w reached other zero e = rw (step-accepted w call e) (accepts w reached e .apart own other)
+  step-apart own w reached other (suc n) e = rw (step-refused w call n e) (alike-same own w)
 
   -- one that names no other does the same in both worlds
-  step-alike : (own : ℕ → Bool) (w v : World) → Fits w → Fits v → Alike own w v → namesNoOther own w call ≡ true → (n : ℕ) → refusal w call ≡ n → refusal v call ≡ n → Alike own (step w call .next) (step v call .next) × (step w call .count ≡ step v call .count)
-  unfolding refused
-  step-alike own w v fw fv a named zero e f =
-      rw (step-accepted w call e, step-accepted v call f) (when w fw e .alike own v fv a named)
-  step-alike own w v fw fv a named (suc n) e f =
+  step-alike : (own : ℕ → Bool) (w v : World) → Reached w → Reached v → Alike own w v → namesNoOther own w call ≡ true → (n : ℕ) → refusal w call ≡ n → refusal v call ≡ n → Alike own (step w call .next) (step v call .next) × (step w call .count ≡ step v call .count)
+  unfolding accepted refused
+  step-alike own w v ww vv a named zero e f =
+      rw (step-accepted w call e, step-accepted v call f) (accepts w ww e .alike own v vv a named)
+  step-alike own w v ww vv a named (suc n) e f =
       rw (step-refused w call n e, step-refused v call n f) (a, refl)
 
-  step-independent : (own : ℕ → Bool) (w v : World) → Fits w → Fits v → Alike own w v → (b : Bool) → namesNoOther own w call ≡ b → Alike own (step w call .next) (step v call .next) × (b ≡ true → SameReply w v call)
-  step-independent own w v fw fv a true e =
-      let same = refusal-alike own w v a call fw fv e in
-      let r = step-alike own w v fw fv a e (refusal w call) refl (sym same) in
+  step-independent : (own : ℕ → Bool) (w v : World) → Reached w → Reached v → Alike own w v → (b : Bool) → namesNoOther own w call ≡ b → Alike own (step w call .next) (step v call .next) × (b ≡ true → SameReply w v call)
+  step-independent own w v ww vv a true e =
+      let same = refusal-alike own w v a ww vv e in
+      let r = step-alike own w v ww vv a e (refusal w call) refl (sym same) in
       (r .0, λ named. (answer-is w call ∙ same ∙ sym (answer-is v call), r .1))
-  step-independent own w v fw fv a false e =
-      let f = sym (names-grid own w v (a .sameGrid) call) ∙ e in (
-        alike-trans (alike-sym (step-apart own w fw e (refusal w call) refl)) (alike-trans a (step-apart own v fv f (refusal v call) refl)),
+  step-independent own w v ww vv a false e =
+      let f = sym (names-grid own w v (a .sameGrid) (meaning call .names)) ∙ e in (
+        alike-trans (alike-sym (step-apart own w ww e (refusal w call) refl)) (alike-trans a (step-apart own v vv f (refusal v call) refl)),
         λ named. absurd (false≢true named),
       )
 
-  pub step-keeps : (w : World) → Fits w → StepKeeps w call
-  step-keeps w fits =
+  pub step-keeps : (w : World) → Reached w → StepKeeps w call
+  step-keeps w reached =
       record {
-        kept = step-kept w fits (refusal w call) refl;
-        inRange = λ t h e. when w fits (sym (answer-is w call) ∙ e) .inRange t h;
-        independent = λ own v fv a. step-independent own w v fits fv a (namesNoOther own w call) refl;
+        kept = step-kept w reached (refusal w call) refl;
+        inRange = λ t h e. accepts w reached (sym (answer-is w call) ∙ e) .inRange t h;
+        independent = λ own v rv a. step-independent own w v reached rv a (namesNoOther own w call) refl;
       }
+
+  -- in any world the grid stays
+  pub step-same-grid : (w : World) → step w call .next .grid ≡ w .grid
+  unfolding accepted refused
+  step-same-grid w = go (refusal w call) refl
+    where
+      go : (n : ℕ) → refusal w call ≡ n → step w call .next .grid ≡ w .grid
+      go zero e = rw (step-accepted w call e) (keeps .sameGrid w)
+      go (suc n) e = rw (step-refused w call n e)

@@ -9,7 +9,6 @@ use borrow.Author.Tests.{ltb-true, ltb-false, lt-ltb, le-ltb}
 use lib.Dec.{ltb}
 use Rattle.model.specs.Basic.{sum}
 use Rattle.model.specs.Sweep.{between, northCap, Flow, layer, southOf, northOf, layerSides, leaving}
-use Rattle.model.specs.Laws.Scheme.{mismatch-twice, mismatch-equal}
 use Rattle.model.specs.Laws.Basic.{sum-add, sum-split, sum-ext}
 use Rattle.model.specs.Laws.Mesh.{out, leaving-is, Regular, Meets, OnHighSide, OnLowSide, passes-on}
 
@@ -130,7 +129,5 @@ module _ (W R : ℕ) where
         highIn = high-in;
         lowHas = low-has;
         highHas = high-has;
-        ruleTwice = mismatch-twice;
-        ruleEqual = mismatch-equal;
         passesOn = passes-on (layer W R) layer-leaving;
       }

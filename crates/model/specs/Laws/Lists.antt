@@ -1,67 +1,72 @@
 -- What a list of calls keeps, from its start to each of its points and from there to each later one.
--- Assumes a world that fits, as one does after an accepted load, and that each call of the list keeps what a call keeps.
+-- Assumes a start that calls reach, as the world is that an accepted load leaves, and that each call of the list keeps what a call keeps.
 use Prim.Native.Nat.{ℕ, zero, suc, _+_, _-_, _≤_, _<_}
 use mathlib.Core.List.{List, [], _∷_, _++_}
 use mathlib.Core.Bool.{Bool}
 use mathlib.Core.Path.{_≡_, refl, sym, _∙_, ap}
-use native.Mathlib.Nat.{zero-add, add-sub-of-le}
+use native.Mathlib.Nat.{add-sub-of-le}
 use native.Mathlib.Omega.{arith}
 use lib.ListN.{take, drop}
 use lib.Seq.{getD-drop, take-add}
 use Rattle.model.specs.World.{World}
-use Rattle.model.specs.Step.{Call, load, step}
-use Rattle.model.specs.Lists.{after, point, callAt, emitted, withdrawn, HasRatio, Alike}
-use Rattle.model.specs.Laws.Step.{Fits}
+use Rattle.model.specs.Step.{Call, load, Exchange, step}
+use Rattle.model.specs.Lists.{after, point, callAt, history, HasRatio, Alike}
+use Rattle.model.specs.Laws.Step.{Reached}
 use Rattle.model.specs.Laws.Keeps.{Kept, kept-same, kept-trans, StepKeeps}
 
 -- ---- what a list keeps
 -- each call of the list keeps what a call keeps
 abbrev pub EachKeeps : List Call → Type 0
-EachKeeps calls = (i : ℕ) (w : World) → Fits w → StepKeeps w (callAt calls i)
+EachKeeps calls = (i : ℕ) (w : World) → Reached w → StepKeeps w (callAt calls i)
 
 -- from the start to point i
-pub points-kept : (i : ℕ) (w : World) (calls : List Call) → Fits w → EachKeeps calls → Kept w (point w calls i) (λ t. emitted w t (take i calls)) (λ t. withdrawn w t (take i calls))
-unfolding after emitted withdrawn
-points-kept zero w calls fits each = kept-same fits (λ t. refl) (λ t. refl)
-points-kept (suc i) w [] fits each = kept-same fits (λ t. refl) (λ t. refl)
-points-kept (suc i) w (call ∷ calls) fits each =
-    let one = each 0 w fits .kept in
-    kept-trans one (points-kept i (step w call .next) calls (one .fits) (λ n. each (suc n)))
+pub points-kept : (i : ℕ) (w : World) (calls : List Call) → Reached w → EachKeeps calls → Kept w (point w calls i) (λ t. history w t (take i calls))
+unfolding after history
+points-kept zero w calls reached each = kept-same reached (λ t. refl)
+points-kept (suc i) w [] reached each = kept-same reached (λ t. refl)
+points-kept (suc i) w (call ∷ calls) reached each =
+    let one = each 0 w reached .kept in
+    kept-trans one (points-kept i (step w call .next) calls (one .reached) (λ n. each (suc n)))
 
 -- two worlds alike at the start are alike at point i
-pub points-alike : (own : ℕ → Bool) (i : ℕ) (w v : World) (calls : List Call) → Fits w → Fits v → EachKeeps calls → Alike own w v → Alike own (point w calls i) (point v calls i)
+pub points-alike : (own : ℕ → Bool) (i : ℕ) (w v : World) (calls : List Call) → Reached w → Reached v → EachKeeps calls → Alike own w v → Alike own (point w calls i) (point v calls i)
 unfolding after
-points-alike own zero w v calls fw fv each a = a
-points-alike own (suc i) w v [] fw fv each a = a
-points-alike own (suc i) w v (call ∷ calls) fw fv each a =
-    let one = each 0 w fw in
-    points-alike own i (step w call .next) (step v call .next) calls (one .kept .fits) (each 0 v fv .kept .fits) (λ n. each (suc n)) (one .independent own v fv a .0)
+points-alike own zero w v calls ww vv each a = a
+points-alike own (suc i) w v [] ww vv each a = a
+points-alike own (suc i) w v (call ∷ calls) ww vv each a =
+    let one = each 0 w ww in
+    points-alike own i (step w call .next) (step v call .next) calls (one .kept .reached) (each 0 v vv .kept .reached) (λ n. each (suc n)) (one .independent own v vv a .0)
 
 -- a list in two parts
-after-append : (w : World) (a b : List Call) → after w (a ++ b) ≡ after (after w a) b
+pub after-append : (w : World) (a b : List Call) → after w (a ++ b) ≡ after (after w a) b
 unfolding after
 after-append w [] b = refl
 after-append w (call ∷ a) b = after-append (step w call .next) a b
 
-emitted-append : (w : World) (t : ℕ) (a b : List Call) → emitted w t (a ++ b) ≡ emitted w t a + emitted (after w a) t b
-unfolding emitted after
-emitted-append w t [] b = sym (zero-add _)
-emitted-append w t (call ∷ a) b = omega (arith, emitted-append (step w call .next) t a b)
+-- the history of a list in two parts: what is exchanged in the first, and then in the second
+record Parted (w : World) (t : ℕ) (a b : List Call) : Type 0 where
+  came : history w t (a ++ b) .emitted ≡ history w t a .emitted + history (after w a) t b .emitted
+  went : history w t (a ++ b) .withdrawn ≡ history w t a .withdrawn + history (after w a) t b .withdrawn
 
-withdrawn-append : (w : World) (t : ℕ) (a b : List Call) → withdrawn w t (a ++ b) ≡ withdrawn w t a + withdrawn (after w a) t b
-unfolding withdrawn after
-withdrawn-append w t [] b = sym (zero-add _)
-withdrawn-append w t (call ∷ a) b = omega (arith, withdrawn-append (step w call .next) t a b)
+history-append : (w : World) (t : ℕ) (a b : List Call) → Parted w t a b
+unfolding history after
+history-append w t [] b = record { came = omega arith; went = omega arith }
+history-append w t (call ∷ a) b =
+    let rest = history-append (step w call .next) t a b in
+    record { came = omega (arith, rest .came); went = omega (arith, rest .went) }
 
 -- a ratio from point i to point j, between which nothing of the gas was emitted or withdrawn
-pub points-ratio : (i j : ℕ) (w : World) (calls : List Call) → Fits w → EachKeeps calls → i ≤ j → (t z : ℕ) → t < w .grid .N → HasRatio (point w calls i) t z → emitted w t (take j calls) ≡ emitted w t (take i calls) → withdrawn w t (take j calls) ≡ withdrawn w t (take i calls) → HasRatio (point w calls j) t z
-points-ratio i j w calls fits each le t z h ratio no-emission no-withdrawal =
+pub points-ratio : (i j : ℕ) (w : World) (calls : List Call) → Reached w → EachKeeps calls → i ≤ j → (t z : ℕ) → t < w .grid .N → HasRatio (point w calls i) t z → history w t (take j calls) ≡ history w t (take i calls) → HasRatio (point w calls j) t z
+points-ratio i j w calls reached each le t z h ratio none =
+    let first : List Call = take i calls in
     let between : List Call = take (j - i) (drop i calls) in
-    let split : take j calls ≡ take i calls ++ between = ap (λ (n : ℕ). take n calls) (sym (add-sub-of-le le)) ∙ take-add i (j - i) calls in
-    let now = points-kept i w calls fits each in
-    let later = points-kept (j - i) (point w calls i) (drop i calls) (now .fits) (λ n v fv. rw (getD-drop i calls n load) (each (i + n) v fv)) in
-    rw (split, after-append w (take i calls) between)
+    let split : take j calls ≡ first ++ between = ap (λ (n : ℕ). take n calls) (sym (add-sub-of-le le)) ∙ take-add i (j - i) calls in
+    let parted = history-append w t first between in
+    let same : history w t (first ++ between) ≡ history w t first = rw split at none in
+    let now = points-kept i w calls reached each in
+    let later = points-kept (j - i) (point w calls i) (drop i calls) (now .reached) (λ n v vv. rw (getD-drop i calls n load) (each (i + n) v vv)) in
+    rw (split, after-append w first between)
     (later .ratioKept t z (rw (now .sameGrid) h)
-    (omega (arith, rw split at no-emission, emitted-append w t (take i calls) between))
-    (omega (arith, rw split at no-withdrawal, withdrawn-append w t (take i calls) between))
+    (omega (arith, parted .came, ap (λ (x : Exchange). x .emitted) same))
+    (omega (arith, parted .went, ap (λ (x : Exchange). x .withdrawn) same))
     ratio)

@@ -46,9 +46,6 @@ pub record Regular (mesh : Mesh) : Type 0 where
   pub highIn : (f : ℕ) → f < mesh .faces → mesh .highCell f < mesh .cells
   pub lowHas : (f : ℕ) → f < mesh .faces → OnHighSide f (mesh .sides (mesh .lowCell f))
   pub highHas : (f : ℕ) → f < mesh .faces → OnLowSide f (mesh .sides (mesh .highCell f))
-  -- a mismatch is at most twice the cell's ratio, and none between neighbours of equal ratio
-  pub ruleTwice : (qa q qb : ℕ) → mesh .rule qa q qb .size ≤ 2 * q
-  pub ruleEqual : (q p : ℕ) → mesh .rule q p q .size ≡ 0
   -- what leaves the cells enters them
   pub passesOn : (flow : Flow) → sum (mesh .cells) (entering mesh flow) ≡ sum (mesh .cells) (leaving mesh flow)
 

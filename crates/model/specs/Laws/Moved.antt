@@ -1,5 +1,5 @@
--- What a call that moves air keeps, where it moves the air and each gas as a conserving change does.
--- Assumes a world that fits; for two worlds alike, that each gas keeps its number of amounts.
+-- What a call that moves air keeps, where the new air and the change of each gas keep their own.
+-- Assumes a world that calls reach; for two worlds alike, that each gas keeps its number of amounts.
 use Prim.Native.Nat.{ℕ, _+_, _*_, _≤_, _<_}
 use mathlib.Core.List.{List}
 use mathlib.Core.Bool.{Bool, true, false}
@@ -9,50 +9,59 @@ use lib.Dec.{ltb}
 use lib.ListN.{length}
 use Rattle.model.specs.Basic.{at, sum}
 use Rattle.model.specs.World.{World, worldCells, gas, gasTotal, moved}
+use Rattle.model.specs.Step.{noExchange}
 use Rattle.model.specs.Lists.{Alike}
 use Rattle.model.specs.Laws.Substep.{AirIn}
 use Rattle.model.specs.Laws.World.{length-gas, gas-absent, length-moved, gas-moved}
-use Rattle.model.specs.Laws.Step.{Fits}
+use Rattle.model.specs.Laws.Step.{Fits, Reached}
 use Rattle.model.specs.Laws.Keeps.{Kept}
 
 -- the amounts of every cell have z units for each unit of air
 abbrev pub Even : ℕ → ℕ → List ℕ → List ℕ → Type 0
 Even cells z air had = (c : ℕ) → c < cells → at had c ≡ z * at air c
 
--- new air for the old, and a change of a gas's amounts, that keep lengths, limits, totals and whole-number ratios
-pub record Conserves (cells : ℕ) (air new : List ℕ) (change : List ℕ → List ℕ) : Type 0 where
+-- new air for the old that keeps length, limits and total
+pub record KeepsAir (cells : ℕ) (air new : List ℕ) : Type 0 where
   pub airLength : length new ≡ cells
   pub airIn : AirIn cells new
   pub airKept : sum cells (at new) ≡ sum cells (at air)
+
+-- a change of a gas's amounts beside it that keeps length, total and whole-number ratios
+pub record KeepsGas (cells : ℕ) (air new : List ℕ) (change : List ℕ → List ℕ) : Type 0 where
   pub gasLength : (had : List ℕ) → length had ≡ cells → length (change had) ≡ cells
   pub gasKept : (had : List ℕ) → length had ≡ cells → sum cells (at (change had)) ≡ sum cells (at had)
   pub evenKept : (had : List ℕ) (z : ℕ) → length had ≡ cells → Even cells z air had → Even cells z new (change had)
 
-pub moved-kept : (w : World) → Fits w → (new : List ℕ) (change : ℕ → List ℕ → List ℕ) → ((t : ℕ) → Conserves (worldCells (w .grid)) (w .air) new (change t)) → Kept w (moved w new change) (λ t. 0) (λ t. 0)
-moved-kept w fits new change conserves =
+pub moved-kept : (w : World) → Reached w → (new : List ℕ) (change : ℕ → List ℕ → List ℕ) → KeepsAir (worldCells (w .grid)) (w .air) new → ((t : ℕ) → KeepsGas (worldCells (w .grid)) (w .air) new (change t)) → Kept w (moved w new change) (λ t. noExchange)
+moved-kept w reached new change air gases =
     record {
-      fits =
+      reached =
           record {
-            grid = fits .grid;
-            airLength = conserves 0 .airLength;
-            tracersLength = length-moved w new change as-many;
-            air = conserves 0 .airIn;
-            totals = λ t h. rw (total t h) (fits .totals t h);
+            fits = record {
+              grid = fits .grid;
+              airLength = air .airLength;
+              tracersLength = length-moved w new change as-many;
+              air = air .airIn;
+              totals = λ t h. rw (total t h) (fits .totals t h);
+            };
           };
       sameGrid = refl;
       gasKept = λ t h. ap (λ (x : ℕ). x + 0) (total t h);
-      airKept = conserves 0 .airKept;
-      ratioKept = λ t z h no-in no-out r. rw (gas-moved w new change as-many t h) (conserves t .evenKept (gas w t) z (had t h) r);
+      airKept = air .airKept;
+      ratioKept = λ t z h no-in no-out r. rw (gas-moved w new change as-many t h) (gases t .evenKept (gas w t) z (had t h) r);
     }
   where
+    fits : Fits w
+    fits = reached .fits
+
     had : (t : ℕ) → t < w .grid .N → length (gas w t) ≡ worldCells (w .grid)
     had t h = length-gas w t (fits .tracersLength) h
 
     as-many : (t : ℕ) → t < w .grid .N → length (change t (gas w t)) ≡ worldCells (w .grid)
-    as-many t h = conserves t .gasLength (gas w t) (had t h)
+    as-many t h = gases t .gasLength (gas w t) (had t h)
 
     total : (t : ℕ) → t < w .grid .N → gasTotal (moved w new change) t ≡ gasTotal w t
-    total t h = rw (gas-moved w new change as-many t h) (conserves t .gasKept (gas w t) (had t h))
+    total t h = rw (gas-moved w new change as-many t h) (gases t .gasKept (gas w t) (had t h))
 
 -- in two worlds of the same grid: the same new air, and the same new amounts of each own gas
 pub moved-alike : (own : ℕ → Bool) (w v : World) (new newer : List ℕ) (change alter : ℕ → List ℕ → List ℕ) → ((t : ℕ) → t < w .grid .N → length (change t (gas w t)) ≡ worldCells (w .grid)) → ((t : ℕ) → t < v .grid .N → length (alter t (gas v t)) ≡ worldCells (v .grid)) → w .grid ≡ v .grid → new ≡ newer → ((t : ℕ) → t < w .grid .N → own t ≡ true → change t (gas w t) ≡ alter t (gas v t)) → Alike own (moved w new change) (moved v newer alter)

@@ -12,13 +12,14 @@ use lib.IntN.{ℤ}
 use Rattle.model.specs.Limits.{airLimit}
 use Rattle.model.specs.Basic.{at, sum, some}
 use Rattle.model.specs.World.{airFits}
-use Rattle.model.specs.Scheme.{opposite, highPiece, lowPiece}
+use Rattle.model.specs.Scheme.{Rule, opposite, highPiece, lowPiece}
 use Rattle.model.specs.Sweep.{Mesh, Sides, between, southCap, northCap, Flow, leaving, entering, afterFlow, allowed, parts, cellRatio, cellMismatch, pieces, airAfter, gasAfter, serves}
 use Rattle.model.specs.Range.{inRange, isNear, faceCount, substepInRange, SweepInRange}
 use Rattle.model.specs.Laws.Basic.{sum-ext, both, every-at, some-true, at-tab, term-le-sum}
+use Rattle.model.specs.Laws.Scheme.{Limited}
 use Rattle.model.specs.Laws.Substep.{cell-safe}
 use Rattle.model.specs.Laws.Mesh.{Regular, Meets, OnHighSide, OnLowSide}
-use Rattle.model.specs.Laws.Fractions.{lost, Towards, level-towards, Inside, Near, near-add, near-sum, Leaves, piece-near, ends-leave, plains-leave, replaced, Bounded, in-range}
+use Rattle.model.specs.Laws.Fractions.{lost, Towards, Monotone, level-towards, Inside, Near, near-add, near-sum, Leaves, piece-near, ends-leave, plains-leave, replaced, Bounded, in-range}
 
 -- face f is one of the n faces from face k on
 among : (cell : ℕ → ℕ) (k n f : ℕ) → k ≤ f → f < k + n → some n (λ i. eqb (cell f) (cell (k + i))) ≡ true
@@ -31,35 +32,31 @@ Cap (between l h) = ⊥
 Cap (southCap k n) = Unit {0}
 Cap (northCap k n) = Unit {0}
 
--- ---- a rule whose mismatch leans towards the cells across the faces, and no further than they allow: the first limiter's
-pub record Monotone (mesh : Mesh) : Type 0 where
-  pub high : (qa q qb : ℕ) → Towards (mesh .rule qa q qb) q qb
-  pub low : (qa q qb : ℕ) → Towards (opposite (mesh .rule qa q qb)) q qa
-
-module _ (mesh : Mesh) (monotone : Monotone mesh) (air gas : List ℕ) where
-  towards-high : (c f : ℕ) → OnHighSide f (mesh .sides c) → Towards (cellMismatch mesh air gas c) (cellRatio air gas c) (cellRatio air gas (mesh .highCell f))
+-- ---- the mismatch of a cell leans towards the cells across its faces
+module _ {rule : Rule} (monotone : Monotone rule) (mesh : Mesh) (air gas : List ℕ) where
+  towards-high : (c f : ℕ) → OnHighSide f (mesh .sides c) → Towards (cellMismatch rule mesh air gas c) (cellRatio air gas c) (cellRatio air gas (mesh .highCell f))
   unfolding cellMismatch
   towards-high c f = go (mesh .sides c) refl
     where
-      go : (s : Sides) → mesh .sides c ≡ s → OnHighSide f s → Towards (cellMismatch mesh air gas c) (cellRatio air gas c) (cellRatio air gas (mesh .highCell f))
-      go (between l h) e on = rw (e, cellMismatch, ← on) (monotone .high _ _ _)
+      go : (s : Sides) → mesh .sides c ≡ s → OnHighSide f s → Towards (cellMismatch rule mesh air gas c) (cellRatio air gas c) (cellRatio air gas (mesh .highCell f))
+      go (between l h) e on = rw (e, cellMismatch, ← on) (monotone .towardsHigh _ _ _)
       go (southCap k n) e on = rw (e, cellMismatch) (level-towards true _ _)
       go (northCap k n) e on = absurd on
 
-  towards-low : (c f : ℕ) → OnLowSide f (mesh .sides c) → Towards (opposite (cellMismatch mesh air gas c)) (cellRatio air gas c) (cellRatio air gas (mesh .lowCell f))
+  towards-low : (c f : ℕ) → OnLowSide f (mesh .sides c) → Towards (opposite (cellMismatch rule mesh air gas c)) (cellRatio air gas c) (cellRatio air gas (mesh .lowCell f))
   unfolding cellMismatch
   towards-low c f = go (mesh .sides c) refl
     where
-      go : (s : Sides) → mesh .sides c ≡ s → OnLowSide f s → Towards (opposite (cellMismatch mesh air gas c)) (cellRatio air gas c) (cellRatio air gas (mesh .lowCell f))
-      go (between l h) e on = rw (e, cellMismatch, ← on) (monotone .low _ _ _)
+      go : (s : Sides) → mesh .sides c ≡ s → OnLowSide f s → Towards (opposite (cellMismatch rule mesh air gas c)) (cellRatio air gas c) (cellRatio air gas (mesh .lowCell f))
+      go (between l h) e on = rw (e, cellMismatch, ← on) (monotone .towardsLow _ _ _)
       go (southCap k n) e on = absurd on
       go (northCap k n) e on = rw (e, cellMismatch) (level-towards false _ _)
 
-  cap-level : (c : ℕ) → Cap (mesh .sides c) → cellMismatch mesh air gas c .size ≡ 0
+  cap-level : (c : ℕ) → Cap (mesh .sides c) → cellMismatch rule mesh air gas c .size ≡ 0
   unfolding cellMismatch
   cap-level c = go (mesh .sides c) refl
     where
-      go : (s : Sides) → mesh .sides c ≡ s → Cap s → cellMismatch mesh air gas c .size ≡ 0
+      go : (s : Sides) → mesh .sides c ≡ s → Cap s → cellMismatch rule mesh air gas c .size ≡ 0
       go (between l h) e cap = absurd cap
       go (southCap k n) e cap = rw (e, cellMismatch)
       go (northCap k n) e cap = rw (e, cellMismatch)
@@ -111,28 +108,28 @@ module _ (mesh : Mesh) (c : ℕ) where
           rw (e, leaving) (rw i at (term-le-sum n (λ i. flow .toLow (k + i)) (f - k) (omega arith)))
 
 -- ---- a substep: air in every cell, and no cell gives more than it has
-module _ (mesh : Mesh) (regular : Regular mesh) (monotone : Monotone mesh) (flow : Flow) (air gas : List ℕ) (has : (c : ℕ) → c < mesh .cells → 1 ≤ at air c) (gives : (c : ℕ) → c < mesh .cells → leaving mesh flow c ≤ at air c) where
+module _ {rule : Rule} (limited : Limited rule) (monotone : Monotone rule) (mesh : Mesh) (regular : Regular mesh) (flow : Flow) (air gas : List ℕ) (has : (c : ℕ) → c < mesh .cells → 1 ≤ at air c) (gives : (c : ℕ) → c < mesh .cells → leaving mesh flow c ≤ at air c) where
   -- a fraction H/L that no cell near c passes
   module _ (b : Bool) (H L c : ℕ) (hc : c < mesh .cells) (inside : (d : ℕ) → d < mesh .cells → isNear mesh c d ≡ true → Inside b H L (at air d) (at gas d)) where
     self-inside : Inside b H L (at air c) (at gas c)
     self-inside = inside c hc (near-self mesh c)
 
     -- what comes in through a face on its low side, and on its high side
-    from-low : (f : ℕ) → f < mesh .faces → mesh .highCell f ≡ c → OnLowSide f (mesh .sides c) → Near b H L (flow .toHigh f) (pieces mesh flow air gas .toHigh f) (lost b)
+    from-low : (f : ℕ) → f < mesh .faces → mesh .highCell f ≡ c → OnLowSide f (mesh .sides c) → Near b H L (flow .toHigh f) (pieces rule mesh flow air gas .toHigh f) (lost b)
     unfolding pieces
     from-low f hf e on =
         let d = mesh .lowCell f in
         let hd : d < mesh .cells = regular .lowIn f hf in
-        piece-near b H L (at air d) (at gas d) (has d hd) (inside d hd (near-low mesh c f on)) (cellMismatch mesh air gas d) (at air c) (at gas c) (flow .toHigh f) (has c hc) self-inside (cell-safe mesh air gas d regular) (rw e at (towards-high mesh monotone air gas d f (regular .lowHas f hf))) (omega (arith, gives d hd, high-leaves mesh d flow f (regular .lowHas f hf)))
+        piece-near b H L (at air d) (at gas d) (has d hd) (inside d hd (near-low mesh c f on)) (cellMismatch rule mesh air gas d) (at air c) (at gas c) (flow .toHigh f) (has c hc) self-inside (cell-safe rule mesh air gas d limited) (rw e at (towards-high monotone mesh air gas d f (regular .lowHas f hf))) (omega (arith, gives d hd, high-leaves mesh d flow f (regular .lowHas f hf)))
 
-    from-high : (f : ℕ) → f < mesh .faces → mesh .lowCell f ≡ c → OnHighSide f (mesh .sides c) → Near b H L (flow .toLow f) (pieces mesh flow air gas .toLow f) (lost b)
+    from-high : (f : ℕ) → f < mesh .faces → mesh .lowCell f ≡ c → OnHighSide f (mesh .sides c) → Near b H L (flow .toLow f) (pieces rule mesh flow air gas .toLow f) (lost b)
     unfolding pieces
     from-high f hf e on =
         let d = mesh .highCell f in
         let hd : d < mesh .cells = regular .highIn f hf in
-        piece-near b H L (at air d) (at gas d) (has d hd) (inside d hd (near-high mesh c f on)) (opposite (cellMismatch mesh air gas d)) (at air c) (at gas c) (flow .toLow f) (has c hc) self-inside (cell-safe mesh air gas d regular) (rw e at (towards-low mesh monotone air gas d f (regular .highHas f hf))) (omega (arith, gives d hd, low-leaves mesh d flow f (regular .highHas f hf)))
+        piece-near b H L (at air d) (at gas d) (has d hd) (inside d hd (near-high mesh c f on)) (opposite (cellMismatch rule mesh air gas d)) (at air c) (at gas c) (flow .toLow f) (has c hc) self-inside (cell-safe rule mesh air gas d limited) (rw e at (towards-low monotone mesh air gas d f (regular .highHas f hf))) (omega (arith, gives d hd, low-leaves mesh d flow f (regular .highHas f hf)))
 
-    comes-in : (s : Sides) → mesh .sides c ≡ s → Meets mesh c s → Near b H L (entering mesh flow c) (entering mesh (pieces mesh flow air gas) c) (faceCount s * lost b)
+    comes-in : (s : Sides) → mesh .sides c ≡ s → Meets mesh c s → Near b H L (entering mesh flow c) (entering mesh (pieces rule mesh flow air gas) c) (faceCount s * lost b)
     unfolding leaving
     comes-in (between l h) e m =
         rw (e, leaving, two-mul) (near-add b H L _ _ _ _ _ _ (from-low l (m .0) (m .2) (rw e refl)) (from-high h (m .1) (m .3) (rw e refl)))
@@ -144,48 +141,48 @@ module _ (mesh : Mesh) (regular : Regular mesh) (monotone : Monotone mesh) (flow
         (near-sum b H L (lost b) n _ _ (λ i h. from-low (k + i) (m i h .0) (m i h .1) (rw e (omega arith))))
 
     -- what it gives through a face
-    given-high : (f : ℕ) → mesh .lowCell f ≡ c → pieces mesh flow air gas .toHigh f ≡ highPiece (cellMismatch mesh air gas c) (at air c) (at gas c) (flow .toHigh f)
+    given-high : (f : ℕ) → mesh .lowCell f ≡ c → pieces rule mesh flow air gas .toHigh f ≡ highPiece (cellMismatch rule mesh air gas c) (at air c) (at gas c) (flow .toHigh f)
     unfolding pieces
     given-high f e = rw e
 
-    given-low : (f : ℕ) → mesh .highCell f ≡ c → pieces mesh flow air gas .toLow f ≡ lowPiece (cellMismatch mesh air gas c) (at air c) (at gas c) (flow .toLow f)
+    given-low : (f : ℕ) → mesh .highCell f ≡ c → pieces rule mesh flow air gas .toLow f ≡ lowPiece (cellMismatch rule mesh air gas c) (at air c) (at gas c) (flow .toLow f)
     unfolding pieces
     given-low f e = rw e
 
-    stays : (s : Sides) → mesh .sides c ≡ s → Meets mesh c s → Leaves b H L (at air c - leaving mesh flow c) (at gas c) (leaving mesh (pieces mesh flow air gas) c) (faceCount s * lost (not b))
+    stays : (s : Sides) → mesh .sides c ≡ s → Meets mesh c s → Leaves b H L (at air c - leaving mesh flow c) (at gas c) (leaving mesh (pieces rule mesh flow air gas) c) (faceCount s * lost (not b))
     unfolding leaving
     stays (between l h) e m =
         let hl : mesh .lowCell l < mesh .cells = regular .lowIn l (m .0) in
         let hh : mesh .highCell h < mesh .cells = regular .highIn h (m .1) in
         let g : flow .toLow l + flow .toHigh h ≤ at air c = rw (e, leaving) at (gives c hc) in
         rw (e, leaving, given-low l (m .2), given-high h (m .3))
-        (ends-leave b H L (at air c) (at gas c) (has c hc) self-inside (cellMismatch mesh air gas c) _ _ _ _ (flow .toLow l) (flow .toHigh h) _ (has _ hl) (has _ hh)
+        (ends-leave b H L (at air c) (at gas c) (has c hc) self-inside (cellMismatch rule mesh air gas c) _ _ _ _ (flow .toLow l) (flow .toHigh h) _ (has _ hl) (has _ hh)
         (inside _ hl (near-low mesh c l (rw e refl)))
         (inside _ hh (near-high mesh c h (rw e refl)))
-        (cell-safe mesh air gas c regular)
-        (towards-low mesh monotone air gas c l (rw e refl))
-        (towards-high mesh monotone air gas c h (rw e refl))
+        (cell-safe rule mesh air gas c limited)
+        (towards-low monotone mesh air gas c l (rw e refl))
+        (towards-high monotone mesh air gas c h (rw e refl))
         (omega arith))
     stays (southCap k n) e m =
         let g : sum n (λ i. flow .toHigh (k + i)) ≤ at air c = rw (e, leaving) at (gives c hc) in
         rw (e, leaving, sum-ext n _ _ (λ i h. given-high (k + i) (m i h .1)))
-        (plains-leave b H L (at air c) (at gas c) (has c hc) self-inside (cellMismatch mesh air gas c) n _ (λ i. flow .toHigh (k + i)) (cap-level mesh monotone air gas c (rw e tt)) (omega arith))
+        (plains-leave b H L (at air c) (at gas c) (has c hc) self-inside (cellMismatch rule mesh air gas c) n _ (λ i. flow .toHigh (k + i)) (cap-level monotone mesh air gas c (rw e tt)) (omega arith))
     stays (northCap k n) e m =
         let g : sum n (λ i. flow .toLow (k + i)) ≤ at air c = rw (e, leaving) at (gives c hc) in
         rw (e, leaving, sum-ext n _ _ (λ i h. given-low (k + i) (m i h .1)))
-        (plains-leave b H L (at air c) (at gas c) (has c hc) self-inside (opposite (cellMismatch mesh air gas c)) n _ (λ i. flow .toLow (k + i)) (cap-level mesh monotone air gas c (rw e tt)) (omega arith))
+        (plains-leave b H L (at air c) (at gas c) (has c hc) self-inside (opposite (cellMismatch rule mesh air gas c)) n _ (λ i. flow .toLow (k + i)) (cap-level monotone mesh air gas c (rw e tt)) (omega arith))
 
-    near-after : Near b H L (at (afterFlow mesh flow air) c) (at (afterFlow mesh (pieces mesh flow air gas) gas) c) (faceCount (mesh .sides c))
+    near-after : Near b H L (at (afterFlow mesh flow air) c) (at (afterFlow mesh (pieces rule mesh flow air gas) gas) c) (faceCount (mesh .sides c))
     unfolding afterFlow
     near-after =
         replaced b H L (at air c - leaving mesh flow c) (at gas c) (entering mesh flow c) _ _ (faceCount (mesh .sides c)) _ _
         (comes-in (mesh .sides c) refl (regular .meets c hc))
         (stays (mesh .sides c) refl (regular .meets c hc))
         (omega (arith, gives c hc, at-tab (mesh .cells) (λ c. at air c + entering mesh flow c - leaving mesh flow c) c hc))
-        (sym (at-tab (mesh .cells) (λ c. at gas c + entering mesh (pieces mesh flow air gas) c - leaving mesh (pieces mesh flow air gas) c) c hc))
+        (sym (at-tab (mesh .cells) (λ c. at gas c + entering mesh (pieces rule mesh flow air gas) c - leaving mesh (pieces rule mesh flow air gas) c) c hc))
 
   -- the range at every scale
-  pub substep-bounded : (c : ℕ) → c < mesh .cells → Bounded (mesh .cells) (isNear mesh c) air gas (faceCount (mesh .sides c)) (at (afterFlow mesh flow air) c) (at (afterFlow mesh (pieces mesh flow air gas) gas) c)
+  pub substep-bounded : (c : ℕ) → c < mesh .cells → Bounded (mesh .cells) (isNear mesh c) air gas (faceCount (mesh .sides c)) (at (afterFlow mesh flow air) c) (at (afterFlow mesh (pieces rule mesh flow air gas) gas) c)
   substep-bounded c hc b H L inside = near-after b H L c hc inside
 
 -- what `allowed` tests
@@ -203,15 +200,15 @@ module _ (mesh : Mesh) (flow : Flow) (air : List ℕ) (ok : allowed mesh flow ai
       (leb-true _ _ (p .0), leb-true _ _ (p .1))
 
 -- ---- every cell is in range after an allowed substep
-module _ (mesh : Mesh) (regular : Regular mesh) (monotone : Monotone mesh) (flow : Flow) (air gas : List ℕ) (has : (c : ℕ) → c < mesh .cells → 1 ≤ at air c) (ok : allowed mesh flow air ≡ true) (c : ℕ) (hc : c < mesh .cells) where
-  pub substep-in-range : inRange (mesh .cells) (isNear mesh c) air gas (faceCount (mesh .sides c) + 1) (at (afterFlow mesh flow air) c) (at (afterFlow mesh (pieces mesh flow air gas) gas) c) ≡ true
+module _ {rule : Rule} (limited : Limited rule) (monotone : Monotone rule) (mesh : Mesh) (regular : Regular mesh) (flow : Flow) (air gas : List ℕ) (has : (c : ℕ) → c < mesh .cells → 1 ≤ at air c) (ok : allowed mesh flow air ≡ true) (c : ℕ) (hc : c < mesh .cells) where
+  pub substep-in-range : inRange (mesh .cells) (isNear mesh c) air gas (faceCount (mesh .sides c) + 1) (at (afterFlow mesh flow air) c) (at (afterFlow mesh (pieces rule mesh flow air gas) gas) c) ≡ true
   substep-in-range =
       let fits = allowed-fits mesh flow air ok c hc in
       in-range (mesh .cells) (isNear mesh c) air gas c hc (near-self mesh c) (has c hc) (faceCount (mesh .sides c)) _ _ (fits .0) (fits .1)
-      (substep-bounded mesh regular monotone flow air gas has (allowed-gives mesh flow air ok) c hc)
+      (substep-bounded limited monotone mesh regular flow air gas has (allowed-gives mesh flow air ok) c hc)
 
 -- ---- and so after every substep of a sweep in which all are allowed
-module _ (mesh : Mesh) (regular : Regular mesh) (monotone : Monotone mesh) (fluxes : List ℤ) (n : ℕ) (air gas : List ℕ) (has : (c : ℕ) → c < mesh .cells → 1 ≤ at air c) (ok : serves mesh fluxes air n ≡ true) where
+module _ {rule : Rule} (limited : Limited rule) (monotone : Monotone rule) (mesh : Mesh) (regular : Regular mesh) (fluxes : List ℤ) (n : ℕ) (air gas : List ℕ) (has : (c : ℕ) → c < mesh .cells → 1 ≤ at air c) (ok : serves mesh fluxes air n ≡ true) where
   substep-allowed : (s : ℕ) → s < n → allowed mesh (parts fluxes n (suc s)) (airAfter mesh fluxes n air s) ≡ true
   unfolding serves
   substep-allowed s h = every-at n _ ok s h
@@ -221,7 +218,7 @@ module _ (mesh : Mesh) (regular : Regular mesh) (monotone : Monotone mesh) (flux
   has-after zero h c hc = has c hc
   has-after (suc s) h c hc = allowed-fits mesh _ _ (substep-allowed s h) c hc .0
 
-  pub sweep-in-range : SweepInRange mesh fluxes n air gas
+  pub sweep-in-range : SweepInRange rule mesh fluxes n air gas
   unfolding substepInRange airAfter gasAfter
   sweep-in-range s c h hc =
-      substep-in-range mesh regular monotone _ _ _ (has-after s (omega arith)) (substep-allowed s h) c hc
+      substep-in-range limited monotone mesh regular _ _ _ (has-after s (omega arith)) (substep-allowed s h) c hc

@@ -1,26 +1,31 @@
 -- What an accepted remap keeps: the sums over all cells as sums over the columns, each column by the laws of Column.antt.
--- Assumes a world that fits, and of the table what the places 11 and 12 test.
+-- Assumes a world that calls reach, and of the table what the places 11 and 12 test.
 use Prim.Native.Nat.{ℕ, _+_, _*_, _-_, _/_, _%_, _≤_, _<_}
 use mathlib.Core.List.{List}
-use mathlib.Core.Bool.{true, _&&_, true≢false}
-use mathlib.Core.Path.{_≡_, sym, _∙_, ap, ap₂}
+use mathlib.Core.Bool.{Bool, true, _&&_, true≢false}
+use mathlib.Core.Path.{_≡_, refl, sym, _∙_, ap, ap₂}
 use native.Mathlib.Nat.{div-lt-iff-lt-mul, mod-lt, mod-eq-of-lt, div-eq-of-lt, mul-add-div-right, mul-add-mod-self-right, add-zero, mul-le-mul-right}
 use native.Mathlib.Omega.{arith}
-use borrow.Author.Tests.{leb-true, le-leb, not-false}
-use lib.Dec.{leb, lit<}
+use borrow.Author.Tests.{le-leb, not-false}
+use lib.Dec.{lit<}
 use lib.ListN.{length}
 use Rattle.model.specs.Limits.{airLimit}
 use Rattle.model.specs.Basic.{at, sum}
 use Rattle.model.specs.World.{Grid, World, layerCells, worldCells, layerStart, gas}
 use Rattle.model.specs.Remap.{column, columnAir, columnCount, isCap, layers, newAir, newTracer, overCells, shareAir, remappedAir, remappedGas, remapServes, remapCount, remapped}
+use Rattle.model.specs.Scheme.{Rule, ruleOf}
 use Rattle.model.specs.Range.{inRange, isNearLayer, layerInRange, RemapInRange}
-use Rattle.model.specs.Step.{remap, within, gridFits, ownPlaces, accepted, refusal}
-use Rattle.model.specs.Laws.Basic.{both, every-at, sum-ext, sum-le, sum-same, sum-columns, length-tab, at-tab}
+use Rattle.model.specs.Step.{remap, firstOf, meaning, ownPlaces, accepted, refusal}
+use Rattle.model.specs.Lists.{Alike}
+use Rattle.model.specs.Laws.Basic.{every-at, sum-ext, sum-le, sum-same, sum-columns, length-tab, at-tab}
 use Rattle.model.specs.Laws.Substep.{AirIn, air-bounds}
 use Rattle.model.specs.Laws.World.{gas-moved}
 use Rattle.model.specs.Laws.Step.{Fits, passed, accepted-passed}
-use Rattle.model.specs.Laws.Keeps.{AcceptedKeeps}
-use Rattle.model.specs.Laws.Moved.{Even, Conserves, moved-kept, moved-alike}
+use Rattle.model.specs.Laws.Grid.{in-range}
+use Rattle.model.specs.Laws.Scheme.{Limited, rule-limited}
+use Rattle.model.specs.Laws.Fractions.{Monotone, rule-monotone}
+use Rattle.model.specs.Laws.Keeps.{air-alike, MeaningKeeps}
+use Rattle.model.specs.Laws.Moved.{Even, KeepsAir, KeepsGas, moved-kept, moved-alike}
 use Rattle.model.specs.Laws.Count.{column-count}
 use Rattle.model.specs.Laws.Column.{Edges, edges-serve, new-air-least, new-air-sum, new-tracer-sum, new-tracer-even, new-layer-in-range}
 
@@ -60,39 +65,27 @@ module _ (g : Grid) where
 abbrev airAt : Grid → List ℕ → List ℕ → ℕ → ℕ → ℕ
 airAt g table air k c = newAir table (columnAir g air c) k
 
-abbrev gasAt : Grid → List ℕ → List ℕ → List ℕ → ℕ → ℕ → ℕ
-gasAt g table air had k c =
-    newTracer table (columnAir g air c) (layers (isCap g c) (g .K) (column g air c) (column g had c)) k
+abbrev gasAt : Rule → Grid → List ℕ → List ℕ → List ℕ → ℕ → ℕ → ℕ
+gasAt rule g table air had k c =
+    newTracer table (columnAir g air c) (layers rule (isCap g c) (g .K) (column g air c) (column g had c)) k
 
 module _ (g : Grid) (table air : List ℕ) (k c : ℕ) (hk : k < g .K) (hc : c < layerCells g) where
   pub remapped-air-at : at (remappedAir g table air) (layerStart g k + c) ≡ newAir table (columnAir g air c) k
   unfolding remappedAir
   remapped-air-at = at-over g (airAt g table air) k c hk hc
 
-  pub remapped-gas-at : (had : List ℕ) → at (remappedGas g table air had) (layerStart g k + c) ≡ newTracer table (columnAir g air c) (layers (isCap g c) (g .K) (column g air c) (column g had c)) k
+  pub remapped-gas-at : (rule : Rule) (had : List ℕ) → at (remappedGas rule g table air had) (layerStart g k + c) ≡ newTracer table (columnAir g air c) (layers rule (isCap g c) (g .K) (column g air c) (column g had c)) k
   unfolding remappedGas
-  remapped-gas-at had = at-over g (gasAt g table air had) k c hk hc
+  remapped-gas-at rule had = at-over g (gasAt rule g table air had) k c hk hc
 
 -- ---- a remap that serves
-length-remapped : (g : Grid) (table air had : List ℕ) → length (remappedGas g table air had) ≡ worldCells g
+length-remapped : (rule : Rule) (g : Grid) (table air had : List ℕ) → length (remappedGas rule g table air had) ≡ worldCells g
 unfolding remappedGas
-length-remapped g table air had = length-tab (worldCells g) _
+length-remapped rule g table air had = length-tab (worldCells g) _
 
 module _ (g : Grid) (table air : List ℕ) (airIn : AirIn (worldCells g) air) (edges : (c : ℕ) → c < layerCells g → Edges (g .K) table (columnAir g air c)) where
   column-has : (c : ℕ) → c < layerCells g → (k : ℕ) → k < g .K → 1 ≤ at (column g air c) k
   column-has c hc k hk = rw (at-column g air c k hk) (air-bounds _ (airIn _ (cell-in g k c hk hc)) .0)
-
-  even-kept : (had : List ℕ) (z : ℕ) → Even (worldCells g) z air had → Even (worldCells g) z (remappedAir g table air) (remappedGas g table air had)
-  unfolding remappedAir remappedGas
-  even-kept had z even i h =
-      let c : ℕ = i % layerCells g in
-      let hc : c < layerCells g = place-in g i in
-      at-tab (worldCells g) (λ i. gasAt g table air had (i / layerCells g) (i % layerCells g)) i h ∙
-      new-tracer-even (isCap g c) (g .K) table (column g air c) (column g had c) (column-has c hc) (edges c hc) z
-      (λ k hk. at-column g had c k hk ∙ even _ (cell-in g k c hk hc) ∙ ap (λ (x : ℕ). z * x) (sym (at-column g air c k hk)))
-      (i / layerCells g)
-      (layer-in g i h) ∙
-      ap (λ (x : ℕ). z * x) (sym (at-tab (worldCells g) (λ i. airAt g table air (i / layerCells g) (i % layerCells g)) i h))
 
   air-in : AirIn (worldCells g) (remappedAir g table air)
   unfolding remappedAir
@@ -105,9 +98,9 @@ module _ (g : Grid) (table air : List ℕ) (airIn : AirIn (worldCells g) air) (e
       (le-leb 1 _ (new-air-least (g .K) table _ (edges c hc) _ hk))
       (le-leb _ airLimit (edges c hc .most _ hk)))
 
-  pub remap-conserves : Conserves (worldCells g) air (remappedAir g table air) (remappedGas g table air)
-  unfolding remappedAir remappedGas
-  remap-conserves =
+  pub remap-air : KeepsAir (worldCells g) air (remappedAir g table air)
+  unfolding remappedAir
+  remap-air =
       record {
         airLength = length-tab (worldCells g) _;
         airIn = air-in;
@@ -115,58 +108,99 @@ module _ (g : Grid) (table air : List ℕ) (airIn : AirIn (worldCells g) air) (e
             sum-over g (airAt g table air) ∙
             sum-ext (layerCells g) _ _ (λ c hc. new-air-sum (g .K) table _ (edges c hc)) ∙
             sym (sum-list g air);
-        gasLength = λ had e. length-remapped g table air had;
-        gasKept =
-            λ had e.
-            sum-over g (gasAt g table air had) ∙
-            sum-ext (layerCells g) _ _ (λ c hc. new-tracer-sum (isCap g c) (g .K) table (column g air c) (column g had c) (column-has c hc) (edges c hc)) ∙
-            sym (sum-list g had);
-        evenKept = λ had z e. even-kept had z;
       }
 
-  pub remap-in-range : (had : List ℕ) → RemapInRange g table air had
-  unfolding layerInRange
-  remap-in-range had c j hc hj =
-      new-layer-in-range (isCap g c) (g .K) table (column g air c) (column g had c) (column-has c hc) (edges c hc) j hj
+  module _ {rule : Rule} (limited : Limited rule) where
+    even-kept : (had : List ℕ) (z : ℕ) → Even (worldCells g) z air had → Even (worldCells g) z (remappedAir g table air) (remappedGas rule g table air had)
+    unfolding remappedAir remappedGas
+    even-kept had z even i h =
+        let c : ℕ = i % layerCells g in
+        let hc : c < layerCells g = place-in g i in
+        at-tab (worldCells g) (λ i. gasAt rule g table air had (i / layerCells g) (i % layerCells g)) i h ∙
+        new-tracer-even limited (isCap g c) (g .K) table (column g air c) (column g had c) (column-has c hc) (edges c hc) z
+        (λ k hk. at-column g had c k hk ∙ even _ (cell-in g k c hk hc) ∙ ap (λ (x : ℕ). z * x) (sym (at-column g air c k hk)))
+        (i / layerCells g)
+        (layer-in g i h) ∙
+        ap (λ (x : ℕ). z * x) (sym (at-tab (worldCells g) (λ i. airAt g table air (i / layerCells g) (i % layerCells g)) i h))
 
--- what the places of a remap tell, where it is accepted
-pub remap-edges : (table : List ℕ) (w : World) → refusal w (remap table) ≡ 0 → (c : ℕ) → c < layerCells (w .grid) → Edges (w .grid .K) table (columnAir (w .grid) (w .air) c)
+    pub remap-gas : KeepsGas (worldCells g) air (remappedAir g table air) (remappedGas rule g table air)
+    unfolding remappedGas
+    remap-gas =
+        record {
+          gasLength = λ had e. length-remapped rule g table air had;
+          gasKept =
+              λ had e.
+              sum-over g (gasAt rule g table air had) ∙
+              sum-ext (layerCells g) _ _ (λ c hc. new-tracer-sum limited (isCap g c) (g .K) table (column g air c) (column g had c) (column-has c hc) (edges c hc)) ∙
+              sym (sum-list g had);
+          evenKept = λ had z e. even-kept had z;
+        }
+
+    pub remap-in-range : Monotone rule → (had : List ℕ) → RemapInRange rule g table air had
+    unfolding layerInRange
+    remap-in-range monotone had c j hc hj =
+        new-layer-in-range limited (isCap g c) (g .K) table (column g air c) (column g had c) (column-has c hc) (edges c hc) monotone j hj
+
+-- what its own places tell, where they are passed
+own-edges : (table : List ℕ) (w : World) → firstOf (ownPlaces (remap table)) w ≡ 0 → (c : ℕ) → c < layerCells (w .grid) → Edges (w .grid .K) table (columnAir (w .grid) (w .air) c)
 unfolding ownPlaces remapServes
-remap-edges table w e c h =
-    let p = passed _ _ w (lit< tt) (accepted-passed w (remap table) e .2) in
+own-edges table w e c h =
+    let p = passed _ _ w (lit< tt) e in
     let q = passed _ _ w (lit< tt) (p .1) in
     edges-serve (w .grid .K) table _ (not-false _ (p .0)) (every-at _ _ (not-false _ (q .0)) c h)
 
-pub remap-keeps : (table : List ℕ) (w : World) → Fits w → refusal w (remap table) ≡ 0 → AcceptedKeeps w (remap table)
-unfolding accepted remapped remapCount
-remap-keeps table w fits e =
+pub remap-edges : (table : List ℕ) (w : World) → refusal w (remap table) ≡ 0 → (c : ℕ) → c < layerCells (w .grid) → Edges (w .grid .K) table (columnAir (w .grid) (w .air) c)
+remap-edges table w e = own-edges table w (accepted-passed w (remap table) e .2)
+
+-- in two worlds alike
+remap-alike : (table : List ℕ) (own : ℕ → Bool) (w v : World) → Alike own w v → Alike own (remapped w table) (remapped v table) × (remapCount w table ≡ remapCount v table)
+unfolding remapped remapCount
+remap-alike table own w v a = (
+  moved-alike own w v _ _ (λ t. gases w t) (λ t. gases v t) (λ t h. length-remapped _ _ _ _ _) (λ t h. length-remapped _ _ _ _ _) (a .sameGrid)
+      (ap₂ (λ (g : Grid) (air : List ℕ). remappedAir g table air) (a .sameGrid) (a .sameAir))
+      (λ t h o.
+      ap₂ (λ (g : Grid) (air : List ℕ). remappedGas (ruleOf w t) g table air (gas w t)) (a .sameGrid) (a .sameAir) ∙
+      ap (gases v t) (a .sameGas t o)),
+  ap₂ (λ (g : Grid) (air : List ℕ). sum (layerCells g) (λ c. columnCount (g .K) table (column g air c))) (a .sameGrid) (a .sameAir),
+)
+  where
+    gases : World → ℕ → List ℕ → List ℕ
+    gases u t = remappedGas (ruleOf u t) (u .grid) table (u .air)
+
+pub remap-keeps : (table : List ℕ) → MeaningKeeps (meaning (remap table))
+unfolding ownPlaces remapped remapServes firstOf
+remap-keeps table =
     record {
-      kept = moved-kept w fits _ _ (λ t. remap-conserves (w .grid) table (w .air) (fits .air) (remap-edges table w e));
-      inRange = λ t h. remap-in-range (w .grid) table (w .air) (fits .air) (remap-edges table w e) (gas w t);
-      alike =
-          λ own v fv a named. (
-            moved-alike own w v _ _ (λ t. remappedGas (w .grid) table (w .air)) (λ t. remappedGas (v .grid) table (v .air)) (λ t h. length-remapped _ _ _ _) (λ t h. length-remapped _ _ _ _) (a .sameGrid)
-                (ap₂ (λ (g : Grid) (air : List ℕ). remappedAir g table air) (a .sameGrid) (a .sameAir))
-                (λ t h o.
-                ap₂ (λ (g : Grid) (air : List ℕ). remappedGas g table air (gas w t)) (a .sameGrid) (a .sameAir) ∙
-                ap (remappedGas (v .grid) table (v .air)) (a .sameGas t o)),
-            ap₂ (λ (g : Grid) (air : List ℕ). sum (layerCells g) (λ c. columnCount (g .K) table (column g air c))) (a .sameGrid) (a .sameAir),
-          );
-      apart = λ own other. absurd (true≢false other);
+      sameGrid = λ w. refl;
+      samePlaces = λ own w v a named. air-alike own w v a (ownPlaces (remap table));
+      accepts =
+          λ w reached e.
+          let g = w .grid in
+          let airIn = reached .fits .air in
+          let edges = own-edges table w e in
+          record {
+            kept = moved-kept w reached _ _ (remap-air g table (w .air) airIn edges) (λ t. remap-gas g table (w .air) airIn edges (rule-limited w t));
+            inRange = λ t h. remap-in-range g table (w .air) airIn edges (rule-limited w t) (rule-monotone w t) (gas w t);
+            alike = λ own v vv a named. remap-alike table own w v a;
+            apart = λ own other. absurd (true≢false other);
+          };
     }
 
 -- so the range, which `layerInRange` states of the new layers' definition, holds of the cells of the world afterwards
-pub remap-leaves-in-range : (table : List ℕ) (w : World) → Fits w → refusal w (remap table) ≡ 0 → (t c j : ℕ) → t < w .grid .N → c < layerCells (w .grid) → j < w .grid .K → inRange (w .grid .K) (isNearLayer (w .grid .K) (shareAir table (column (w .grid) (w .air) c) (columnAir (w .grid) (w .air) c) j)) (column (w .grid) (w .air) c) (column (w .grid) (gas w t) c) 2 (at (accepted w (remap table) .next .air) (layerStart (w .grid) j + c)) (at (gas (accepted w (remap table) .next) t) (layerStart (w .grid) j + c)) ≡ true
-unfolding accepted remapped layerInRange
-remap-leaves-in-range table w fits e t c j ht hc hj =
-    rw (gas-moved w (remappedAir (w .grid) table (w .air)) (λ t. remappedGas (w .grid) table (w .air)) (λ t h. length-remapped _ _ _ _) t ht, remapped-air-at (w .grid) table (w .air) j c hj hc, remapped-gas-at (w .grid) table (w .air) j c hj hc (gas w t))
-    (remap-in-range (w .grid) table (w .air) (fits .air) (remap-edges table w e) (gas w t) c j hc hj)
+module _ (table : List ℕ) (w : World) (fits : Fits w) (e : refusal w (remap table) ≡ 0) (t c j : ℕ) where
+  abbrev oldAir : List ℕ
+  oldAir = column (w .grid) (w .air) c
 
-some-layer : (g : Grid) → gridFits g ≡ true → 1 ≤ g .K
-some-layer g fits =
-    let p = both (within 4 (g .W) 72 && within 1 (g .R) 44 && within 1 (g .K) 32) (within 1 (g .N) 8) fits in
-    let q = both (within 4 (g .W) 72 && within 1 (g .R) 44) (within 1 (g .K) 32) (p .0) in
-    leb-true 1 (g .K) (both (leb 1 (g .K)) (leb (g .K) 32) (q .1) .0)
+  abbrev near : ℕ → Bool
+  near = isNearLayer (w .grid .K) (shareAir table oldAir (columnAir (w .grid) (w .air) c) j)
+
+  pub remap-leaves-in-range : t < w .grid .N → c < layerCells (w .grid) → j < w .grid .K → inRange (w .grid .K) near oldAir (column (w .grid) (gas w t) c) 2 (at (accepted w (remap table) .next .air) (layerStart (w .grid) j + c)) (at (gas (accepted w (remap table) .next) t) (layerStart (w .grid) j + c)) ≡ true
+  unfolding accepted remapped layerInRange
+  remap-leaves-in-range ht hc hj =
+      let g = w .grid in
+      let gas-is = gas-moved w (remappedAir g table (w .air)) (λ t. remappedGas (ruleOf w t) g table (w .air)) (λ t h. length-remapped _ _ _ _ _) t ht in
+      rw (gas-is, remapped-air-at g table (w .air) j c hj hc, remapped-gas-at g table (w .air) j c hj hc (ruleOf w t) (gas w t))
+      (remap-in-range g table (w .air) (fits .air) (remap-edges table w e) (rule-limited w t) (rule-monotone w t) (gas w t) c j hc hj)
 
 -- "between K and 2K − 1 for each column, summed over columns"
 pub remap-count : (table : List ℕ) (w : World) → Fits w → refusal w (remap table) ≡ 0 → (layerCells (w .grid) * w .grid .K ≤ remapCount w table) × (remapCount w table ≤ layerCells (w .grid) * (2 * w .grid .K - 1))
@@ -175,7 +209,7 @@ remap-count table w fits e =
     let places = layerCells (w .grid) in
     let K = w .grid .K in
     let each : (c : ℕ) → c < places → (K ≤ columnCount K table (column (w .grid) (w .air) c)) × (columnCount K table (column (w .grid) (w .air) c) ≤ 2 * K - 1) =
-    λ c h. column-count K table _ (column-has (w .grid) table (w .air) (fits .air) (remap-edges table w e) c h) (remap-edges table w e c h) (some-layer (w .grid) (fits .grid)) in (
+    λ c h. column-count K table _ (column-has (w .grid) table (w .air) (fits .air) (remap-edges table w e) c h) (remap-edges table w e c h) (in-range (w .grid) (fits .grid) .lowK) in (
       rw (sum-same places K) at (sum-le places (λ c. K) _ (λ c h. each c h .0)),
       rw (sum-same places (2 * K - 1)) at (sum-le places _ (λ c. 2 * K - 1) (λ c h. each c h .1)),
     )

@@ -8,7 +8,6 @@ use borrow.Author.Tests.{eqb-true, eqb-false, eq-eqb, ne-eqb}
 use lib.Dec.{eqb}
 use Rattle.model.specs.Basic.{sum}
 use Rattle.model.specs.Sweep.{Flow, ring, eastOf, westOf, leaving}
-use Rattle.model.specs.Laws.Scheme.{mismatch-twice, mismatch-equal}
 use Rattle.model.specs.Laws.Basic.{sum-add}
 use Rattle.model.specs.Laws.Mesh.{Regular, passes-on}
 
@@ -68,8 +67,6 @@ ring-regular W =
       highIn = east-in W;
       lowHas = λ i h. refl;
       highHas = west-of-east W;
-      ruleTwice = mismatch-twice;
-      ruleEqual = mismatch-equal;
       passesOn = passes-on (ring W) (ring-leaving W);
     }
 

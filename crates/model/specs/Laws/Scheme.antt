@@ -7,7 +7,8 @@ use native.Mathlib.Nat.{mul-zero, le-refl, le-trans, lt-of-le-of-lt, le-div-iff-
 use native.Mathlib.Omega.{arith}
 use Rattle.model.specs.Limits.{scale, airLimit, totalLimit}
 use Rattle.model.specs.Basic.{sum, distance}
-use Rattle.model.specs.Scheme.{ratio, Mismatch, mismatch, plain, opposite, highPiece, lowPiece}
+use Rattle.model.specs.World.{World}
+use Rattle.model.specs.Scheme.{ratio, Mismatch, Rule, mismatch, ruleOf, plain, opposite, highPiece, lowPiece}
 use Rattle.model.specs.Sweep.{fluxPart}
 use Rattle.model.specs.Laws.Basic.{sum-times, sum-le}
 
@@ -41,12 +42,22 @@ module _ (qa q qb : ℕ) where
   pub mismatch-high : mismatch qa q qb .size ≤ 2 * (max qa qb - q)
   mismatch-high = omega (arith, mismatch-above)
 
-  pub mismatch-twice : mismatch qa q qb .size ≤ 2 * q
+  mismatch-twice : mismatch qa q qb .size ≤ 2 * q
   mismatch-twice = omega (arith, mismatch-low)
 
 -- no mismatch between neighbours of equal ratio
-pub mismatch-equal : (q p : ℕ) → mismatch q p q .size ≡ 0
+mismatch-equal : (q p : ℕ) → mismatch q p q .size ≡ 0
 mismatch-equal q p = omega (arith, mismatch-half q p q)
+
+-- ---- what totals, whole-number ratios and the independence of tracers ask of a rule
+pub record Limited (rule : Rule) : Type 0 where
+  -- so that no piece is above what its cell has
+  pub atMostTwice : (qa q qb : ℕ) → rule qa q qb .size ≤ 2 * q
+  -- so that a constant ratio stays
+  pub noneBetweenEqual : (r q : ℕ) → rule r q r .size ≡ 0
+
+pub rule-limited : (w : World) (t : ℕ) → Limited (ruleOf w t)
+rule-limited w t = record { atMostTwice = mismatch-twice; noneBetweenEqual = mismatch-equal }
 
 -- ---- a safe mismatch: |D|·M ≤ 2·scale·T
 abbrev pub Safe : Mismatch → ℕ → ℕ → Type 0

@@ -1,5 +1,4 @@
 -- Laws of `step`: the first place that applies, an accepted and a refused call, and what an accepted load tells of a world: none of the refusals 1 to 4 is met there but for a call's own lent list.
--- Assumes nothing.
 use Prim.Native.Nat.{ℕ, zero, suc, _*_, _≤_, _<_}
 use mathlib.Core.List.{List, _∷_, _++_}
 use mathlib.Core.Bool.{Bool, true, false, not, _&&_, and-eq-true-iff}
@@ -11,8 +10,8 @@ use lib.ListN.{length}
 use Rattle.model.specs.Limits.{totalLimit}
 use Rattle.model.specs.Basic.{at}
 use Rattle.model.specs.World.{Grid, World, worldCells, gasTotal, airFits}
-use Rattle.model.specs.Step.{Call, load, emission, withdrawal, zonal, meridional, remap, total, cell, Place, firstOf, absent, gridFits, lentFits, lengthsFit, commonPlaces, ownPlaces, accepted, refused, refusal, step}
-use Rattle.model.specs.Lists.{Loaded}
+use Rattle.model.specs.Step.{Call, load, Place, firstOf, absent, gridFits, lentFits, lengthsFit, commonPlaces, ownPlaces, accepted, refused, refusal, step}
+use Rattle.model.specs.Lists.{Loaded, loadedWorld}
 use Rattle.model.specs.Laws.Basic.{every-at, every-true}
 
 -- ---- the first place that applies
@@ -67,7 +66,7 @@ answer-is w call = go (refusal w call) refl
     go zero e = rw (step-accepted w call e) (accepted-answer w call)
     go (suc n) e = rw (step-refused w call n e)
 
--- ---- what an accepted load tells of a world
+-- ---- what places 1 to 4 tell of a world that passes them
 pub record Fits (w : World) : Type 0 where
   pub grid : gridFits (w .grid) ≡ true
   pub airLength : length (w .air) ≡ worldCells (w .grid)
@@ -128,3 +127,12 @@ accepted-passed w call e = common-passed w call (ownPlaces call) e
 
 pub loaded-fits : (w : World) → Loaded w → Fits w
 loaded-fits w start = accepted-passed w load (sym (answer-is w load) ∙ start) .0
+
+-- ---- what holds of every world that calls reach from an accepted load
+pub record Reached (w : World) : Type 0 where
+  pub fits : Fits w
+
+pub loaded-reached : (w : World) → Loaded w → Reached (loadedWorld w)
+unfolding accepted
+loaded-reached w start =
+    rw (loadedWorld, step-accepted w load (sym (answer-is w load) ∙ start)) (record { fits = loaded-fits w start })

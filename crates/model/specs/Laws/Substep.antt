@@ -11,10 +11,10 @@ use lib.ListN.{length}
 use Rattle.model.specs.Limits.{scale, airLimit}
 use Rattle.model.specs.Basic.{at, sum}
 use Rattle.model.specs.World.{airFits}
-use Rattle.model.specs.Scheme.{Mismatch, mismatch, plain, opposite, highPiece, lowPiece}
+use Rattle.model.specs.Scheme.{Mismatch, Rule, plain, opposite, highPiece, lowPiece}
 use Rattle.model.specs.Sweep.{Mesh, Sides, between, southCap, northCap, Flow, leaving, entering, afterFlow, allowed, cellRatio, cellMismatch, pieces}
 use Rattle.model.specs.Laws.Basic.{both, every-at, sum-ext, sum-add, length-tab, at-tab, term-le-sum}
-use Rattle.model.specs.Laws.Scheme.{Safe, ratio-safe, mismatch-twice, mismatch-equal, plain-pieces-le, pieces-le, piece-constant, ratio-constant}
+use Rattle.model.specs.Laws.Scheme.{Limited, Safe, ratio-safe, plain-pieces-le, pieces-le, piece-constant, ratio-constant}
 use Rattle.model.specs.Laws.Mesh.{out, leaving-is, Meets, Regular, leaving-times, entering-times}
 
 -- every one of n cells has air of 1 to 65,535
@@ -68,47 +68,47 @@ allowed-is mesh flow air e =
     each c h = both _ _ (every-at (mesh .cells) _ e c h)
 
 -- ---- the mismatch of a cell
-module _ (mesh : Mesh) (air gas : List ℕ) (c : ℕ) where
-  pub mismatch-between : (l h : ℕ) → mesh .sides c ≡ between l h → cellMismatch mesh air gas c ≡ mesh .rule (cellRatio air gas (mesh .lowCell l)) (cellRatio air gas c) (cellRatio air gas (mesh .highCell h))
+module _ (rule : Rule) (mesh : Mesh) (air gas : List ℕ) (c : ℕ) where
+  pub mismatch-between : (l h : ℕ) → mesh .sides c ≡ between l h → cellMismatch rule mesh air gas c ≡ rule (cellRatio air gas (mesh .lowCell l)) (cellRatio air gas c) (cellRatio air gas (mesh .highCell h))
   unfolding cellMismatch
   mismatch-between l h e = rw (e, cellMismatch)
 
-  pub mismatch-south : (k n : ℕ) → mesh .sides c ≡ southCap k n → cellMismatch mesh air gas c ≡ plain
+  pub mismatch-south : (k n : ℕ) → mesh .sides c ≡ southCap k n → cellMismatch rule mesh air gas c ≡ plain
   unfolding cellMismatch
   mismatch-south k n e = rw (e, cellMismatch)
 
-  pub mismatch-north : (k n : ℕ) → mesh .sides c ≡ northCap k n → cellMismatch mesh air gas c ≡ plain
+  pub mismatch-north : (k n : ℕ) → mesh .sides c ≡ northCap k n → cellMismatch rule mesh air gas c ≡ plain
   unfolding cellMismatch
   mismatch-north k n e = rw (e, cellMismatch)
 
   -- it is at most twice the cell's ratio, and so it is safe
-  pub cell-twice : Regular mesh → cellMismatch mesh air gas c .size ≤ 2 * cellRatio air gas c
-  cell-twice regular = go (mesh .sides c) refl
+  pub cell-twice : Limited rule → cellMismatch rule mesh air gas c .size ≤ 2 * cellRatio air gas c
+  cell-twice limited = go (mesh .sides c) refl
     where
-      go : (s : Sides) → mesh .sides c ≡ s → cellMismatch mesh air gas c .size ≤ 2 * cellRatio air gas c
-      go (between l h) e = rw (mismatch-between l h e) (regular .ruleTwice _ (cellRatio air gas c) _)
+      go : (s : Sides) → mesh .sides c ≡ s → cellMismatch rule mesh air gas c .size ≤ 2 * cellRatio air gas c
+      go (between l h) e = rw (mismatch-between l h e) (limited .atMostTwice _ (cellRatio air gas c) _)
       go (southCap k n) e = rw (mismatch-south k n e) (omega arith)
       go (northCap k n) e = rw (mismatch-north k n e) (omega arith)
 
-  pub cell-safe : Regular mesh → Safe (cellMismatch mesh air gas c) (at air c) (at gas c)
-  cell-safe regular = ratio-safe (cellMismatch mesh air gas c) (at air c) (at gas c) (cell-twice regular)
+  pub cell-safe : Limited rule → Safe (cellMismatch rule mesh air gas c) (at air c) (at gas c)
+  cell-safe limited = ratio-safe (cellMismatch rule mesh air gas c) (at air c) (at gas c) (cell-twice limited)
 
 -- ---- the pieces of a substep
-module _ (mesh : Mesh) (flow : Flow) (air gas : List ℕ) where
+module _ (rule : Rule) (mesh : Mesh) (flow : Flow) (air gas : List ℕ) where
   -- what cell c gives through a face on its high side, and on its low side
-  pub piece-up : (f c : ℕ) → mesh .lowCell f ≡ c → pieces mesh flow air gas .toHigh f ≡ highPiece (cellMismatch mesh air gas c) (at air c) (at gas c) (flow .toHigh f)
+  pub piece-up : (f c : ℕ) → mesh .lowCell f ≡ c → pieces rule mesh flow air gas .toHigh f ≡ highPiece (cellMismatch rule mesh air gas c) (at air c) (at gas c) (flow .toHigh f)
   unfolding pieces
-  piece-up f c e = ap (λ (d : ℕ). highPiece (cellMismatch mesh air gas d) (at air d) (at gas d) (flow .toHigh f)) e
+  piece-up f c e = ap (λ (d : ℕ). highPiece (cellMismatch rule mesh air gas d) (at air d) (at gas d) (flow .toHigh f)) e
 
-  pub piece-down : (f c : ℕ) → mesh .highCell f ≡ c → pieces mesh flow air gas .toLow f ≡ lowPiece (cellMismatch mesh air gas c) (at air c) (at gas c) (flow .toLow f)
+  pub piece-down : (f c : ℕ) → mesh .highCell f ≡ c → pieces rule mesh flow air gas .toLow f ≡ lowPiece (cellMismatch rule mesh air gas c) (at air c) (at gas c) (flow .toLow f)
   unfolding pieces
-  piece-down f c e = ap (λ (d : ℕ). lowPiece (cellMismatch mesh air gas d) (at air d) (at gas d) (flow .toLow f)) e
+  piece-down f c e = ap (λ (d : ℕ). lowPiece (cellMismatch rule mesh air gas d) (at air d) (at gas d) (flow .toLow f)) e
 
-module _ (mesh : Mesh) (regular : Regular mesh) (flow : Flow) (air gas : List ℕ) (fits : AirIn (mesh .cells) air) where
+module _ {rule : Rule} (limited : Limited rule) (mesh : Mesh) (regular : Regular mesh) (flow : Flow) (air gas : List ℕ) (fits : AirIn (mesh .cells) air) where
   -- a cell gives at most the gas that it has
-  pub pieces-covered : Covers mesh flow air → Covers mesh (pieces mesh flow air gas) gas
+  pub pieces-covered : Covers mesh flow air → Covers mesh (pieces rule mesh flow air gas) gas
   pieces-covered covers c h =
-      rw (leaving-is mesh (pieces mesh flow air gas) c) (go (mesh .sides c) refl (rw (leaving-is mesh flow c) at (covers c h)) (regular .meets c h))
+      rw (leaving-is mesh (pieces rule mesh flow air gas) c) (go (mesh .sides c) refl (rw (leaving-is mesh flow c) at (covers c h)) (regular .meets c h))
     where
       M : ℕ
       M = at air c
@@ -117,32 +117,32 @@ module _ (mesh : Mesh) (regular : Regular mesh) (flow : Flow) (air gas : List �
       T = at gas c
 
       D : Mismatch
-      D = cellMismatch mesh air gas c
+      D = cellMismatch rule mesh air gas c
 
       hM : 0 < M
       hM = air-bounds M (fits c h) .0
 
-      go : (s : Sides) → mesh .sides c ≡ s → out flow s ≤ at air c → Meets mesh c s → out (pieces mesh flow air gas) s ≤ at gas c
+      go : (s : Sides) → mesh .sides c ≡ s → out flow s ≤ at air c → Meets mesh c s → out (pieces rule mesh flow air gas) s ≤ at gas c
       go (between l h) e room m =
           omega (
             arith,
-            piece-down mesh flow air gas l c (m .2),
-            piece-up mesh flow air gas h c (m .3),
-            pieces-le (cellMismatch mesh air gas c) M T (cell-safe mesh air gas c regular) hM (flow .toHigh h) (flow .toLow l) (omega arith),
+            piece-down rule mesh flow air gas l c (m .2),
+            piece-up rule mesh flow air gas h c (m .3),
+            pieces-le (cellMismatch rule mesh air gas c) M T (cell-safe rule mesh air gas c limited) hM (flow .toHigh h) (flow .toLow l) (omega arith),
           )
       go (southCap k n) e room m =
-          rw (sum-ext n _ _ (λ i p. piece-up mesh flow air gas (k + i) c (m i p .1)))
-          (plain-pieces-le D M T (ap (λ (d : Mismatch). d .size) (mismatch-south mesh air gas c k n e)) n (λ i. flow .toHigh (k + i)) hM room)
+          rw (sum-ext n _ _ (λ i p. piece-up rule mesh flow air gas (k + i) c (m i p .1)))
+          (plain-pieces-le D M T (ap (λ (d : Mismatch). d .size) (mismatch-south rule mesh air gas c k n e)) n (λ i. flow .toHigh (k + i)) hM room)
       go (northCap k n) e room m =
-          rw (sum-ext n _ _ (λ i p. piece-down mesh flow air gas (k + i) c (m i p .1)))
-          (plain-pieces-le (opposite D) M T (ap (λ (d : Mismatch). d .size) (mismatch-north mesh air gas c k n e)) n (λ i. flow .toLow (k + i)) hM room)
+          rw (sum-ext n _ _ (λ i p. piece-down rule mesh flow air gas (k + i) c (m i p .1)))
+          (plain-pieces-le (opposite D) M T (ap (λ (d : Mismatch). d .size) (mismatch-north rule mesh air gas c k n e)) n (λ i. flow .toLow (k + i)) hM room)
 
   -- so the gas total is kept, and no amount passes it
   module _ (covers : Covers mesh flow air) where
-    pub gas-total-after-flow : sum (mesh .cells) (at (afterFlow mesh (pieces mesh flow air gas) gas)) ≡ sum (mesh .cells) (at gas)
-    gas-total-after-flow = total-after-flow mesh (pieces mesh flow air gas) gas (pieces-covered covers) regular
+    pub gas-total-after-flow : sum (mesh .cells) (at (afterFlow mesh (pieces rule mesh flow air gas) gas)) ≡ sum (mesh .cells) (at gas)
+    gas-total-after-flow = total-after-flow mesh (pieces rule mesh flow air gas) gas (pieces-covered covers) regular
 
-    pub gas-after-flow-le : (c : ℕ) → c < mesh .cells → at (afterFlow mesh (pieces mesh flow air gas) gas) c ≤ sum (mesh .cells) (at gas)
+    pub gas-after-flow-le : (c : ℕ) → c < mesh .cells → at (afterFlow mesh (pieces rule mesh flow air gas) gas) c ≤ sum (mesh .cells) (at gas)
     gas-after-flow-le c h = rw (← gas-total-after-flow) (term-le-sum (mesh .cells) _ c h)
 
   -- ---- where every cell has z units of gas for each unit of air
@@ -150,39 +150,39 @@ module _ (mesh : Mesh) (regular : Regular mesh) (flow : Flow) (air gas : List �
     even-ratio : (c : ℕ) → c < mesh .cells → cellRatio air gas c ≡ scale * z
     even-ratio c h = ratio-constant (at air c) (at gas c) z (air-bounds (at air c) (fits c h) .0) (even c h)
 
-    even-mismatch : (c : ℕ) → c < mesh .cells → cellMismatch mesh air gas c .size ≡ 0
+    even-mismatch : (c : ℕ) → c < mesh .cells → cellMismatch rule mesh air gas c .size ≡ 0
     even-mismatch c inside = go (mesh .sides c) refl (regular .meets c inside)
       where
-        go : (s : Sides) → mesh .sides c ≡ s → Meets mesh c s → cellMismatch mesh air gas c .size ≡ 0
+        go : (s : Sides) → mesh .sides c ≡ s → Meets mesh c s → cellMismatch rule mesh air gas c .size ≡ 0
         go (between l h) e m =
-            rw (mismatch-between mesh air gas c l h e, even-ratio (mesh .lowCell l) (regular .lowIn l (m .0)), even-ratio (mesh .highCell h) (regular .highIn h (m .1)))
-            (regular .ruleEqual (scale * z) (cellRatio air gas c))
-        go (southCap k n) e m = ap (λ (d : Mismatch). d .size) (mismatch-south mesh air gas c k n e)
-        go (northCap k n) e m = ap (λ (d : Mismatch). d .size) (mismatch-north mesh air gas c k n e)
+            rw (mismatch-between rule mesh air gas c l h e, even-ratio (mesh .lowCell l) (regular .lowIn l (m .0)), even-ratio (mesh .highCell h) (regular .highIn h (m .1)))
+            (limited .noneBetweenEqual (scale * z) (cellRatio air gas c))
+        go (southCap k n) e m = ap (λ (d : Mismatch). d .size) (mismatch-south rule mesh air gas c k n e)
+        go (northCap k n) e m = ap (λ (d : Mismatch). d .size) (mismatch-north rule mesh air gas c k n e)
 
     -- each piece has z times its air
-    even-up : (f : ℕ) → f < mesh .faces → pieces mesh flow air gas .toHigh f ≡ z * flow .toHigh f
+    even-up : (f : ℕ) → f < mesh .faces → pieces rule mesh flow air gas .toHigh f ≡ z * flow .toHigh f
     even-up f h =
         let c : ℕ = mesh .lowCell f in
         let inside : c < mesh .cells = regular .lowIn f h in
-        piece-up mesh flow air gas f c refl ∙
-        piece-constant (cellMismatch mesh air gas c) (at air c) (at gas c) (flow .toHigh f) z (air-bounds (at air c) (fits c inside) .0) (even-mismatch c inside) (even c inside)
+        piece-up rule mesh flow air gas f c refl ∙
+        piece-constant (cellMismatch rule mesh air gas c) (at air c) (at gas c) (flow .toHigh f) z (air-bounds (at air c) (fits c inside) .0) (even-mismatch c inside) (even c inside)
 
-    even-down : (f : ℕ) → f < mesh .faces → pieces mesh flow air gas .toLow f ≡ z * flow .toLow f
+    even-down : (f : ℕ) → f < mesh .faces → pieces rule mesh flow air gas .toLow f ≡ z * flow .toLow f
     even-down f h =
         let c : ℕ = mesh .highCell f in
         let inside : c < mesh .cells = regular .highIn f h in
-        piece-down mesh flow air gas f c refl ∙
-        piece-constant (opposite (cellMismatch mesh air gas c)) (at air c) (at gas c) (flow .toLow f) z (air-bounds (at air c) (fits c inside) .0) (even-mismatch c inside) (even c inside)
+        piece-down rule mesh flow air gas f c refl ∙
+        piece-constant (opposite (cellMismatch rule mesh air gas c)) (at air c) (at gas c) (flow .toLow f) z (air-bounds (at air c) (fits c inside) .0) (even-mismatch c inside) (even c inside)
 
     -- and so has every cell afterwards
-    pub even-after : Covers mesh flow air → (c : ℕ) → c < mesh .cells → at (afterFlow mesh (pieces mesh flow air gas) gas) c ≡ z * at (afterFlow mesh flow air) c
+    pub even-after : Covers mesh flow air → (c : ℕ) → c < mesh .cells → at (afterFlow mesh (pieces rule mesh flow air gas) gas) c ≡ z * at (afterFlow mesh flow air) c
     even-after covers c h =
         omega (
           arith,
-          balance mesh (pieces mesh flow air gas) gas (pieces-covered covers) c h,
+          balance mesh (pieces rule mesh flow air gas) gas (pieces-covered covers) c h,
           ap (λ (x : ℕ). z * x) (balance mesh flow air covers c h),
           even c h,
-          leaving-times mesh regular z flow (pieces mesh flow air gas) even-up even-down c h,
-          entering-times mesh regular z flow (pieces mesh flow air gas) even-up even-down c h,
+          leaving-times mesh regular z flow (pieces rule mesh flow air gas) even-up even-down c h,
+          entering-times mesh regular z flow (pieces rule mesh flow air gas) even-up even-down c h,
         )

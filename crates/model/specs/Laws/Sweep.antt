@@ -1,8 +1,8 @@
 -- What a sweep of some of the world's cells keeps, over any regular mesh: inside the swept cells, outside them, and in two worlds alike.
--- Assumes a world that fits, the swept cells inside it, and for what is kept a count that serves.
+-- Assumes a world that passes places 1 to 4, or, for what is kept, one that calls reach; the swept cells inside it, and a count that serves.
 use Prim.Native.Nat.{ℕ, zero, suc, _+_, _*_, _≤_, _<_}
 use mathlib.Core.List.{List}
-use mathlib.Core.Bool.{Bool, true}
+use mathlib.Core.Bool.{Bool, true, true≢false}
 use mathlib.Core.Path.{_≡_, refl, sym, _∙_, ap, ap₂}
 use mathlib.Core.Logic.{_⊎_, inl, inr}
 use native.Mathlib.Nat.{le-refl}
@@ -12,25 +12,29 @@ use lib.IntN.{ℤ}
 use Rattle.model.specs.Limits.{mostSubsteps}
 use Rattle.model.specs.Basic.{at, part, written, sum}
 use Rattle.model.specs.World.{Grid, World, worldCells, gas, airFits}
+use Rattle.model.specs.Scheme.{Rule, ruleOf}
 use Rattle.model.specs.Sweep.{Mesh, airAfter, gasAfter, serves, swept}
-use Rattle.model.specs.Step.{Call, accepted, refused, refusal, step}
+use Rattle.model.specs.Step.{Call, Place, firstOf, noExchange, sweeps, accepted, refused, refusal, step}
 use Rattle.model.specs.Lists.{Alike}
 use Rattle.model.specs.Laws.Basic.{length-part, at-part, InPart, Outside, part-or-outside, length-written, at-written-within, at-written-outside, part-written, sum-written}
+use Rattle.model.specs.Laws.Scheme.{Limited, rule-limited}
 use Rattle.model.specs.Laws.Mesh.{Regular}
 use Rattle.model.specs.Laws.Substep.{AirIn, air-bounds}
 use Rattle.model.specs.Laws.Chain.{length-air-after, length-gas-after, air-after-in, air-after-total, gas-after-total, even-chain}
-use Rattle.model.specs.Laws.World.{length-gas, gas-moved}
-use Rattle.model.specs.Laws.Step.{Fits, step-accepted, step-refused}
-use Rattle.model.specs.Laws.Keeps.{Kept}
-use Rattle.model.specs.Laws.Moved.{Even, Conserves, moved-kept, moved-alike}
+use Rattle.model.specs.Laws.World.{length-gas, length-moved, gas-moved}
+use Rattle.model.specs.Laws.Step.{Fits, Reached, step-accepted, step-refused}
+use Rattle.model.specs.Laws.Fractions.{rule-monotone}
+use Rattle.model.specs.Laws.Range.{sweep-in-range}
+use Rattle.model.specs.Laws.Keeps.{Kept, MeaningKeeps}
+use Rattle.model.specs.Laws.Moved.{Even, KeepsAir, KeepsGas, moved-kept, moved-alike}
 
 -- ---- the amounts of all cells after a sweep of the cells from cell a on: the air from the air alone, a gas from the air and that gas alone
 abbrev pub sweptAir : Mesh → ℕ → List ℤ → ℕ → List ℕ → List ℕ
 sweptAir mesh a fluxes n air = written air a (airAfter mesh fluxes n (part air a (mesh .cells)) n)
 
-abbrev pub sweptGas : Mesh → ℕ → List ℤ → ℕ → List ℕ → List ℕ → List ℕ
-sweptGas mesh a fluxes n air had =
-    written had a (gasAfter mesh fluxes n (part air a (mesh .cells)) (part had a (mesh .cells)) n)
+abbrev pub sweptGas : Rule → Mesh → ℕ → List ℤ → ℕ → List ℕ → List ℕ → List ℕ
+sweptGas rule mesh a fluxes n air had =
+    written had a (gasAfter rule mesh fluxes n (part air a (mesh .cells)) (part had a (mesh .cells)) n)
 
 -- some of the cells have air of 1 to 65,535, where all have
 pub cells-in : (a m cells : ℕ) → a + m ≤ cells → (air : List ℕ) → AirIn cells air → AirIn m (part air a m)
@@ -51,21 +55,21 @@ module _ (mesh : Mesh) (a : ℕ) (fluxes : List ℤ) (n cells : ℕ) (inside : a
     air-at : (i : ℕ) → i < mesh .cells → at (sweptAir mesh a fluxes n air) (a + i) ≡ at (airAfter mesh fluxes n (part air a (mesh .cells)) n) i
     air-at = at-written-within air _ a (mesh .cells) cells whole length-new-air inside
 
-  -- and a gas
-  module _ (had : List ℕ) (whole : length had ≡ cells) where
-    length-new-gas : length (gasAfter mesh fluxes n (part air a (mesh .cells)) (part had a (mesh .cells)) n) ≡ mesh .cells
-    length-new-gas = length-gas-after mesh fluxes n _ _ (length-part had a (mesh .cells) (omega arith)) n
+  -- and a gas, under any rule
+  module _ (rule : Rule) (had : List ℕ) (whole : length had ≡ cells) where
+    length-new-gas : length (gasAfter rule mesh fluxes n (part air a (mesh .cells)) (part had a (mesh .cells)) n) ≡ mesh .cells
+    length-new-gas = length-gas-after mesh fluxes n _ rule _ (length-part had a (mesh .cells) (omega arith)) n
 
-    pub length-swept-gas : length (sweptGas mesh a fluxes n air had) ≡ cells
+    pub length-swept-gas : length (sweptGas rule mesh a fluxes n air had) ≡ cells
     length-swept-gas = length-written had _ a (mesh .cells) cells whole length-new-gas inside
 
-    pub gas-within : part (sweptGas mesh a fluxes n air had) a (mesh .cells) ≡ gasAfter mesh fluxes n (part air a (mesh .cells)) (part had a (mesh .cells)) n
+    pub gas-within : part (sweptGas rule mesh a fluxes n air had) a (mesh .cells) ≡ gasAfter rule mesh fluxes n (part air a (mesh .cells)) (part had a (mesh .cells)) n
     gas-within = part-written had _ a (mesh .cells) cells whole length-new-gas inside
 
-    pub gas-outside : (c : ℕ) → Outside a (mesh .cells) c → at (sweptGas mesh a fluxes n air had) c ≡ at had c
+    pub gas-outside : (c : ℕ) → Outside a (mesh .cells) c → at (sweptGas rule mesh a fluxes n air had) c ≡ at had c
     gas-outside = at-written-outside had _ a (mesh .cells) cells whole length-new-gas inside
 
-    gas-at : (i : ℕ) → i < mesh .cells → at (sweptGas mesh a fluxes n air had) (a + i) ≡ at (gasAfter mesh fluxes n (part air a (mesh .cells)) (part had a (mesh .cells)) n) i
+    gas-at : (i : ℕ) → i < mesh .cells → at (sweptGas rule mesh a fluxes n air had) (a + i) ≡ at (gasAfter rule mesh fluxes n (part air a (mesh .cells)) (part had a (mesh .cells)) n) i
     gas-at = at-written-within had _ a (mesh .cells) cells whole length-new-gas inside
 
   -- ---- a sweep conserves
@@ -87,36 +91,42 @@ module _ (mesh : Mesh) (a : ℕ) (fluxes : List ℤ) (n cells : ℕ) (inside : a
           air-after-total mesh regular fluxes old n old-in serving n (le-refl n),
         )
 
-    gas-total : (had : List ℕ) → length had ≡ cells → sum cells (at (sweptGas mesh a fluxes n air had)) ≡ sum cells (at had)
-    gas-total had all =
-        let old : List ℕ = part air a (mesh .cells) in
-        let some : List ℕ = part had a (mesh .cells) in
-        omega (
-          arith,
-          sum-written had (gasAfter mesh fluxes n old some n) a (mesh .cells) cells all (length-new-gas had all) inside,
-          gas-after-total mesh regular fluxes old n old-in serving some n (le-refl n),
-        )
+    sweep-air : KeepsAir cells air (sweptAir mesh a fluxes n air)
+    sweep-air =
+        record {
+          airLength = length-written air _ a (mesh .cells) cells whole (length-new-air whole) inside;
+          airIn = λ c h. new-in c h (part-or-outside a (mesh .cells) c);
+          airKept = air-total;
+        }
 
     even-part : (had : List ℕ) (z : ℕ) → Even cells z air had → Even (mesh .cells) z (part air a (mesh .cells)) (part had a (mesh .cells))
     even-part had z even i h =
         rw (at-part had a (mesh .cells) i h, at-part air a (mesh .cells) i h) (even (a + i) (omega arith))
 
-    even-kept : (had : List ℕ) (z : ℕ) → length had ≡ cells → Even cells z air had → (c : ℕ) → c < cells → InPart a (mesh .cells) c ⊎ Outside a (mesh .cells) c → at (sweptGas mesh a fluxes n air had) c ≡ z * at (sweptAir mesh a fluxes n air) c
-    even-kept had z all even c h (inl (i, p, e)) =
-        rw (← e, air-at whole i p, gas-at had all i p)
-        (even-chain mesh regular fluxes _ n old-in serving _ z (even-part had z even) n (le-refl n) i p)
-    even-kept had z all even c h (inr out) = rw (air-outside whole c out, gas-outside had all c out) (even c h)
+    module _ {rule : Rule} (limited : Limited rule) where
+      gas-total : (had : List ℕ) → length had ≡ cells → sum cells (at (sweptGas rule mesh a fluxes n air had)) ≡ sum cells (at had)
+      gas-total had all =
+          let old : List ℕ = part air a (mesh .cells) in
+          let some : List ℕ = part had a (mesh .cells) in
+          omega (
+            arith,
+            sum-written had (gasAfter rule mesh fluxes n old some n) a (mesh .cells) cells all (length-new-gas rule had all) inside,
+            gas-after-total mesh regular fluxes old n old-in serving limited some n (le-refl n),
+          )
 
-    sweep-conserves : Conserves cells air (sweptAir mesh a fluxes n air) (sweptGas mesh a fluxes n air)
-    sweep-conserves =
-        record {
-          airLength = length-written air _ a (mesh .cells) cells whole (length-new-air whole) inside;
-          airIn = λ c h. new-in c h (part-or-outside a (mesh .cells) c);
-          airKept = air-total;
-          gasLength = length-swept-gas;
-          gasKept = gas-total;
-          evenKept = λ had z all even c h. even-kept had z all even c h (part-or-outside a (mesh .cells) c);
-        }
+      even-kept : (had : List ℕ) (z : ℕ) → length had ≡ cells → Even cells z air had → (c : ℕ) → c < cells → InPart a (mesh .cells) c ⊎ Outside a (mesh .cells) c → at (sweptGas rule mesh a fluxes n air had) c ≡ z * at (sweptAir mesh a fluxes n air) c
+      even-kept had z all even c h (inl (i, p, e)) =
+          rw (← e, air-at whole i p, gas-at rule had all i p)
+          (even-chain mesh regular fluxes _ n old-in serving limited _ z (even-part had z even) n (le-refl n) i p)
+      even-kept had z all even c h (inr out) = rw (air-outside whole c out, gas-outside rule had all c out) (even c h)
+
+      sweep-gas : KeepsGas cells air (sweptAir mesh a fluxes n air) (sweptGas rule mesh a fluxes n air)
+      sweep-gas =
+          record {
+            gasLength = length-swept-gas rule;
+            gasKept = gas-total;
+            evenKept = λ had z all even c h. even-kept had z all even c h (part-or-outside a (mesh .cells) c);
+          }
 
 -- ---- what is known of a sweep that is accepted: its mesh, where its cells lie, and its count
 pub record Sweeps (w : World) (mesh : Mesh) (a : ℕ) (fluxes : List ℤ) (n : ℕ) : Type 0 where
@@ -132,19 +142,23 @@ module _ (w : World) (fits : Fits w) (mesh : Mesh) (a : ℕ) (inside : a + mesh 
   unfolding swept
   swept-air = refl
 
-  swept-as-many : (t : ℕ) → t < w .grid .N → length (sweptGas mesh a fluxes n (w .air) (gas w t)) ≡ worldCells (w .grid)
+  swept-as-many : (t : ℕ) → t < w .grid .N → length (sweptGas (ruleOf w t) mesh a fluxes n (w .air) (gas w t)) ≡ worldCells (w .grid)
   swept-as-many t h =
-      length-swept-gas mesh a fluxes n (worldCells (w .grid)) inside (w .air) (gas w t) (length-gas w t (fits .tracersLength) h)
+      length-swept-gas mesh a fluxes n (worldCells (w .grid)) inside (w .air) (ruleOf w t) (gas w t) (length-gas w t (fits .tracersLength) h)
 
-  pub swept-gas : (t : ℕ) → t < w .grid .N → gas (swept w mesh a fluxes n) t ≡ sweptGas mesh a fluxes n (w .air) (gas w t)
+  pub swept-gas : (t : ℕ) → t < w .grid .N → gas (swept w mesh a fluxes n) t ≡ sweptGas (ruleOf w t) mesh a fluxes n (w .air) (gas w t)
   unfolding swept
-  swept-gas = gas-moved w (sweptAir mesh a fluxes n (w .air)) (λ t. sweptGas mesh a fluxes n (w .air)) swept-as-many
+  swept-gas =
+      gas-moved w (sweptAir mesh a fluxes n (w .air)) (λ t. sweptGas (ruleOf w t) mesh a fluxes n (w .air)) swept-as-many
 
-pub swept-kept : (w : World) → Fits w → (mesh : Mesh) (a : ℕ) (fluxes : List ℤ) (n : ℕ) → Sweeps w mesh a fluxes n → Kept w (swept w mesh a fluxes n) (λ t. 0) (λ t. 0)
+pub swept-kept : (w : World) → Reached w → (mesh : Mesh) (a : ℕ) (fluxes : List ℤ) (n : ℕ) → Sweeps w mesh a fluxes n → Kept w (swept w mesh a fluxes n) (λ t. noExchange)
 unfolding swept
-swept-kept w fits mesh a fluxes n s =
-    moved-kept w fits _ _
-    (λ t. sweep-conserves mesh a fluxes n (worldCells (w .grid)) (s .inside) (w .air) (fits .airLength) (fits .air) (s .regular) (s .serving))
+swept-kept w reached mesh a fluxes n s =
+    let fits = reached .fits in
+    let cells : ℕ = worldCells (w .grid) in
+    moved-kept w reached _ _
+    (sweep-air mesh a fluxes n cells (s .inside) (w .air) (fits .airLength) (fits .air) (s .regular) (s .serving))
+    (λ t. sweep-gas mesh a fluxes n cells (s .inside) (w .air) (fits .airLength) (fits .air) (s .regular) (s .serving) (rule-limited w t))
 
 -- each of the swept cells has air
 pub swept-cells-air : (w : World) → Fits w → (mesh : Mesh) (a : ℕ) (fluxes : List ℤ) (n : ℕ) → Sweeps w mesh a fluxes n → (c : ℕ) → c < mesh .cells → 1 ≤ at (part (w .air) a (mesh .cells)) c
@@ -162,17 +176,17 @@ pub record ChangesOnly (w next : World) (a m : ℕ) : Type 0 where
 pub swept-changes-only : (w : World) → Fits w → (mesh : Mesh) (a : ℕ) (fluxes : List ℤ) (n : ℕ) → Sweeps w mesh a fluxes n → ChangesOnly w (swept w mesh a fluxes n) a (mesh .cells)
 unfolding swept
 swept-changes-only w fits mesh a fluxes n s =
-    let kept = swept-kept w fits mesh a fluxes n s in
     let cells : ℕ = worldCells (w .grid) in
+    let air = sweep-air mesh a fluxes n cells (s .inside) (w .air) (fits .airLength) (fits .air) (s .regular) (s .serving) in
     record {
       sameGrid = refl;
-      airLength = kept .fits .airLength ∙ sym (fits .airLength);
-      tracersLength = kept .fits .tracersLength ∙ sym (fits .tracersLength);
+      airLength = air .airLength ∙ sym (fits .airLength);
+      tracersLength = length-moved w (sweptAir mesh a fluxes n (w .air)) (λ t. sweptGas (ruleOf w t) mesh a fluxes n (w .air)) (swept-as-many w fits mesh a (s .inside) fluxes n) ∙ sym (fits .tracersLength);
       airOutside = air-outside mesh a fluxes n cells (s .inside) (w .air) (fits .airLength);
       gasOutside =
           λ t h c out.
           rw (swept-gas w fits mesh a (s .inside) fluxes n t h)
-          (gas-outside mesh a fluxes n cells (s .inside) (w .air) (gas w t) (length-gas w t (fits .tracersLength) h) c out);
+          (gas-outside mesh a fluxes n cells (s .inside) (w .air) (ruleOf w t) (gas w t) (length-gas w t (fits .tracersLength) h) c out);
     }
 
 -- a call changes no more than it does where it is accepted: a refused one changes nothing
@@ -224,30 +238,30 @@ module _ (meshOf : Grid → Mesh) (startOf : Grid → ℕ) (countOf : Grid → L
       same : Alike own (swept w mesh a fluxes n) (swept v mesh a fluxes n)
       same =
           moved-alike own w v _ _
-          (λ t. sweptGas mesh a fluxes n (w .air))
-          (λ t. sweptGas mesh a fluxes n (v .air))
+          (λ t. sweptGas (ruleOf w t) mesh a fluxes n (w .air))
+          (λ t. sweptGas (ruleOf v t) mesh a fluxes n (v .air))
           (swept-as-many w fw mesh a inside fluxes n)
           (swept-as-many v fv mesh a (rw (← (alike .sameGrid)) inside) fluxes n)
           (alike .sameGrid)
           (ap (sweptAir mesh a fluxes n) (alike .sameAir))
-          (λ t h o. ap₂ (sweptGas mesh a fluxes n) (alike .sameAir) (alike .sameGas t o))
+          (λ t h o. ap₂ (sweptGas (ruleOf w t) mesh a fluxes n) (alike .sameAir) (alike .sameGas t o))
 
   -- the swept cells afterwards come from the swept cells before
   abbrev chainAir : Grid → List ℕ → List ℕ
   chainAir g row = airAfter (meshOf g) fluxes (countOf g row) row (countOf g row)
 
-  abbrev chainGas : Grid → List ℕ → List ℕ → List ℕ
-  chainGas g row had = gasAfter (meshOf g) fluxes (countOf g row) row had (countOf g row)
+  abbrev chainGas : Rule → Grid → List ℕ → List ℕ → List ℕ
+  chainGas rule g row had = gasAfter rule (meshOf g) fluxes (countOf g row) row had (countOf g row)
 
   module _ (w : World) (fits : Fits w) (inside : startOf (w .grid) + meshOf (w .grid) .cells ≤ worldCells (w .grid)) where
     swept-row : cellsIn (w .grid) (sweptOf w .air) ≡ chainAir (w .grid) (cellsIn (w .grid) (w .air))
     unfolding swept
     swept-row = air-within (meshOf (w .grid)) _ fluxes _ (worldCells (w .grid)) inside (w .air) (fits .airLength)
 
-    swept-row-gas : (t : ℕ) → t < w .grid .N → cellsIn (w .grid) (gas (sweptOf w) t) ≡ chainGas (w .grid) (cellsIn (w .grid) (w .air)) (cellsIn (w .grid) (gas w t))
+    swept-row-gas : (t : ℕ) → t < w .grid .N → cellsIn (w .grid) (gas (sweptOf w) t) ≡ chainGas (ruleOf w t) (w .grid) (cellsIn (w .grid) (w .air)) (cellsIn (w .grid) (gas w t))
     swept-row-gas t h =
         rw (swept-gas w fits (meshOf (w .grid)) _ inside fluxes _ t h)
-        (gas-within (meshOf (w .grid)) _ fluxes _ (worldCells (w .grid)) inside (w .air) (gas w t) (length-gas w t (fits .tracersLength) h))
+        (gas-within (meshOf (w .grid)) _ fluxes _ (worldCells (w .grid)) inside (w .air) (ruleOf w t) (gas w t) (length-gas w t (fits .tracersLength) h))
 
   pub swept-same : (w v : World) → Fits w → Fits v → startOf (w .grid) + meshOf (w .grid) .cells ≤ worldCells (w .grid) → SameCells startOf (λ g. meshOf g .cells) w v → SameCells startOf (λ g. meshOf g .cells) (sweptOf w) (sweptOf v)
   unfolding swept
@@ -258,8 +272,8 @@ module _ (meshOf : Grid → Mesh) (startOf : Grid → ℕ) (countOf : Grid → L
         sameGas =
             λ t h.
             swept-row-gas w fw inside t h ∙
-            ap₂ (λ (g : Grid) (row : List ℕ). chainGas g row (cellsIn (w .grid) (gas w t))) (s .sameGrid) (s .sameAir) ∙
-            ap (chainGas (v .grid) (cellsIn (v .grid) (v .air))) (s .sameGas t h) ∙
+            ap₂ (λ (g : Grid) (row : List ℕ). chainGas (ruleOf w t) g row (cellsIn (w .grid) (gas w t))) (s .sameGrid) (s .sameAir) ∙
+            ap (chainGas (ruleOf w t) (v .grid) (cellsIn (v .grid) (v .air))) (s .sameGas t h) ∙
             sym (swept-row-gas v fv inside-v t (rw (← (s .sameGrid)) h));
       }
     where
@@ -270,8 +284,8 @@ module _ (meshOf : Grid → Mesh) (startOf : Grid → ℕ) (countOf : Grid → L
 pub record ChainOf (w next : World) (mesh : Mesh) (a : ℕ) (fluxes : List ℤ) (n t : ℕ) : Type 0 where
   pub airStart : airAfter mesh fluxes n (part (w .air) a (mesh .cells)) 0 ≡ part (w .air) a (mesh .cells)
   pub airEnd : part (next .air) a (mesh .cells) ≡ airAfter mesh fluxes n (part (w .air) a (mesh .cells)) n
-  pub gasStart : gasAfter mesh fluxes n (part (w .air) a (mesh .cells)) (part (gas w t) a (mesh .cells)) 0 ≡ part (gas w t) a (mesh .cells)
-  pub gasEnd : part (gas next t) a (mesh .cells) ≡ gasAfter mesh fluxes n (part (w .air) a (mesh .cells)) (part (gas w t) a (mesh .cells)) n
+  pub gasStart : gasAfter (ruleOf w t) mesh fluxes n (part (w .air) a (mesh .cells)) (part (gas w t) a (mesh .cells)) 0 ≡ part (gas w t) a (mesh .cells)
+  pub gasEnd : part (gas next t) a (mesh .cells) ≡ gasAfter (ruleOf w t) mesh fluxes n (part (w .air) a (mesh .cells)) (part (gas w t) a (mesh .cells)) n
 
 pub swept-chain : (w : World) → Fits w → (mesh : Mesh) (a : ℕ) (fluxes : List ℤ) (n : ℕ) → a + mesh .cells ≤ worldCells (w .grid) → (t : ℕ) → t < w .grid .N → ChainOf w (swept w mesh a fluxes n) mesh a fluxes n t
 unfolding airAfter gasAfter
@@ -280,5 +294,27 @@ swept-chain w fits mesh a fluxes n inside t h =
       airStart = refl;
       airEnd = rw (swept-air w fits mesh a inside fluxes n) (air-within mesh a fluxes n (worldCells (w .grid)) inside (w .air) (fits .airLength));
       gasStart = refl;
-      gasEnd = rw (swept-gas w fits mesh a inside fluxes n t h) (gas-within mesh a fluxes n (worldCells (w .grid)) inside (w .air) (gas w t) (length-gas w t (fits .tracersLength) h));
+      gasEnd = rw (swept-gas w fits mesh a inside fluxes n t h) (gas-within mesh a fluxes n (worldCells (w .grid)) inside (w .air) (ruleOf w t) (gas w t) (length-gas w t (fits .tracersLength) h));
     }
+
+-- ---- a call that sweeps keeps what a call keeps, if its places read the grid and the air alone, and tell that the sweep is as above
+module _ (meshOf : Grid → Mesh) (startOf : Grid → ℕ) (countOf : Grid → List ℕ → ℕ) (fluxes : List ℤ) (lent : Grid → Bool) (ps : List Place) where
+  abbrev countIn : World → ℕ
+  countIn w = countOf (w .grid) (part (w .air) (startOf (w .grid)) (meshOf (w .grid) .cells))
+
+  pub sweeps-keep : ((own : ℕ → Bool) (w v : World) → Alike own w v → firstOf ps w ≡ firstOf ps v) → ((w : World) → firstOf ps w ≡ 0 → Sweeps w (meshOf (w .grid)) (startOf (w .grid)) fluxes (countIn w)) → MeaningKeeps (sweeps meshOf startOf fluxes countIn lent ps)
+  unfolding swept
+  sweeps-keep places passed =
+      record {
+        sameGrid = λ w. refl;
+        samePlaces = λ own w v a named. places own w v a;
+        accepts =
+            λ w reached e.
+            let s = passed w e in
+            record {
+              kept = swept-kept w reached _ _ fluxes _ s;
+              inRange = λ t h. sweep-in-range (rule-limited w t) (rule-monotone w t) _ (s .regular) fluxes _ _ _ (swept-cells-air w (reached .fits) _ _ fluxes _ s) (s .serving);
+              alike = λ own v vv a named. swept-alike meshOf startOf countOf fluxes own w v (reached .fits) (vv .fits) a (s .inside);
+              apart = λ own other. absurd (true≢false other);
+            };
+      }

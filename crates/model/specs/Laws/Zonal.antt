@@ -12,22 +12,20 @@ use lib.IntN.{ℤ}
 use Rattle.model.specs.Limits.{zonalLimit}
 use Rattle.model.specs.World.{Grid, World, worldCells, layerCells, rowStart}
 use Rattle.model.specs.Sweep.{ring, substepCount}
-use Rattle.model.specs.Step.{zonal, firstOf, fluxTooLarge, commonPlaces, ownPlaces, accepted, refused, refusal, step, rowAir, zonalCount}
-use Rattle.model.specs.Lists.{CallInRange, SameReply}
+use Rattle.model.specs.Step.{zonal, firstOf, fluxTooLarge, meaning, commonPlaces, ownPlaces, accepted, refused, refusal, step, rowAir, zonalCount}
+use Rattle.model.specs.Lists.{SameReply}
 use Rattle.model.specs.Laws.Grid.{row-inside}
 use Rattle.model.specs.Laws.Ring.{ring-regular}
-use Rattle.model.specs.Laws.Range.{sweep-in-range}
-use Rattle.model.specs.Laws.Fractions.{mismatch-towards-high, mismatch-towards-low}
 use Rattle.model.specs.Laws.Chain.{count-smallest}
 use Rattle.model.specs.Laws.Step.{Fits, firstOf-same, passed, found, step-accepted, step-refused, answer-is, own-refusal, common-passed, accepted-passed}
-use Rattle.model.specs.Laws.Keeps.{AcceptedKeeps}
-use Rattle.model.specs.Laws.Sweep.{Sweeps, swept-kept, swept-cells-air, swept-alike, SameCells, swept-same, ChangesOnly, swept-changes-only, step-changes-only}
+use Rattle.model.specs.Laws.Keeps.{air-alike, MeaningKeeps}
+use Rattle.model.specs.Laws.Sweep.{Sweeps, sweeps-keep, SameCells, swept-same, ChangesOnly, swept-changes-only, step-changes-only}
 
--- what the places of a zonal sweep tell, where it is accepted
-pub zonal-sweeps : (k r : ℕ) (fluxes : List ℤ) (w : World) → refusal w (zonal k r fluxes) ≡ 0 → Sweeps w (ring (w .grid .W)) (rowStart (w .grid) k r) fluxes (zonalCount w k r fluxes)
+-- what its own places tell, where they are passed
+own-sweeps : (k r : ℕ) (fluxes : List ℤ) (w : World) → firstOf (ownPlaces (zonal k r fluxes)) w ≡ 0 → Sweeps w (ring (w .grid .W)) (rowStart (w .grid) k r) fluxes (zonalCount w k r fluxes)
 unfolding ownPlaces ring
-zonal-sweeps k r fluxes w e =
-    let p = found k (λ g. g .K) _ w (accepted-passed w (zonal k r fluxes) e .2) in
+own-sweeps k r fluxes w e =
+    let p = found k (λ g. g .K) _ w e in
     let q = found r (λ g. g .R) _ w (p .1) in
     let small = passed _ _ w (lit< tt) (q .1) in
     let some = passed _ _ w (lit< tt) (small .1) in
@@ -40,23 +38,15 @@ zonal-sweeps k r fluxes w e =
       serving = count .serving;
     }
 
--- every cell of the row is in range after each substep
-pub zonal-range : (k r : ℕ) (fluxes : List ℤ) (w : World) → Fits w → refusal w (zonal k r fluxes) ≡ 0 → (t : ℕ) → t < w .grid .N → CallInRange w t (zonal k r fluxes)
-unfolding ring
-zonal-range k r fluxes w fits e t h =
-    let s = zonal-sweeps k r fluxes w e in
-    sweep-in-range _ (s .regular) (record { high = mismatch-towards-high; low = mismatch-towards-low }) fluxes _ _ _ (swept-cells-air w fits _ _ fluxes _ s) (s .serving)
+pub zonal-sweeps : (k r : ℕ) (fluxes : List ℤ) (w : World) → refusal w (zonal k r fluxes) ≡ 0 → Sweeps w (ring (w .grid .W)) (rowStart (w .grid) k r) fluxes (zonalCount w k r fluxes)
+zonal-sweeps k r fluxes w e = own-sweeps k r fluxes w (accepted-passed w (zonal k r fluxes) e .2)
 
-pub zonal-keeps : (k r : ℕ) (fluxes : List ℤ) (w : World) → Fits w → refusal w (zonal k r fluxes) ≡ 0 → ((t : ℕ) → t < w .grid .N → CallInRange w t (zonal k r fluxes)) → AcceptedKeeps w (zonal k r fluxes)
-unfolding accepted ring
-zonal-keeps k r fluxes w fits e range =
-    let sweeps = zonal-sweeps k r fluxes w e in
-    record {
-      kept = swept-kept w fits _ _ fluxes _ sweeps;
-      inRange = range;
-      alike = λ own v fv a named. swept-alike (λ g. ring (g .W)) (λ g. rowStart g k r) (λ g. substepCount (ring (g .W)) fluxes) fluxes own w v fits fv a (sweeps .inside);
-      apart = λ own other. absurd (true≢false other);
-    }
+pub zonal-keeps : (k r : ℕ) (fluxes : List ℤ) → MeaningKeeps (meaning (zonal k r fluxes))
+unfolding ownPlaces ring firstOf
+zonal-keeps k r fluxes =
+    sweeps-keep (λ g. ring (g .W)) (λ g. rowStart g k r) (λ g. substepCount (ring (g .W)) fluxes) fluxes _ _
+    (λ own w v a. air-alike own w v a (ownPlaces (zonal k r fluxes)))
+    (own-sweeps k r fluxes)
 
 -- ---- the frame: "The sweep writes only that row's cells inside its layer, in the air and in all tracers"; a refused one writes nothing
 pub zonal-changes-only : (k r : ℕ) (fluxes : List ℤ) (w : World) → ChangesOnly w (step w (zonal k r fluxes) .next) (rowStart (w .grid) k r) (w .grid .W)
