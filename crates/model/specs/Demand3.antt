@@ -12,8 +12,8 @@ use Rattle.model.specs.Sweep.{ring, layer}
 use Rattle.model.specs.Step.{Call, load, emission, withdrawal, zonal, meridional, remap, total, cell, firstOf, meaning, lentFits, ownPlaces, refusal, accepted, step}
 use Rattle.model.specs.Lists.{Loaded, loadedWorld, callAt, after, point, history, HasRatio, CallInRange, Alike, namesNoOther, SameReply}
 use Rattle.model.specs.Laws.Step.{Fits, Reached, own-refusal, loaded-reached, step-accepted, answer-is}
-use Rattle.model.specs.Laws.Keeps.{MeaningKeeps, step-keeps, step-same-grid, names-grid}
-use Rattle.model.specs.Laws.Lists.{EachKeeps, points-kept, points-alike, points-ratio}
+use Rattle.model.specs.Laws.Keeps.{Kept, MeaningKeeps, StepKeeps, step-keeps, step-same-grid, names-grid}
+use Rattle.model.specs.Laws.Lists.{list-kept, list-alike, points-ratio}
 use Rattle.model.specs.Laws.Amounts.{load-keeps, emission-keeps, withdrawal-keeps, total-keeps, cell-keeps}
 use Rattle.model.specs.Laws.Sweep.{ChainOf, swept-chain}
 use Rattle.model.specs.Laws.Zonal.{zonal-sweeps, zonal-keeps}
@@ -45,33 +45,35 @@ call-keeps (remap table) = remap-keeps table
 call-keeps (total t) = total-keeps t
 call-keeps (cell t c) = cell-keeps t c
 
-each-keeps : (calls : List Call) → EachKeeps calls
-each-keeps calls i = step-keeps (callAt calls i) (call-keeps (callAt calls i))
+any-keeps : (call : Call) (w : World) → Reached w → StepKeeps w call
+any-keeps call = step-keeps call (call-keeps call)
+
+-- what any list keeps, from a world that calls reach
+pub calls-keep : (w : World) (calls : List Call) → Reached w → Kept w (after w calls) (λ t. history w t calls)
+calls-keep = list-kept any-keeps
 
 -- a call leaves the grid, in any world
 pub step-grid : (w : World) (call : Call) → step w call .next .grid ≡ w .grid
 step-grid w call = step-same-grid call (call-keeps call) w
 
--- at each point of a list that starts at a world that calls reach
-pub reached-holds : (start : World) (calls : List Call) → Reached start → (i : ℕ) → HoldsAt start calls i
-reached-holds start calls reached i =
-    let each = each-keeps calls in
-    let kept = points-kept i start calls reached each in
+pub demand-3 : (w : World) (calls : List Call) → Loaded w → (i : ℕ) → HoldsAt (loadedWorld w) calls i
+demand-3 w calls loaded i =
+    let start = loadedWorld w in
+    let reached = loaded-reached w loaded in
+    let kept = calls-keep start (take i calls) reached in
+    let here = any-keeps (callAt calls i) (point start calls i) (kept .reached) in
     record {
       gasKept = kept .gasKept;
       airKept = kept .airKept;
-      ratioKept = λ t z j h le. points-ratio i j start calls reached each le t z h;
-      inRange = λ t h. each i (point start calls i) (kept .reached) .inRange t (rw (kept .sameGrid) h);
+      ratioKept = λ t z j h le. points-ratio any-keeps i j start calls reached le t z h;
+      inRange = λ t h. here .inRange t (rw (kept .sameGrid) h);
       independent =
           λ own v other alike.
           let vv = loaded-reached v other in
-          let now = points-alike own i start (loadedWorld v) calls reached vv each alike in
-          let here = each i (point start calls i) (kept .reached) .independent own (point (loadedWorld v) calls i) (points-kept i (loadedWorld v) calls vv each .reached) now in
-          (now, λ named. here .1 (names-grid own (point start calls i) start (kept .sameGrid) (meaning (callAt calls i) .names) ∙ named));
+          let now = list-alike any-keeps own start (loadedWorld v) (take i calls) reached vv alike in
+          let same = here .independent own (point (loadedWorld v) calls i) (calls-keep (loadedWorld v) (take i calls) vv .reached) now in
+          (now, λ named. same .1 (names-grid own (point start calls i) start (kept .sameGrid) (meaning (callAt calls i) .names) ∙ named));
     }
-
-pub demand-3 : (w : World) (calls : List Call) → Loaded w → (i : ℕ) → HoldsAt (loadedWorld w) calls i
-demand-3 w calls start = reached-holds (loadedWorld w) calls (loaded-reached w start)
 
 -- The chain that the range of an accepted sweep speaks of starts with the amounts before it and ends with those that `step` leaves
 pub zonal-chain : (w : World) → Fits w → (k r : ℕ) (fluxes : List ℤ) → step w (zonal k r fluxes) .answer ≡ 0 → (t : ℕ) → t < w .grid .N → ChainOf w (step w (zonal k r fluxes) .next) (ring (w .grid .W)) (rowStart (w .grid) k r) fluxes (step w (zonal k r fluxes) .count) t
@@ -91,7 +93,7 @@ meridional-chain w fits k fluxes e t h =
 -- A world that calls reach from an accepted load never meets the refusals 1 to 4 again, but 2 for the list that a call itself lends: the refusal is that of the call's own places alone
 pub reached : (w : World) (calls : List Call) → Loaded w → (i : ℕ) → Reached (point (loadedWorld w) calls i) × ((call : Call) → lentFits (loadedWorld w .grid) call ≡ true → refusal (point (loadedWorld w) calls i) call ≡ firstOf (ownPlaces call) (point (loadedWorld w) calls i))
 reached w calls start i =
-    let kept = points-kept i (loadedWorld w) calls (loaded-reached w start) (each-keeps calls) in (
+    let kept = calls-keep (loadedWorld w) (take i calls) (loaded-reached w start) in (
       kept .reached,
       λ call lent. own-refusal (point (loadedWorld w) calls i) call (kept .reached .fits) (rw (kept .sameGrid) lent),
     )
