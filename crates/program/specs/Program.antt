@@ -1,26 +1,33 @@
--- The two theorems about the program: what its loop prints for every list of bytes, and what every total that it prints is.
--- Assumes nothing: `run` stands for a loop that makes no fewer turns than there are bytes.
+-- The theorems about the program: what its loop prints for every list of bytes, what every call's line says, and what every total is.
+-- `run` stands for a loop that makes no fewer turns than there are bytes.
 use Prim.Native.Nat.{ℕ, _+_, _≤_}
 use mathlib.Core.List.{List, _∷_, _++_}
 use mathlib.Core.Path.{_≡_}
 use lib.ListN.{length}
-use Rattle.model.specs.Step.{total}
+use Rattle.model.specs.World.{gasTotal}
+use Rattle.model.specs.Step.{Call, total, step}
+use Rattle.model.specs.Lists.{history}
 use Rattle.program.specs.Records.{start, make, command}
 use Rattle.program.specs.Lines.{Entry, entries, lines, run}
-use Rattle.program.specs.Totals.{Account, account, accountAfter}
+use Rattle.program.specs.Totals.{Since, nothingYet, since, worldNow}
 use Rattle.program.specs.Laws.Lines.{run-lines}
-use Rattle.program.specs.Laws.Totals.{Says, all-say}
+use Rattle.program.specs.Laws.Totals.{all-say, total-said}
 
 -- Taking a kind, then the bytes it needs or what is left, then carrying the record out, until it ends, gives exactly the defined lines
 pub program-prints : (bytes : List ℕ) (turns : ℕ) → length bytes ≤ turns → run turns start bytes ≡ lines bytes
 program-prints bytes turns enough = run-lines turns start bytes enough
 
--- Before the first record nothing is loaded, emitted or withdrawn
-abbrev pub nothingYet : Account
-nothingYet = account 0 0 0
+-- In both: e is a record of the input, `before` are the records before it, and `s` is the last accepted load among them with the calls since.
+module _ (bytes : List ℕ) (before rest : List Entry) (e : Entry) (split : entries bytes ≡ before ++ (e ∷ rest)) where
+  abbrev s : Since
+  s = since nothingYet before
 
--- Each total that the program prints equals the loaded amount plus the amounts of the emission records answered 0 less those of the withdrawal records answered 0, since the last accepted load.
--- `before` are the records before the one that asks for the total of tracer t.
-pub printed-totals : (bytes : List ℕ) (before after : List Entry) (e : Entry) (t : ℕ) → entries bytes ≡ before ++ (e ∷ after) → e .finding ≡ command (make (total t)) → e .printed .answer ≡ 0 → e .printed .count + accountAfter t nothingYet before .withdrawnSince ≡ accountAfter t nothingYet before .loadedAmount + accountAfter t nothingYet before .emittedSince
-unfolding Says
-printed-totals bytes before after e t split asked answered = all-say 0 start bytes t nothingYet tt before after e split asked answered
+  -- Each line that the program prints for a call has the answer and the count that `step` gives in the world that those calls have left
+  pub printed-calls : (call : Call) → e .finding ≡ command (make call) → (e .printed .answer ≡ step (worldNow s) call .answer) × (e .printed .count ≡ step (worldNow s) call .count)
+  printed-calls call asked =
+      let said = all-say 0 start bytes nothingYet tt before rest e split call asked in
+      (said .answered, said .counted)
+
+  -- Each total that the program prints equals the loaded amount plus the emissions less the withdrawals, answered 0, since the last accepted load
+  pub printed-totals : (t : ℕ) → e .finding ≡ command (make (total t)) → e .printed .answer ≡ 0 → e .printed .count + history (s .first) t (s .calls) .withdrawn ≡ gasTotal (s .first) t + history (s .first) t (s .calls) .emitted
+  printed-totals t asked = total-said t s e (all-say 0 start bytes nothingYet tt before rest e split (total t) asked)

@@ -9,6 +9,7 @@ use Rattle.model.specs.Limits.{programCells, programTracers}
 use Rattle.model.specs.Basic.{at}
 use Rattle.model.specs.World.{Grid, World, worldCells}
 use Rattle.model.specs.Step.{Call, load, emission, withdrawal, zonal, meridional, remap, total, cell, gridFits, step}
+use Rattle.model.specs.Lists.{loadedWorld}
 use Rattle.program.specs.Bytes.{numberAt, numbersAt, fluxesAt}
 
 -- The kinds, "1 grid" to "9 cell"
@@ -156,7 +157,7 @@ gridRefusal g = elim (gridFits g) [ false ↦ 1 | true ↦ elim (tooLarge g) [ t
 
 -- the state after a load: "After a refused load nothing counts as loaded"
 abbrev pub afterLoad : World → State
-afterLoad w = elim (step w load .answer) [ zero ↦ loaded w | suc n ↦ gridded (w .grid) ]
+afterLoad w = elim (step w load .answer) [ zero ↦ loaded (loadedWorld w) | suc n ↦ gridded (w .grid) ]
 
 -- "The program ends after 13, 14, 15 or a refused kind 1."
 unfoldable pub carriedOut : State → ℕ → Command → Outcome

@@ -1,51 +1,36 @@
--- What an auditor reads off the records of a run: for one tracer, the loaded amount, and what was emitted and withdrawn since.
--- Assumes nothing.
-use Prim.Native.Nat.{ℕ, zero, suc, _+_}
-use mathlib.Core.List.{List, [], _∷_}
-use mathlib.Core.Bool.{Bool, true, false}
-use lib.Dec.{eqb}
-use Rattle.model.specs.World.{gasTotal}
-use Rattle.model.specs.Step.{Call, load, emission, withdrawal, zonal, meridional, remap, total, cell}
-use Rattle.program.specs.Records.{setGrid, setWorld, make, Finding, nothing, fault, command}
+-- What an auditor reads off the records of a run: the world that the last accepted load left, and the calls made since. Their history (Lists.antt of the model) is the account.
+use Prim.Native.Nat.{ℕ, zero, suc}
+use mathlib.Core.List.{List, [], _∷_, _++_}
+use Rattle.model.specs.World.{World}
+use Rattle.model.specs.Step.{Call}
+use Rattle.model.specs.Lists.{loadedWorld, after}
+use Rattle.program.specs.Records.{start, worldOf, setGrid, setWorld, make, nothing, fault, command}
 use Rattle.program.specs.Lines.{Entry}
 
-pub record Account : Type 0 where
-  pub loadedAmount : ℕ
-  pub emittedSince : ℕ
-  pub withdrawnSince : ℕ
+pub record Since : Type 0 where
+  pub first : World
+  pub calls : List Call
 
-abbrev pub account : ℕ → ℕ → ℕ → Account
-account l e w = record { loadedAmount = l; emittedSince = e; withdrawnSince = w }
+-- before the first record: a world without cells, and no calls
+abbrev pub nothingYet : Since
+nothingYet = record { first = worldOf start; calls = [] }
 
-abbrev pub when : Bool → ℕ → ℕ
-when named amount = elim named [ true ↦ amount | false ↦ 0 ]
+-- one more record: an accepted load begins anew, a call comes after those before it
+abbrev pub noted : Since → Entry → Since
+noted s e =
+    elim (e .finding) [
+      | nothing ↦ s
+      | fault n ↦ s
+      | command (setGrid g) ↦ s
+      | command (setWorld w) ↦ elim (e .printed .answer) [ zero ↦ record { first = loadedWorld w; calls = [] } | suc n ↦ s ]
+      | command (make call) ↦ record { first = s .first; calls = s .calls ++ (call ∷ []) }
+    ]
 
--- a call answered 0
-abbrev pub booked : ℕ → Account → Call → Account
-booked t a load = a
-booked t a (emission t' c amount) =
-    account (a .loadedAmount) (a .emittedSince + when (eqb t' t) amount) (a .withdrawnSince)
-booked t a (withdrawal t' c amount) =
-    account (a .loadedAmount) (a .emittedSince) (a .withdrawnSince + when (eqb t' t) amount)
-booked t a (zonal k r fluxes) = a
-booked t a (meridional k fluxes) = a
-booked t a (remap table) = a
-booked t a (total t') = a
-booked t a (cell t' c) = a
+-- after some records
+unfoldable pub since : Since → List Entry → Since
+since s [] = s
+since s (e ∷ es) = since (noted s e) es
 
--- a record answered 0: a load begins the account anew
-abbrev pub notedFinding : ℕ → Account → Finding → Account
-notedFinding t a nothing = a
-notedFinding t a (fault n) = a
-notedFinding t a (command (setGrid g)) = a
-notedFinding t a (command (setWorld w)) = account (gasTotal w t) 0 0
-notedFinding t a (command (make call)) = booked t a call
-
--- a record: one that was refused changes nothing
-abbrev pub noted : ℕ → Account → Entry → Account
-noted t a e = elim (e .printed .answer) [ zero ↦ notedFinding t a (e .finding) | suc n ↦ a ]
-
--- the account of tracer t after some records
-unfoldable pub accountAfter : ℕ → Account → List Entry → Account
-accountAfter t a [] = a
-accountAfter t a (e ∷ es) = accountAfter t (noted t a e) es
+-- the world in which the next call is made
+abbrev pub worldNow : Since → World
+worldNow s = after (s .first) (s .calls)

@@ -1,118 +1,55 @@
--- Laws of the auditor's account: it stays sound from record to record, so that each total printed is what it says.
--- Assumes nothing: a state before a load says nothing, and an accepted load begins the account anew.
+-- Laws of what an auditor reads off the records: the loaded world is the one that the last accepted load left after the calls made since, so that each line of a call is what `step` gives there.
 use Prim.Native.Nat.{ℕ, zero, suc, _+_, _≤_, _<_}
 use mathlib.Core.List.{List, [], _∷_, _++_, cons≢nil}
-use mathlib.Core.Bool.{Bool, true, false, and-true, false≢true}
+use mathlib.Core.Bool.{Bool, true, false, false≢true}
 use mathlib.Core.Logic.{_⊎_, inl, inr}
 use mathlib.Core.Path.{_≡_, refl, sym, _∙_, ap, subst}
 use native.Mathlib.Omega.{arith}
-use lib.Dec.{eqb}
 use lib.ListN.{length}
 use Rattle.model.specs.World.{Grid, World, gasTotal}
-use Rattle.model.specs.Step.{Call, load, emission, withdrawal, zonal, meridional, remap, total, cell, ownPlaces, accepted, refused, step, Result}
-use Rattle.model.specs.Lists.{whenAccepted, emits, withdraws}
-use Rattle.model.specs.Laws.Step.{Fits, found as present, own-refusal, loaded-fits, step-accepted, step-refused, answer-is}
+use Rattle.model.specs.Step.{Call, load, total, ownPlaces, accepted, step, Result}
+use Rattle.model.specs.Lists.{loadedWorld, after, history}
+use Rattle.model.specs.Laws.Step.{Fits, Reached, found as present, own-refusal, loaded-reached, step-accepted, answer-is}
 use Rattle.model.specs.Laws.Entries.{below-or-not}
-use Rattle.model.specs.Demand3.{call-keeps}
+use Rattle.model.specs.Laws.Lists.{after-append}
+use Rattle.model.specs.Demand3.{calls-keep}
 use Rattle.program.specs.Records.{Kind, unknown, gridKind, loadKind, emissionKind, withdrawalKind, zonalKind, meridionalKind, remapKind, totalKind, cellKind, kindOf, State, start, gridded, loaded, worldOf, gridOf, isLoaded, inPlace, bodyLength, commandOf, gridRefusal, Command, setGrid, setWorld, make, Finding, nothing, fault, command, Line, line, afterLoad, Outcome, none, onward, last, found, needed, carriedOut, outcomeOf}
 use Rattle.program.specs.Lines.{Entry, entry, entriesFrom}
 use Rattle.program.specs.Laws.Lines.{firstOutcome, entries-none, entries-onward, entries-last}
 use Rattle.program.specs.Laws.Records.{found-misplaced, found-short, found-command}
-use Rattle.program.specs.Totals.{Account, when, booked, notedFinding, noted, accountAfter}
+use Rattle.program.specs.Totals.{Since, noted, since, worldNow}
 
--- the account of tracer t says what the loaded world holds of it
-pub record Balanced (t : ℕ) (w : World) (a : Account) : Type 0 where
-  pub fits : Fits w
-  pub balance : t < w .grid .N → gasTotal w t + a .withdrawnSince ≡ a .loadedAmount + a .emittedSince
+-- ---- what is noted stands behind a state: nothing before a load; then the loaded world is reached by the noted calls
+pub record Behind (w : World) (s : Since) : Type 0 where
+  pub reached : Reached (s .first)
+  pub now : w ≡ worldNow s
 
-abbrev pub Sound : ℕ → State → Account → Type 0
-Sound t start a = Unit {0}
-Sound t (gridded g) a = Unit {0}
-Sound t (loaded w) a = Balanced t w a
+abbrev pub Sound : State → Since → Type 0
+Sound start s = Unit {0}
+Sound (gridded g) s = Unit {0}
+Sound (loaded w) s = Behind w s
 
--- ---- a record that was answered 0, and one that was refused
-noted-accepted : (t : ℕ) (a : Account) (e : Entry) → e .printed .answer ≡ 0 → noted t a e ≡ notedFinding t a (e .finding)
-noted-accepted t a e h = rw (h, noted)
+-- ---- .. over a call
+make-sound : (w : World) (call : Call) (s : Since) (l : Line) → Behind w s → Sound (loaded (step w call .next)) (noted s (entry (command (make call)) l))
+unfolding after
+make-sound w call s l behind =
+    record {
+      reached = behind .reached;
+      now = ap (λ (v : World). step v call .next) (behind .now) ∙ sym (after-append (s .first) (s .calls) (call ∷ []));
+    }
 
-noted-refused : (t : ℕ) (a : Account) (e : Entry) (n : ℕ) → e .printed .answer ≡ suc n → noted t a e ≡ a
-noted-refused t a e n h = rw (h, noted)
-
--- ---- an accepted call is booked with what it brings in and takes out
-record Booked (t : ℕ) (w : World) (call : Call) (a : Account) : Type 0 where
-  loadedSame : booked t a call .loadedAmount ≡ a .loadedAmount
-  came : booked t a call .emittedSince ≡ a .emittedSince + emits w t call
-  went : booked t a call .withdrawnSince ≡ a .withdrawnSince + withdraws w t call
-
-when-accepted : (w : World) (call : Call) (named : Bool) (amount : ℕ) → step w call .answer ≡ 0 → whenAccepted w call named amount ≡ when named amount
-when-accepted w call named amount e = rw (e, whenAccepted, and-true named)
-
-module _ (t : ℕ) (w : World) (a : Account) where
-  nothing-booked : (call : Call) → booked t a call ≡ a → emits w t call ≡ 0 → withdraws w t call ≡ 0 → Booked t w call a
-  nothing-booked call same p q =
-      record {
-        loadedSame = ap (λ (x : Account). x .loadedAmount) same;
-        came = rw (same, p) (omega arith);
-        went = rw (same, q) (omega arith);
-      }
-
-  is-booked : (call : Call) → step w call .answer ≡ 0 → Booked t w call a
-  is-booked load e = nothing-booked load refl refl refl
-  is-booked (emission t' c amount) e =
-      record {
-        loadedSame = refl;
-        came = rw (when-accepted w (emission t' c amount) (eqb t' t) amount e);
-        went = omega arith;
-      }
-  is-booked (withdrawal t' c amount) e =
-      record {
-        loadedSame = refl;
-        came = omega arith;
-        went = rw (when-accepted w (withdrawal t' c amount) (eqb t' t) amount e);
-      }
-  is-booked (zonal k r fluxes) e = nothing-booked (zonal k r fluxes) refl refl refl
-  is-booked (meridional k fluxes) e = nothing-booked (meridional k fluxes) refl refl refl
-  is-booked (remap table) e = nothing-booked (remap table) refl refl refl
-  is-booked (total t') e = nothing-booked (total t') refl refl refl
-  is-booked (cell t' c) e = nothing-booked (cell t' c) refl refl refl
-
--- ---- the account stays sound over a call
-module _ (t : ℕ) (w : World) (call : Call) (a : Account) (sound : Balanced t w a) where
-  call-balanced : step w call .answer ≡ 0 → Balanced t (step w call .next) (booked t a call)
-  call-balanced e =
-      let kept = call-keeps call w (sound .fits) .kept in
-      let b = is-booked t w a call e in
-      record {
-        fits = kept .fits;
-        balance =
-            λ h.
-            let h' : t < w .grid .N = rw (kept .sameGrid) at h in
-            omega (arith, kept .gasKept t h', sound .balance h', b .loadedSame, b .came, b .went);
-      }
-
-  -- a refused one leaves world and account
-  refused-balanced : (n : ℕ) → step w call .answer ≡ suc n → Balanced t (step w call .next) a
-  unfolding refused
-  refused-balanced n e = rw (step-refused w call n (sym (answer-is w call) ∙ e)) sound
-
-  pub make-sound : (byte : ℕ) → Sound t (loaded (step w call .next)) (noted t a (entry (command (make call)) (line byte (step w call .answer) (step w call .count))))
-  make-sound byte = go (step w call .answer) refl
-    where
-      e : Entry
-      e = entry (command (make call)) (line byte (step w call .answer) (step w call .count))
-
-      go : (n : ℕ) → step w call .answer ≡ n → Balanced t (step w call .next) (noted t a e)
-      go zero h = rw (noted-accepted t a e h) (call-balanced h)
-      go (suc n) h = rw (noted-refused t a e n h) (refused-balanced n h)
-
--- ---- .. over a load: an accepted one begins it anew, a refused one leaves nothing loaded
-pub load-sound : (t : ℕ) (w : World) (a : Account) (byte : ℕ) → Sound t (afterLoad w) (noted t a (entry (command (setWorld w)) (line byte (step w load .answer) (step w load .count))))
-load-sound t w a byte = go (step w load .answer) refl
+-- ---- .. over a load: an accepted one begins anew, a refused one leaves nothing loaded
+load-sound : (w : World) (s : Since) (l : Line) → l .answer ≡ step w load .answer → Sound (afterLoad w) (noted s (entry (command (setWorld w)) l))
+unfolding after
+load-sound w s l same = go (step w load .answer) refl
   where
     e : Entry
-    e = entry (command (setWorld w)) (line byte (step w load .answer) (step w load .count))
+    e = entry (command (setWorld w)) l
 
-    go : (n : ℕ) → step w load .answer ≡ n → Sound t (afterLoad w) (noted t a e)
-    go zero h = rw (h, afterLoad) (record { fits = loaded-fits w h; balance = λ present. refl })
+    go : (n : ℕ) → step w load .answer ≡ n → Sound (afterLoad w) (noted s e)
+    go zero h =
+        let begun : noted s e ≡ record { first = loadedWorld w; calls = [] } = rw (same ∙ h, noted) in
+        rw (h, afterLoad, begun) (record { reached = loaded-reached w h; now = refl })
     go (suc n) h = rw (h, afterLoad) tt
 
 -- ---- .. over any record that does not end the program
@@ -129,7 +66,7 @@ call-in-place s g remapKind body call p e = p
 call-in-place s g totalKind body call p e = p
 call-in-place s g cellKind body call p e = p
 
-pub found-loaded : (s : State) (byte : ℕ) (bytes : List ℕ) (call : Call) → found s (byte ∷ bytes) ≡ command (make call) → isLoaded s ≡ true
+found-loaded : (s : State) (byte : ℕ) (bytes : List ℕ) (call : Call) → found s (byte ∷ bytes) ≡ command (make call) → isLoaded s ≡ true
 found-loaded s byte bytes call e = go (inPlace s (kindOf byte)) refl (below-or-not (length bytes) (bodyLength (gridOf s) (kindOf byte)))
   where
     go : (b : Bool) → inPlace s (kindOf byte) ≡ b → (length bytes < bodyLength (gridOf s) (kindOf byte)) ⊎ (bodyLength (gridOf s) (kindOf byte) ≤ length bytes) → isLoaded s ≡ true
@@ -150,37 +87,104 @@ grid-outcome s byte g l next e = go (gridRefusal g) refl
         let o : last (line byte (suc n) 0) ≡ onward l next = rw (q, carriedOut) at e in
         absurd (let z : _≡_ {A = ℕ} 0 1 = cc in omega arith)
 
-module _ (t : ℕ) (byte : ℕ) (a : Account) (l : Line) (next : State) where
-  command-sound : (s : State) (c : Command) → ((call : Call) → c ≡ make call → isLoaded s ≡ true) → Sound t s a → carriedOut s byte c ≡ onward l next → Sound t next (noted t a (entry (command c) l))
+module _ (byte : ℕ) (s : Since) (l : Line) (next : State) where
+  command-sound : (state : State) (c : Command) → ((call : Call) → c ≡ make call → isLoaded state ≡ true) → Sound state s → carriedOut state byte c ≡ onward l next → Sound next (noted s (entry (command c) l))
   unfolding carriedOut
-  command-sound s (setGrid g) p sound e = rw (grid-outcome s byte g l next e) tt
-  command-sound s (setWorld w) p sound e =
+  command-sound state (setGrid g) p sound e = rw (grid-outcome state byte g l next e) tt
+  command-sound state (setWorld w) p sound e =
       let n : afterLoad w ≡ next = cc in
       let m : line byte (step w load .answer) (step w load .count) ≡ l = cc in
-      rw (← n, ← m) (load-sound t w a byte)
+      rw (← n) (load-sound w s l (sym (ap (λ (x : Line). x .answer) m)))
   command-sound start (make call) p sound e = absurd (false≢true (p call refl))
   command-sound (gridded g) (make call) p sound e = absurd (false≢true (p call refl))
   command-sound (loaded w) (make call) p sound e =
       let n : loaded (step w call .next) ≡ next = cc in
-      let m : line byte (step w call .answer) (step w call .count) ≡ l = cc in
-      rw (← n, ← m) (make-sound t w call a sound byte)
+      rw (← n) (make-sound w call s l sound)
 
-  pub record-sound : (s : State) (bytes : List ℕ) → Sound t s a → outcomeOf s byte (found s (byte ∷ bytes)) ≡ onward l next → Sound t next (noted t a (entry (found s (byte ∷ bytes)) l))
+  record-sound : (state : State) (bytes : List ℕ) → Sound state s → outcomeOf state byte (found state (byte ∷ bytes)) ≡ onward l next → Sound next (noted s (entry (found state (byte ∷ bytes)) l))
   unfolding outcomeOf
-  record-sound s bytes sound e = go (found s (byte ∷ bytes)) refl
+  record-sound state bytes sound e = go (found state (byte ∷ bytes)) refl
     where
-      go : (r : Finding) → found s (byte ∷ bytes) ≡ r → Sound t next (noted t a (entry (found s (byte ∷ bytes)) l))
+      go : (r : Finding) → found state (byte ∷ bytes) ≡ r → Sound next (noted s (entry (found state (byte ∷ bytes)) l))
       go nothing q = absurd (let z : _≡_ {A = ℕ} 0 1 = let o : none ≡ onward l next = rw q at e in cc in omega arith)
       go (fault n) q =
           absurd (let z : _≡_ {A = ℕ} 0 1 = let o : last (line byte n 0) ≡ onward l next = rw q at e in cc in omega arith)
       go (command c) q =
-          subst (λ (r : Finding). Sound t next (noted t a (entry r l))) (sym q)
-          (command-sound s c (λ call same. found-loaded s byte bytes call (q ∙ ap command same)) sound (rw q at e))
+          subst (λ (r : Finding). Sound next (noted s (entry r l))) (sym q)
+          (command-sound state c (λ call same. found-loaded state byte bytes call (q ∙ ap command same)) sound (rw q at e))
 
--- ---- an accepted total, printed in a loaded world
-unfoldable pub Says : ℕ → Account → Entry → Type 0
-Says t a e = e .finding ≡ command (make (total t)) → e .printed .answer ≡ 0 → e .printed .count + a .withdrawnSince ≡ a .loadedAmount + a .emittedSince
+-- ---- a call's line: answer and count are `step`'s in the world behind it
+pub record Said (s : Since) (call : Call) (e : Entry) : Type 0 where
+  pub reached : Reached (s .first)
+  pub answered : e .printed .answer ≡ step (worldNow s) call .answer
+  pub counted : e .printed .count ≡ step (worldNow s) call .count
 
+abbrev Says : Since → Entry → Type 0
+Says s e = (call : Call) → e .finding ≡ command (make call) → Said s call e
+
+module _ (byte : ℕ) (bytes : List ℕ) (s : Since) where
+  said : (state : State) (call : Call) → isLoaded state ≡ true → Sound state s → (e : Entry) → e .printed ≡ line byte (step (worldOf state) call .answer) (step (worldOf state) call .count) → Said s call e
+  said start call p sound e same = absurd (false≢true p)
+  said (gridded g) call p sound e same = absurd (false≢true p)
+  said (loaded w) call p sound e same =
+      record {
+        reached = sound .reached;
+        answered = ap (λ (x : Line). x .answer) same ∙ ap (λ (v : World). step v call .answer) (sound .now);
+        counted = ap (λ (x : Line). x .count) same ∙ ap (λ (v : World). step v call .count) (sound .now);
+      }
+
+  -- what comes of a record that asks for a call
+  module _ (state : State) (call : Call) (is : found state (byte ∷ bytes) ≡ command (make call)) where
+    call-outcome : outcomeOf state byte (found state (byte ∷ bytes)) ≡ onward (line byte (step (worldOf state) call .answer) (step (worldOf state) call .count)) (loaded (step (worldOf state) call .next))
+    unfolding outcomeOf carriedOut
+    call-outcome = rw is
+
+    call-ends-not : (l : Line) → outcomeOf state byte (found state (byte ∷ bytes)) ≡ last l → ⊥
+    call-ends-not l e = let o = call-outcome in let z : _≡_ {A = ℕ} 0 1 = cc in omega arith
+
+    call-printed : (l : Line) (next : State) → outcomeOf state byte (found state (byte ∷ bytes)) ≡ onward l next → l ≡ line byte (step (worldOf state) call .answer) (step (worldOf state) call .count)
+    call-printed l next e = let o = call-outcome in cc
+
+  said-onward : (state : State) (l : Line) (next : State) → Sound state s → outcomeOf state byte (found state (byte ∷ bytes)) ≡ onward l next → Says s (entry (found state (byte ∷ bytes)) l)
+  said-onward state l next sound e call is =
+      said state call (found-loaded state byte bytes call is) sound _ (call-printed state call is l next e)
+
+  said-last : (state : State) (l : Line) → outcomeOf state byte (found state (byte ∷ bytes)) ≡ last l → Says s (entry (found state (byte ∷ bytes)) l)
+  said-last state l e call is = absurd (call-ends-not state call is l e)
+
+-- ---- every record, one after the other: each call among some records says what is noted of those before it
+abbrev AllSay : Since → List Entry → Type 0
+AllSay s es = (before rest : List Entry) (e : Entry) → es ≡ before ++ (e ∷ rest) → Says (since s before) e
+
+say-none : (s : Since) → AllSay s []
+say-none s [] rest e h = absurd (cons≢nil (sym h))
+say-none s (x ∷ before) rest e h = absurd (cons≢nil (sym h))
+
+say-more : (s : Since) (x : Entry) (es : List Entry) → Says s x → AllSay (noted s x) es → AllSay s (x ∷ es)
+unfolding since
+say-more s x es first later [] rest e h = let same : x ≡ e = cc in subst (λ (y : Entry). Says s y) same first
+say-more s x es first later (y ∷ before) rest e h =
+    let same : x ≡ y = cc in
+    let left : es ≡ before ++ (e ∷ rest) = cc in
+    subst (λ (z : Entry). Says (since (noted s z) before) e) same (later before rest e left)
+
+pub all-say : (skipped : ℕ) (state : State) (bytes : List ℕ) (s : Since) → Sound state s → AllSay s (entriesFrom skipped state bytes)
+unfolding entriesFrom
+all-say skipped state [] s sound = say-none s
+all-say (suc skipped) state (byte ∷ bytes) s sound = all-say skipped state bytes s sound
+all-say zero state (byte ∷ bytes) s sound =
+    go (firstOutcome state byte bytes) refl (λ next b later. all-say (needed state byte) next bytes b later)
+  where
+    go : (o : Outcome) → firstOutcome state byte bytes ≡ o → ((next : State) (b : Since) → Sound next b → AllSay b (entriesFrom (needed state byte) next bytes)) → AllSay s (entriesFrom 0 state (byte ∷ bytes))
+    go none q later = rw (entries-none state byte bytes q) (say-none s)
+    go (last l) q later =
+        rw (entries-last state byte bytes l q)
+        (say-more s _ [] (said-last byte bytes s state l q) (say-none _))
+    go (onward l next) q later =
+        rw (entries-onward state byte bytes l next q)
+        (say-more s _ _ (said-onward byte bytes s state l next sound q) (later next _ (record-sound byte s l next state bytes sound q)))
+
+-- ---- an accepted total is the tracer's, and so, by demand 3, what the history says
 total-count : (w : World) (t : ℕ) → Fits w → step w (total t) .answer ≡ 0 → (t < w .grid .N) × (step w (total t) .count ≡ gasTotal w t)
 unfolding accepted ownPlaces
 total-count w t fits e =
@@ -189,65 +193,8 @@ total-count w t fits e =
       ap (λ (r : Result). r .count) (step-accepted w (total t) none-applies),
     )
 
-module _ (t : ℕ) (byte : ℕ) (bytes : List ℕ) (a : Account) where
-  said : (s : State) → isLoaded s ≡ true → Sound t s a → (l : Line) → l ≡ line byte (step (worldOf s) (total t) .answer) (step (worldOf s) (total t) .count) → l .answer ≡ 0 → l .count + a .withdrawnSince ≡ a .loadedAmount + a .emittedSince
-  said start p sound l same answered = absurd (false≢true p)
-  said (gridded g) p sound l same answered = absurd (false≢true p)
-  said (loaded w) p sound l same answered =
-      let n : step w (total t) .answer ≡ 0 = sym (ap (λ (x : Line). x .answer) same) ∙ answered in
-      let c = total-count w t (sound .fits) n in
-      omega (arith, sound .balance (c .0), c .1, ap (λ (x : Line). x .count) same)
-
-  -- what comes of a record that asks for the total
-  module _ (s : State) (is : found s (byte ∷ bytes) ≡ command (make (total t))) where
-    total-outcome : outcomeOf s byte (found s (byte ∷ bytes)) ≡ onward (line byte (step (worldOf s) (total t) .answer) (step (worldOf s) (total t) .count)) (loaded (step (worldOf s) (total t) .next))
-    unfolding outcomeOf carriedOut
-    total-outcome = rw is
-
-    total-ends-not : (l : Line) → outcomeOf s byte (found s (byte ∷ bytes)) ≡ last l → ⊥
-    total-ends-not l e = let o = total-outcome in let z : _≡_ {A = ℕ} 0 1 = cc in omega arith
-
-    total-printed : (l : Line) (next : State) → outcomeOf s byte (found s (byte ∷ bytes)) ≡ onward l next → l ≡ line byte (step (worldOf s) (total t) .answer) (step (worldOf s) (total t) .count)
-    total-printed l next e = let o = total-outcome in cc
-
-  pub said-onward : (s : State) (l : Line) (next : State) → Sound t s a → outcomeOf s byte (found s (byte ∷ bytes)) ≡ onward l next → Says t a (entry (found s (byte ∷ bytes)) l)
-  unfolding Says
-  said-onward s l next sound e is answered =
-      said s (found-loaded s byte bytes (total t) is) sound l (total-printed s is l next e) answered
-
-  pub said-last : (s : State) (l : Line) → outcomeOf s byte (found s (byte ∷ bytes)) ≡ last l → Says t a (entry (found s (byte ∷ bytes)) l)
-  unfolding Says
-  said-last s l e is answered = absurd (total-ends-not s is l e)
-
--- ---- every record, one after the other
--- each total among some records is what the account of those before it says
-abbrev pub AllSay : ℕ → Account → List Entry → Type 0
-AllSay t a es = (before after : List Entry) (e : Entry) → es ≡ before ++ (e ∷ after) → Says t (accountAfter t a before) e
-
-say-none : (t : ℕ) (a : Account) → AllSay t a []
-say-none t a [] after e h = absurd (cons≢nil (sym h))
-say-none t a (x ∷ before) after e h = absurd (cons≢nil (sym h))
-
-say-more : (t : ℕ) (a : Account) (x : Entry) (es : List Entry) → Says t a x → AllSay t (noted t a x) es → AllSay t a (x ∷ es)
-unfolding accountAfter
-say-more t a x es first rest [] after e h = let same : x ≡ e = cc in subst (λ (y : Entry). Says t a y) same first
-say-more t a x es first rest (y ∷ before) after e h =
-    let same : x ≡ y = cc in
-    let left : es ≡ before ++ (e ∷ after) = cc in
-    subst (λ (z : Entry). Says t (accountAfter t (noted t a z) before) e) same (rest before after e left)
-
-pub all-say : (skipped : ℕ) (s : State) (bytes : List ℕ) (t : ℕ) (a : Account) → Sound t s a → AllSay t a (entriesFrom skipped s bytes)
-unfolding entriesFrom
-all-say skipped s [] t a sound = say-none t a
-all-say (suc skipped) s (byte ∷ bytes) t a sound = all-say skipped s bytes t a sound
-all-say zero s (byte ∷ bytes) t a sound =
-    go (firstOutcome s byte bytes) refl (λ next b later. all-say (needed s byte) next bytes t b later)
-  where
-    go : (o : Outcome) → firstOutcome s byte bytes ≡ o → ((next : State) (b : Account) → Sound t next b → AllSay t b (entriesFrom (needed s byte) next bytes)) → AllSay t a (entriesFrom 0 s (byte ∷ bytes))
-    go none q rest = rw (entries-none s byte bytes q) (say-none t a)
-    go (last l) q rest =
-        rw (entries-last s byte bytes l q)
-        (say-more t a _ [] (said-last t byte bytes a s l q) (say-none t _))
-    go (onward l next) q rest =
-        rw (entries-onward s byte bytes l next q)
-        (say-more t a _ _ (said-onward t byte bytes a s l next sound q) (rest next _ (record-sound t byte a l next s bytes sound q)))
+pub total-said : (t : ℕ) (s : Since) (e : Entry) → Said s (total t) e → e .printed .answer ≡ 0 → e .printed .count + history (s .first) t (s .calls) .withdrawn ≡ gasTotal (s .first) t + history (s .first) t (s .calls) .emitted
+total-said t s e said zeroed =
+    let kept = calls-keep (s .first) (s .calls) (said .reached) in
+    let c = total-count (worldNow s) t (kept .reached .fits) (sym (said .answered) ∙ zeroed) in
+    omega (arith, said .counted, c .1, kept .gasKept t (rw (kept .sameGrid) at (c .0)))
