@@ -56,21 +56,21 @@ module _ (cap : Bool) (k : ℕ) (air gas q : List ℕ) (ratios : AreRatios k air
   own : (i : ℕ) → i < k → at q i ≡ ratio (at (firsts k air) i) (at (firsts k gas) i)
   own i h = ratios .is i h ∙ sym (ap₂ ratio (at-tab k (at air) i h) (at-tab k (at gas) i h))
 
-  slope-is : (i : ℕ) → i < k → slopeAt cap k q i ≡ layerMismatch cap k (firsts k air) (firsts k gas) i
+  slope-is : (i : ℕ) → i < k → slopeAt cap k q i ≡ layerMismatch mismatch cap k (firsts k air) (firsts k gas) i
   unfolding slopeAt layerMismatch
   slope-is i h = go (cap || eqb i 0 || eqb (suc i) k) refl
     where
-      go : (b : Bool) → cap || eqb i 0 || eqb (suc i) k ≡ b → slopeAt cap k q i ≡ layerMismatch cap k (firsts k air) (firsts k gas) i
+      go : (b : Bool) → cap || eqb i 0 || eqb (suc i) k ≡ b → slopeAt cap k q i ≡ layerMismatch mismatch cap k (firsts k air) (firsts k gas) i
       go true e = rw (e, slopeAt, layerMismatch)
       go false e =
           let other = eqb-false (suc i) k (neither (cap || eqb i 0) (eqb (suc i) k) e .1) in
           rw (e, slopeAt, layerMismatch)
           (λ n. mismatch (own (i - 1) (omega arith) n) (own i h n) (own (suc i) (omega arith) n))
 
-  pub layers-are : tab k (layerAt cap k air gas q) ≡ layers cap k (firsts k air) (firsts k gas)
+  pub layers-are : tab k (layerAt cap k air gas q) ≡ layers mismatch cap k (firsts k air) (firsts k gas)
   unfolding layers
   layers-are =
-      tab-same 0 k (layerAt cap k air gas q) (layerOf cap k (firsts k air) (firsts k gas))
+      tab-same 0 k (layerAt cap k air gas q) (layerOf mismatch cap k (firsts k air) (firsts k gas))
       (λ t h.
       let p : t < k = omega arith in
       λ n.

@@ -13,7 +13,7 @@ use Rattle.units.specs.declared.Tracer.{Tracer}
 use Rattle.units.specs.declared.Mismatch as code
 use Rattle.model.specs.Limits.{airLimit, totalLimit}
 use Rattle.model.specs.Basic.{at, sum, tab}
-use Rattle.model.specs.Scheme.{Mismatch, ratio, lowPiece}
+use Rattle.model.specs.Scheme.{Mismatch, ratio, lowPiece, mismatch}
 use Rattle.model.specs.Remap.{ColumnLayer, airAbove, edge, layers, amountAbove}
 use Rattle.model.specs.Laws.Basic.{le-or-lt, sum-none, sum-more, sum-ext, sum-zero, sum-le, sum-same, sum-split, sum-fewer, sum-tab, steps-rise, tab-ext}
 use Rattle.model.specs.Laws.Scheme.{ratio-safe}
@@ -158,5 +158,5 @@ module _ (cap : Bool) {k : ℕ} {air gas q e new : List ℕ} (need : WalkNeed k 
             (λ j h. walked j h ∙ ap₂ _-_ (ap (λ (n : ℕ). above cap k air gas q (at e n)) (add-one j) ∙ at-edge table are (suc j) h) (at-edge table are j (omega arith)));
       }
     where
-      at-edge : (table : List ℕ) → AreEdges table (airAbove (firsts k air) k) k e → (j : ℕ) → j ≤ k → above cap k air gas q (at e j) ≡ amountAbove (layers cap k (firsts k air) (firsts k gas)) (edge table (airAbove (firsts k air) k) j)
+      at-edge : (table : List ℕ) → AreEdges table (airAbove (firsts k air) k) k e → (j : ℕ) → j ≤ k → above cap k air gas q (at e j) ≡ amountAbove (layers mismatch cap k (firsts k air) (firsts k gas)) (edge table (airAbove (firsts k air) k) j)
       at-edge table are j h = ap₂ amountAbove (layers-are cap k air gas q (need .ratios)) (are .is j h)

@@ -114,10 +114,10 @@ module _ {w rows : ℕ} {air gas up down q high low : List ℕ} (step : Step w r
       }
 
   -- and so the model's pieces are
-  pub piece-north : highPiece (cellMismatch (layer w rows) air gas (southOf w i)) (at air (southOf w i)) (at gas (southOf w i)) (at up i) ≡ pieces (layer w rows) (flowOf up down) air gas .toHigh i
+  pub piece-north : highPiece (cellMismatch mismatch (layer w rows) air gas (southOf w i)) (at air (southOf w i)) (at gas (southOf w i)) (at up i) ≡ pieces mismatch (layer w rows) (flowOf up down) air gas .toHigh i
   unfolding layer
   piece-north = sym (piece-up (layer w rows) (flowOf up down) air gas i (southOf w i) refl)
 
-  pub piece-south : lowPiece (cellMismatch (layer w rows) air gas (northOf (rows * w) i)) (at air (northOf (rows * w) i)) (at gas (northOf (rows * w) i)) (at down i) ≡ pieces (layer w rows) (flowOf up down) air gas .toLow i
+  pub piece-south : lowPiece (cellMismatch mismatch (layer w rows) air gas (northOf (rows * w) i)) (at air (northOf (rows * w) i)) (at gas (northOf (rows * w) i)) (at down i) ≡ pieces mismatch (layer w rows) (flowOf up down) air gas .toLow i
   unfolding layer
   piece-south = sym (piece-down (layer w rows) (flowOf up down) air gas i (northOf (rows * w) i) refl)

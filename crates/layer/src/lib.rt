@@ -5,7 +5,7 @@ ghost use mathlib.Core.Path.{_≡_};
 ghost use Prim.Native.Nat.{_+_, _*_, _≤_};
 ghost use lib.ListN.{length};
 ghost use Rattle.model.specs.Basic.{at, every};
-ghost use Rattle.model.specs.Scheme.{highPiece, lowPiece};
+ghost use Rattle.model.specs.Scheme.{highPiece, lowPiece, mismatch};
 ghost use Rattle.model.specs.Sweep.{southOf, northOf, layer, afterFlow, allowed, cellMismatch, pieces};
 ghost use Rattle.substep.specs.Faces.{flowOf, Same, stepped};
 ghost use Rattle.substep.specs.Cells.{cellAllowed, Moves};
@@ -111,7 +111,7 @@ fn north_of(n: usize, face: usize) -> usize
 // The south cap is its own neighbour on both sides, so that its mismatch is none.
 fn northward(air: &[u32], gas: &[u32], q: &[u64], w: usize, rows: usize, i: usize, m: Air) -> Tracer
     requires { ⌜ Gives w rows (now air) (now gas) (now q) i (southOf w i) (m .0) ⌝ }
-    ensures { λ p. ⌜ p .0 ≡ highPiece (cellMismatch (layer w rows) (now (air .entry)) (now (gas .entry)) (southOf w i)) (at (now (air .entry)) (southOf w i)) (at (now (gas .entry)) (southOf w i)) (m .0) ⌝ }
+    ensures { λ p. ⌜ p .0 ≡ highPiece (cellMismatch mismatch (layer w rows) (now (air .entry)) (now (gas .entry)) (southOf w i)) (at (now (air .entry)) (southOf w i)) (at (now (gas .entry)) (southOf w i)) (m .0) ⌝ }
 {
     let c = south_of(w, i);
     if i < w {
@@ -123,7 +123,7 @@ fn northward(air: &[u32], gas: &[u32], q: &[u64], w: usize, rows: usize, i: usiz
 // The same southward, from the low end of the cell north of it.
 fn southward(air: &[u32], gas: &[u32], q: &[u64], w: usize, rows: usize, i: usize, m: Air) -> Tracer
     requires { ⌜ Gives w rows (now air) (now gas) (now q) i (northOf (rows * w) i) (m .0) ⌝ }
-    ensures { λ p. ⌜ p .0 ≡ lowPiece (cellMismatch (layer w rows) (now (air .entry)) (now (gas .entry)) (northOf (rows * w) i)) (at (now (air .entry)) (northOf (rows * w) i)) (at (now (gas .entry)) (northOf (rows * w) i)) (m .0) ⌝ }
+    ensures { λ p. ⌜ p .0 ≡ lowPiece (cellMismatch mismatch (layer w rows) (now (air .entry)) (now (gas .entry)) (northOf (rows * w) i)) (at (now (air .entry)) (northOf (rows * w) i)) (at (now (gas .entry)) (northOf (rows * w) i)) (m .0) ⌝ }
 {
     let n = rows * w;
     let c = north_of(n, i);
@@ -146,7 +146,7 @@ fn fill_pieces(
     low: &mut [u32],
 )
     requires { ⌜ Step w rows (now air) (now gas) (now up) (now down) (now q) (now high) (now low) × AreRatios (layer w rows .cells) (now air) (now gas) (now q) ⌝ }
-    ensures { λ r. ⌜ Same (layer w rows .faces) (flowOf (now (high .exit)) (now (low .exit))) (pieces (layer w rows) (flowOf (now (up .entry)) (now (down .entry))) (now (air .entry)) (now (gas .entry))) ⌝ }
+    ensures { λ r. ⌜ Same (layer w rows .faces) (flowOf (now (high .exit)) (now (low .exit))) (pieces mismatch (layer w rows) (flowOf (now (up .entry)) (now (down .entry))) (now (air .entry)) (now (gas .entry))) ⌝ }
 {
     let faces = w + rows * w;
     let mut i = 0;

@@ -12,11 +12,12 @@ use lib.ListN.{length, getD, set, length-set}
 use lib.Seq.{getD-set-same, getD-set-other}
 use Rattle.model.specs.Limits.{totalLimit}
 use Rattle.model.specs.Basic.{at, part, sum}
-use Rattle.model.specs.Scheme.{highPiece, lowPiece}
+use Rattle.model.specs.Scheme.{highPiece, lowPiece, mismatch}
 use Rattle.model.specs.Sweep.{Flow, ring, eastOf, westOf, allowed, afterFlow, pieces}
 use Rattle.model.specs.Laws.Basic.{length-part}
 use Rattle.model.specs.Laws.Entries.{entries-more, entries-above}
 use Rattle.model.specs.Laws.Ring.{east-in, ring-regular}
+use Rattle.model.specs.Laws.Scheme.{mismatch-limited}
 use Rattle.model.specs.Laws.Substep.{AirIn, allowed-is, length-after-flow, gas-total-after-flow}
 use Rattle.substep.specs.Faces.{flowOf, Same, stepped}
 use Rattle.substep.specs.Pieces.{GasNeed, HasAir, AreRatios, Neighbours, PieceNeed, mismatchIn, has-air, high-need, high-is, low-need, low-is, gas-moves, gas-after}
@@ -40,7 +41,7 @@ pub record PiecesNeed (air gas q up down high low : List ℕ) : Type 0 where
 
 -- two lists hold the piece through each face
 abbrev pub ArePieces : List ℕ → List ℕ → Flow → Flow → Type 0
-ArePieces air gas flow passed = Same (length air) passed (pieces (ring (length air)) flow air gas)
+ArePieces air gas flow passed = Same (length air) passed (pieces mismatch (ring (length air)) flow air gas)
 
 -- a tracer's amounts after the substep
 abbrev pub rowStepped : List ℕ → List ℕ → List ℕ → List ℕ → List ℕ
@@ -63,10 +64,10 @@ module _ {gas air up down : List ℕ} (need : StepNeed gas air up down) where
   pub total-stepped : sum (length air) (at (rowStepped gas air up down)) ≡ sum (length air) (at gas)
   unfolding ring
   total-stepped =
-      gas-total-after-flow (ring (length air)) (ring-regular _) (flowOf up down) air gas (need .need .airIn) (allowed-is (ring (length air)) (flowOf up down) air (need .need .permits) .covers)
+      gas-total-after-flow mismatch-limited (ring (length air)) (ring-regular _) (flowOf up down) air gas (need .need .airIn) (allowed-is (ring (length air)) (flowOf up down) air (need .need .permits) .covers)
 
   module _ (high low : List ℕ) (are : ArePieces air gas (flowOf up down) (flowOf high low)) where
-    same : Same (ring (length air) .faces) (flowOf high low) (pieces (ring (length air)) (flowOf up down) air gas)
+    same : Same (ring (length air) .faces) (flowOf high low) (pieces mismatch (ring (length air)) (flowOf up down) air gas)
     unfolding ring
     same = are
 
@@ -85,7 +86,7 @@ module _ {air gas q up down high low : List ℕ} (need : PiecesNeed air gas q up
     face-gives-high =
         high-need (ring-regular _) (need .need) q (need .ratios) (need .fit) (column-neighbours (length air) i h west east is-west is-east) i h refl
 
-    pub face-high : highPiece (mismatchIn q west i east) (at air i) (at gas i) (at up i) ≡ pieces (ring (length air)) (flowOf up down) air gas .toHigh i
+    pub face-high : highPiece (mismatchIn q west i east) (at air i) (at gas i) (at up i) ≡ pieces mismatch (ring (length air)) (flowOf up down) air gas .toHigh i
     unfolding ring
     face-high =
         high-is (ring-regular _) (need .need) q (need .ratios) (need .fit) (column-neighbours (length air) i h west east is-west is-east) i h refl
@@ -99,7 +100,7 @@ module _ {air gas q up down high low : List ℕ} (need : PiecesNeed air gas q up
     unfolding ring
     face-gives-low = low-need (ring-regular _) (need .need) q (need .ratios) (need .fit) near i h (sym is-east)
 
-    pub face-low : lowPiece (mismatchIn q i east next) (at air east) (at gas east) (at down i) ≡ pieces (ring (length air)) (flowOf up down) air gas .toLow i
+    pub face-low : lowPiece (mismatchIn q i east next) (at air east) (at gas east) (at down i) ≡ pieces mismatch (ring (length air)) (flowOf up down) air gas .toLow i
     unfolding ring
     face-low = low-is (ring-regular _) (need .need) q (need .ratios) (need .fit) near i h (sym is-east)
 

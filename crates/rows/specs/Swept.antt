@@ -13,6 +13,7 @@ use Rattle.model.specs.Basic.{at, sum}
 use Rattle.model.specs.Sweep.{ring, parts, allowed, afterFlow, gasAfter, serves}
 use Rattle.model.specs.Laws.Substep.{AirIn, length-after-flow}
 use Rattle.model.specs.Laws.Ring.{ring-regular}
+use Rattle.model.specs.Scheme.{mismatch}
 use Rattle.model.specs.Laws.Chain.{air-after-in}
 use Rattle.substep.specs.Faces.{flowOf, Same, AreParts, stepped, same-stepped}
 use Rattle.substep.specs.Cells.{air-moves}
@@ -23,7 +24,7 @@ use Rattle.rows.specs.Gas.{rowOf, Wide, rowStepped, StepsNeed, AreSteps,
 -- tracer t's amounts after s of n substeps
 abbrev pub gasChain : List (List ℕ) → List ℕ → List ℤ → ℕ → ℕ → ℕ → List ℕ
 gasChain rows air fluxes n s t =
-    gasAfter (rowMesh fluxes) fluxes n air (rowOf (length fluxes) rows t) s
+    gasAfter mismatch (rowMesh fluxes) fluxes n air (rowOf (length fluxes) rows t) s
 
 pub record SweepNeed (rows : List (List ℕ)) (air : List ℕ) (fluxes : List ℤ) (n tracers : ℕ) : Type 0 where
   pub row : RowNeed air fluxes

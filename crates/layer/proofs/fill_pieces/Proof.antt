@@ -4,6 +4,7 @@ use Prim.Native.Nat.{_+_, _*_, _-_, _≤_}
 use mathlib.Core.Path.{_≡_, _∙_}
 use native.Mathlib.Omega.{arith}
 use lib.ListN.{length}
+use Rattle.model.specs.Scheme.{mismatch}
 use Rattle.model.specs.Sweep.{layer, pieces}
 use Rattle.substep.specs.Faces.{flowOf, Same, same-none, same-more}
 use Rattle.layer.specs.Cells.{layer-faces}
@@ -17,7 +18,7 @@ Inv-loop air gas q up down w rows high₀ low₀ faces i₀ high low i =
     (i ≤ w + rows * w)
     × (length high ≡ length high₀)
     × (length low ≡ length low₀)
-    × Same i (flowOf high low) (pieces (layer w rows) (flowOf up down) air gas)
+    × Same i (flowOf high low) (pieces mismatch (layer w rows) (flowOf up down) air gas)
 
 abbrev μ-loop : tie.MeasureT-loop
 μ-loop air gas q up down w rows high₀ low₀ faces i₀ high low i = w + rows * w - i

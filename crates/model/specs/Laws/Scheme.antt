@@ -42,11 +42,11 @@ module _ (qa q qb : ℕ) where
   pub mismatch-high : mismatch qa q qb .size ≤ 2 * (max qa qb - q)
   mismatch-high = omega (arith, mismatch-above)
 
-  mismatch-twice : mismatch qa q qb .size ≤ 2 * q
+  pub mismatch-twice : mismatch qa q qb .size ≤ 2 * q
   mismatch-twice = omega (arith, mismatch-low)
 
 -- no mismatch between neighbours of equal ratio
-mismatch-equal : (q p : ℕ) → mismatch q p q .size ≡ 0
+pub mismatch-equal : (q p : ℕ) → mismatch q p q .size ≡ 0
 mismatch-equal q p = omega (arith, mismatch-half q p q)
 
 -- ---- what totals, whole-number ratios and the independence of tracers ask of a rule
@@ -56,8 +56,11 @@ pub record Limited (rule : Rule) : Type 0 where
   -- so that a constant ratio stays
   pub noneBetweenEqual : (r q : ℕ) → rule r q r .size ≡ 0
 
+pub mismatch-limited : Limited mismatch
+mismatch-limited = record { atMostTwice = mismatch-twice; noneBetweenEqual = mismatch-equal }
+
 pub rule-limited : (w : World) (t : ℕ) → Limited (ruleOf w t)
-rule-limited w t = record { atMostTwice = mismatch-twice; noneBetweenEqual = mismatch-equal }
+rule-limited w t = mismatch-limited
 
 -- ---- a safe mismatch: |D|·M ≤ 2·scale·T
 abbrev pub Safe : Mismatch → ℕ → ℕ → Type 0

@@ -4,6 +4,7 @@ use Prim.Native.Nat.{_≤_, _-_}
 use mathlib.Core.Path.{_≡_, _∙_}
 use native.Mathlib.Omega.{arith}
 use lib.ListN.{length}
+use Rattle.model.specs.Scheme.{mismatch}
 use Rattle.model.specs.Sweep.{ring, pieces}
 use Rattle.substep.specs.Faces.{flowOf, Same, same-none, same-more}
 use Rattle.rows.specs.Gas.{face-gives-high, face-high, face-gives-low, face-low}
@@ -17,7 +18,7 @@ Inv-loop air gas q up down high₀ low₀ w i₀ high low i =
     × (w ≡ length air)
     × (length high ≡ length high₀)
     × (length low ≡ length low₀)
-    × Same i (flowOf high low) (pieces (ring (length air)) (flowOf up down) air gas)
+    × Same i (flowOf high low) (pieces mismatch (ring (length air)) (flowOf up down) air gas)
 
 abbrev μ-loop : tie.MeasureT-loop
 μ-loop air gas q up down high₀ low₀ w i₀ high low i = w - i
