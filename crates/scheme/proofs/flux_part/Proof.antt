@@ -4,6 +4,7 @@ use Prim.Native.Nat.{ℕ, _*_, _-_, _^_, _≤_, _<_}
 use mathlib.Core.Path.{_≡_, refl, sym}
 use native.Mathlib.Nat.{div-one, le-refl, mul-le-mul, mul-zero, zero-div}
 use native.Mathlib.Omega.{arith}
+use Rattle.units.specs.The.{the}
 use borrow.Author.Needs.{needs}
 use mir.Syntax.{w64}
 use mir.Val.{Fits}
@@ -62,7 +63,7 @@ sub-part c = flux-part-not-cut _ _ _ (search needs)
 cast-part : tie.Need-cast-part
 unfolding fluxPart
 cast-part c =
-    let a = c .before .before .before .before .args in
+    let a = the tie.Start (search) .args in
     omega (arith, flux-part-le (a .n) (a .s) (a .f .0) (search needs) (search needs))
 
 returns-3 : tie.Need-returns-3

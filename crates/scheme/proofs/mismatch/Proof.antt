@@ -7,6 +7,7 @@ use lib.Dec.{leb}
 use Rattle.model.specs.Basic.{distance}
 use Rattle.model.specs.Scheme.{mismatch}
 use Rattle.model.specs.Laws.Scheme.{mismatch-twice}
+use Rattle.units.specs.The.{the}
 use borrow.Author.Needs.{needs}
 use Rattle.scheme.proofs.mismatch.Statement.{statement}
 use Rattle.scheme.proofs.mismatch.Tie as tie
@@ -56,10 +57,12 @@ at-most-twice-requires c κs = search needs
 returns : tie.Need-returns
 unfolding mismatch
 returns c =
-    let start = c .before .before .before .before .before .before in
+    let start : tie.Start = search in
+    let low = the tie.After-lesser (search) .lesser .ensures in
+    let high = the tie.After-greater (search) .greater .ensures in
     let a = start .args in
     let size =
-    size-is (a .qa) (a .q) (a .qb) _ _ _ _ _ _ (c .before .before .before .before .before .lesser .ensures) (c .before .before .before .before .greater .ensures) (c .before .before .before .above .ensures) (c .before .before .above2 .ensures) (c .before .lesser2 .ensures) (c .at-most-twice .ensures) in
+    size-is (a .qa) (a .q) (a .qb) _ _ _ _ _ _ low high (c .before .before .before .above .ensures) (c .before .before .above2 .ensures) (c .before .lesser2 .ensures) (c .at-most-twice .ensures) in
     record { is = λ i. record { size = size i; positive = leb (a .qa) (a .qb) }; small = rw size (mismatch-twice (a .qa) (a .q) (a .qb)) }
 
 pub mismatch-spec : {M : Type 1} → statement M
