@@ -7,6 +7,7 @@ use lib.ListN.{length}
 use Rattle.model.specs.Sweep.{cellRatio}
 use Rattle.model.specs.Laws.Entries.{entries-more}
 use Rattle.substep.specs.Pieces.{AreRatios}
+use Rattle.units.specs.The.{the}
 use borrow.Author.Needs.{needs}
 use Rattle.substep.proofs.fill_ratios.Statement.{statement}
 use Rattle.substep.proofs.fill_ratios.Tie as tie
@@ -33,7 +34,9 @@ shared-slice-read-t14 : tie.Need-shared-slice-read-t14 Inv-loop μ-loop
 shared-slice-read-t14 c = search needs
 
 ratio-requires : tie.Need-ratio-requires Inv-loop μ-loop
-ratio-requires c κs = c .before .before .before .before .before .before .before .pre .some _ (search needs)
+ratio-requires c κs =
+    let start : tie.Start Inv-loop μ-loop = search in
+    start .pre .some _ (search needs)
 
 mul-q : tie.Need-mul-q Inv-loop μ-loop
 mul-q c = search needs
@@ -49,8 +52,8 @@ loop-less c = search needs
 
 loop-again : tie.Need-loop-again Inv-loop μ-loop
 loop-again c =
-    let l = c .before .before .before .before .loop in
-    let a = c .before .before .before .before .before .before .before .before .args in (
+    let a = the (tie.Start Inv-loop μ-loop) (search) .args in
+    let l = the (tie.At-loop Inv-loop μ-loop) (search) .loop in (
       search needs,
       search needs,
       record { is = entries-more 0 (l .q) (l .c) _ (λ k x. x ≡ cellRatio (a .air .now) (a .gas .now) k) (search needs) (l .inv .2 .is) (c .ratio .ensures) },

@@ -5,13 +5,14 @@ use Rattle.model.specs.Basic.{at}
 use Rattle.model.specs.Scheme.{Mismatch, highPiece}
 use Rattle.model.specs.Laws.Scheme.{piece-none}
 use Rattle.substep.specs.Pieces.{mismatchIn}
+use Rattle.units.specs.The.{the}
 use borrow.Author.Needs.{needs}
 use Rattle.substep.proofs.high_end.Statement.{statement}
 use Rattle.substep.proofs.high_end.Tie as tie
 
 returns : tie.Need-returns
 returns c =
-    let start = c .before .before .before .before .before in
+    let start : tie.Start = search in
     let a = start .args in
     let D = mismatchIn (a .q .now) (a .a) (a .c) (a .b) in
     let have = at (a .air .now) (a .c) in
@@ -56,7 +57,7 @@ high-piece-requires c κs = search needs
 
 returns-2 : tie.Need-returns-2
 returns-2 c =
-    let a = c .before .before .before .before .before .before .before .before .before .before .before .before .args in
+    let a = the tie.Start (search) .args in
     c .high-piece .ensures .is ∙
     ap (λ (D : Mismatch). highPiece D (at (a .air .now) (a .c)) (at (a .gas .now) (a .c)) (a .m .0)) (c .before .before .before .mismatch .ensures .is)
 
