@@ -13,9 +13,9 @@ use Rattle.model.specs.Laws.Scheme.{flux-part-not-cut, flux-part-le}
 use Rattle.scheme.proofs.flux_part.Statement.{statement}
 use Rattle.scheme.proofs.flux_part.Tie as tie
 
-flux-part-whole : (n s f : ℕ) → n ≡ 1 → 0 < s → s ≤ n → fluxPart n s f ≡ f
+flux-part-whole : {n s f : ℕ} → n ≡ 1 → 0 < s → s ≤ n → fluxPart n s f ≡ f
 unfolding fluxPart
-flux-part-whole n s f one some most =
+flux-part-whole {n} {s} {f} one some most =
     let first : s ≡ 1 = omega arith in
     rw (one, first) (omega (arith, div-one (1 * f), div-one ((1 - 1) * f)))
 
@@ -31,7 +31,9 @@ product-fits a b ha hb =
 
 -- the one part of one is the whole
 returns : tie.Need-returns
-returns c = record { is = sym (flux-part-whole (c .before .args .n) (c .before .args .s) (c .before .args .f .0) (c .if1 .taken) (c .before .pre .0) (c .before .pre .1)); within = le-refl _ }
+returns c =
+    let start = c .before in
+    record { is = sym (flux-part-whole (c .if1 .taken) (start .pre .0) (start .pre .1)); within = le-refl _ }
 
 -- every part of nothing is nothing
 returns-2 : tie.Need-returns-2

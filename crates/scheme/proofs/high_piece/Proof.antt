@@ -36,7 +36,9 @@ sizes {d} {have} {m} {t} g =
     }
 
 -- x is the numerator, as the code has it at the mismatch's sign
-signed : {x : ℕ} (D : Mismatch) (M T m : ℕ) (b : Bool) → D .positive ≡ b → x ≡ numerator (record { size = D .size; positive = b }) M T m → x ≡ numerator D M T m
+signed :
+    {x : ℕ} (D : Mismatch) (M T m : ℕ) (b : Bool) → D .positive ≡ b →
+    x ≡ numerator (record { size = D .size; positive = b }) M T m → x ≡ numerator D M T m
 signed D M T m b e h = h ∙ ap (λ (b : Bool). numerator (record { size = D .size; positive = b }) M T m) (sym e)
 
 cast-air : tie.Need-cast-air
@@ -81,7 +83,10 @@ div-piece : tie.Need-div-piece
 div-piece c = search needs
 
 -- the quotient is the piece that the model gives: dividing by 2·S and then by M is dividing by 2·S·M
-quotient : (c : tie.Joined1) → let a = the tie.Start (search) .args in c .if1 .numerator / (2 * scale) / a .have .0 ≡ highPiece (mismatchOf (a .d)) (a .have .0) (a .t .0) (a .m .0)
+quotient :
+    (c : tie.Joined1) →
+    let a = the tie.Start (search) .args in
+    c .if1 .numerator / (2 * scale) / a .have .0 ≡ highPiece (mismatchOf (a .d)) (a .have .0) (a .t .0) (a .m .0)
 unfolding numerator
 quotient c =
     let start : tie.Start = search in
