@@ -70,7 +70,7 @@ loop-again c =
       search needs,
       search needs,
       search needs,
-      same-more (l .up) (l .down) _ _ _ _ (search needs) (search needs) (l .inv .3)
+      same-more (l .up) (l .down) (search needs) (search needs) (l .inv .3)
           (c .before .flux-part .ensures .is ∙ ap (fluxPart _ _) (halves .high ∙ ap forward same))
           (c .flux-part2 .ensures .is ∙ ap (fluxPart _ _) (halves .low ∙ ap backward same)),
     )
