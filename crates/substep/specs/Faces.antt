@@ -29,8 +29,12 @@ pub record Same (n : ℕ) (one other : Flow) : Type 0 where
 pub same-none : (one other : Flow) → Same 0 one other
 same-none one other = record { high = λ k h. absurd (omega arith); low = λ k h. absurd (omega arith) }
 
-pub same-more : (up down : List ℕ) (other : Flow) (i x y : ℕ) → i < length up → i < length down → Same i (flowOf up down) other → x ≡ other .toHigh i → y ≡ other .toLow i → Same (i + 1) (flowOf (set up i x) (set down i y)) other
-same-more up down other i x y high low same ex ey =
+pub same-more :
+    (up down : List ℕ) {other : Flow} {i x y : ℕ} →
+    i < length up → i < length down → Same i (flowOf up down) other →
+    x ≡ other .toHigh i → y ≡ other .toLow i →
+    Same (i + 1) (flowOf (set up i x) (set down i y)) other
+same-more up down {other} {i} {x} {y} high low same ex ey =
     record {
       high = entries-more 0 up i x (λ k z. z ≡ other .toHigh k) high (same .high) ex;
       low = entries-more 0 down i y (λ k z. z ≡ other .toLow k) low (same .low) ey;
@@ -85,5 +89,7 @@ module _ (mesh : Mesh) (regular : Regular mesh) {one other : Flow} (same : Same 
 abbrev pub stepped : Mesh → Flow → List ℕ → List ℕ → List ℕ
 stepped mesh flow air gas = afterFlow mesh (pieces mismatch mesh flow air gas) gas
 
-pub same-stepped : (mesh : Mesh) → Regular mesh → {one other : Flow} → Same (mesh .faces) one other → (air gas : List ℕ) → stepped mesh one air gas ≡ stepped mesh other air gas
+pub same-stepped :
+    (mesh : Mesh) → Regular mesh → {one other : Flow} → Same (mesh .faces) one other →
+    (air gas : List ℕ) → stepped mesh one air gas ≡ stepped mesh other air gas
 same-stepped mesh regular same air gas = same-after mesh regular (same-pieces mesh regular same air gas) gas

@@ -39,7 +39,9 @@ pub record HasAir (n : ℕ) (air gas q : List ℕ) : Type 0 where
 pub record AreRatios (n : ℕ) (air gas q : List ℕ) : Type 0 where
   pub is : (c : ℕ) → c < n → at q c ≡ cellRatio air gas c
 
-pub has-air : {mesh : Mesh} {flow : Flow} {air gas : List ℕ} → GasNeed mesh flow air gas → (q : List ℕ) → mesh .cells ≤ length q → HasAir (mesh .cells) air gas q
+pub has-air :
+    {mesh : Mesh} {flow : Flow} {air gas : List ℕ} → GasNeed mesh flow air gas →
+    (q : List ℕ) → mesh .cells ≤ length q → HasAir (mesh .cells) air gas q
 has-air {mesh} {flow} {air} need q room =
     record {
       airLong = omega (arith, need .airLong);

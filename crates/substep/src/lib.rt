@@ -41,7 +41,9 @@ pub fn fill_ratios(air: &[u32], gas: &[u32], n: usize, q: &mut [u64])
 {
     let mut c = 0;
     while c < n {
-        q[c] = ratio(Air(air[c]), Tracer(gas[c]));
+        let have = air[c];
+        let amount = gas[c];
+        q[c] = ratio(Air(have), Tracer(amount));
         c += 1;
     }
 }
@@ -54,7 +56,9 @@ pub fn high_end(air: &[u32], gas: &[u32], q: &[u64], a: usize, c: usize, b: usiz
     if m.0 == 0 {
         return Tracer(0);
     }
-    high_piece(mismatch(q[a], q[c], q[b]), Air(air[c]), Tracer(gas[c]), m)
+    let have = air[c];
+    let amount = gas[c];
+    high_piece(mismatch(q[a], q[c], q[b]), Air(have), Tracer(amount), m)
 }
 
 // The same from its low end.
@@ -65,7 +69,9 @@ pub fn low_end(air: &[u32], gas: &[u32], q: &[u64], a: usize, c: usize, b: usize
     if m.0 == 0 {
         return Tracer(0);
     }
-    low_piece(mismatch(q[a], q[c], q[b]), Air(air[c]), Tracer(gas[c]), m)
+    let have = air[c];
+    let amount = gas[c];
+    low_piece(mismatch(q[a], q[c], q[b]), Air(have), Tracer(amount), m)
 }
 
 // What passes two faces together.

@@ -7,6 +7,7 @@ use native.Mathlib.Omega.{arith}
 use Rattle.model.specs.Basic.{every}
 use Rattle.model.specs.Laws.Basic.{every-none, every-more}
 use Rattle.column.specs.Laws.{servesAt, serving-is}
+use Rattle.units.specs.The.{the}
 use borrow.Author.Needs.{needs}
 use Rattle.column.proofs.edges_serve.Statement.{statement}
 use Rattle.column.proofs.edges_serve.Tie as tie
@@ -46,8 +47,8 @@ loop-less c = search needs
 
 loop-again : tie.Need-loop-again Inv-loop μ-loop
 loop-again c =
-    let a = c .before .before .before .before .before .before .args in
-    let l = c .before .before .before .before .loop in (
+    let a = the (tie.Start Inv-loop μ-loop) (search) .args in
+    let l = the (tie.At-loop Inv-loop μ-loop) (search) .loop in (
       search needs,
       ap₂ _&&_ (l .inv .1) (c .layer-serves .ensures) ∙ sym (every-more (l .j) (servesAt (a .e .now))),
     )

@@ -7,6 +7,7 @@ use lib.ListN.{length}
 use Rattle.model.specs.Basic.{at}
 use Rattle.model.specs.Remap.{edge}
 use Rattle.model.specs.Laws.Entries.{entries-more}
+use Rattle.units.specs.The.{the}
 use borrow.Author.Needs.{needs}
 use Rattle.column.proofs.fill_edges.Statement.{statement}
 use Rattle.column.proofs.fill_edges.Tie as tie
@@ -62,8 +63,8 @@ loop-less c = search needs
 loop-again : tie.Need-loop-again Inv-loop μ-loop
 unfolding edge
 loop-again c =
-    let a = c .before .before .before .before .before .before .before .args in
-    let l = c .before .before .before .before .loop in (
+    let a = the (tie.Start Inv-loop μ-loop) (search) .args in
+    let l = the (tie.At-loop Inv-loop μ-loop) (search) .loop in (
       search needs,
       search needs,
       entries-more 0 (l .e) (l .j) _ (λ t x. x ≡ edge (a .table .now) (a .p) t) (search needs) (l .inv .2) (c .edge-of .ensures),

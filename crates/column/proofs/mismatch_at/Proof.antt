@@ -3,6 +3,7 @@
 use mathlib.Core.Path.{_∙_}
 use native.Mathlib.Omega.{arith}
 use Rattle.column.specs.Slopes.{slope-first, slope-last, slope-inner, not-first}
+use Rattle.units.specs.The.{the}
 use borrow.Author.Needs.{needs}
 use Rattle.column.proofs.mismatch_at.Statement.{statement}
 use Rattle.column.proofs.mismatch_at.Tie as tie
@@ -51,8 +52,9 @@ mismatch-requires c κs = search needs
 
 returns-3 : tie.Need-returns-3
 returns-3 c =
-    let a = c .before .before .before .before .before .before .before .args in
-    c .mismatch .ensures .is ∙ slope-inner (a .cap) (a .k) (a .q .now) (a .i) (c .before .before .before .before .before .if1 .left) (omega arith)
+    let a = the tie.Start (search) .args in
+    let inner = the tie.Else1 (search) .if1 .left in
+    c .mismatch .ensures .is ∙ slope-inner (a .cap) (a .k) (a .q .now) (a .i) inner (omega arith)
 
 pub mismatch-at-spec : {M : Type 1} → statement M
 mismatch-at-spec =

@@ -7,6 +7,7 @@ use lib.ListN.{length}
 use Rattle.model.specs.Basic.{at}
 use Rattle.model.specs.Laws.Entries.{entries-more}
 use Rattle.column.specs.Laws.{new-air-is, edge-steps}
+use Rattle.units.specs.The.{the}
 use borrow.Author.Needs.{needs}
 use Rattle.column.proofs.new_air.Statement.{statement}
 use Rattle.column.proofs.new_air.Tie as tie
@@ -36,10 +37,14 @@ shared-slice-read-new-2 : tie.Need-shared-slice-read-new-2 Inv-loop μ-loop
 shared-slice-read-new-2 c = search needs
 
 sub-new : tie.Need-sub-new Inv-loop μ-loop
-sub-new c = omega (arith, edge-steps (c .before .before .before .before .pre .0) (c .before .before .before .loop .j) (omega arith))
+sub-new c =
+    let start : tie.Start Inv-loop μ-loop = search in
+    omega (arith, edge-steps (start .pre .0) (c .before .before .before .loop .j) (omega arith))
 
 cast-new : tie.Need-cast-new Inv-loop μ-loop
-cast-new c = omega (arith, edge-steps (c .before .before .before .before .pre .0) (c .before .before .before .loop .j) (omega arith))
+cast-new c =
+    let start : tie.Start Inv-loop μ-loop = search in
+    omega (arith, edge-steps (start .pre .0) (c .before .before .before .loop .j) (omega arith))
 
 mul-new-3 : tie.Need-mul-new-3 Inv-loop μ-loop
 mul-new-3 c = search needs
@@ -55,7 +60,7 @@ loop-less c = search needs
 
 loop-again : tie.Need-loop-again Inv-loop μ-loop
 loop-again c =
-    let a = c .before .before .before .before .args in
+    let a = the (tie.Start Inv-loop μ-loop) (search) .args in
     let l = c .before .before .before .loop in (
       search needs,
       search needs,

@@ -9,6 +9,7 @@ use Rattle.model.specs.Laws.Basic.{sum-none, sum-more}
 use Rattle.model.specs.Laws.Entries.{entries-more}
 use Rattle.column.specs.Walk as walk
 use Rattle.column.specs.Walk.{Place, place-start, pass-layer, pass-edge, next-fits, above-none, above-rises, next-above, gas-fits, walk-giver, remapped-is}
+use Rattle.units.specs.The.{the}
 use borrow.Author.Needs.{needs}
 use Rattle.column.proofs.new_tracer.Statement.{statement}
 use Rattle.column.proofs.new_tracer.Tie as tie
@@ -26,7 +27,8 @@ abbrev μ-loop : tie.MeasureT-loop
 
 loop-holds : tie.Need-loop-holds Inv-loop μ-loop
 loop-holds c =
-    (place-start (c .before .before .before .before .before .pre .column .spans), sym (sum-none _), sym (above-none (c .before .before .before .before .before .args .cap) (c .before .before .before .before .before .pre)), search needs, λ t h. absurd (omega arith))
+    let start : tie.Start Inv-loop μ-loop = search in
+    (place-start (start .pre .column .spans), sym (sum-none _), sym (above-none (start .args .cap) (start .pre)), search needs, λ t h. absurd (omega arith))
 
 mul-m : tie.Need-mul-m Inv-loop μ-loop
 mul-m c = search needs
@@ -41,10 +43,14 @@ shared-slice-read-t : tie.Need-shared-slice-read-t Inv-loop μ-loop
 shared-slice-read-t c = search needs
 
 cast-lower : tie.Need-cast-lower Inv-loop μ-loop
-cast-lower c = omega (arith, c .before .before .before .before .before .before .before .before .before .pre .column .spans .most (c .before .before .before .loop .i) (c .before .before .before .loop .inv .0 .layer))
+cast-lower c =
+    let start : tie.Start Inv-loop μ-loop = search in
+    omega (arith, start .pre .column .spans .most (c .before .before .before .loop .i) (c .before .before .before .loop .inv .0 .layer))
 
 add-lower : tie.Need-add-lower Inv-loop μ-loop
-add-lower c = omega (arith, next-fits (c .before .before .before .before .before .before .before .before .before .pre .column .spans) (c .before .before .before .loop .inv .0))
+add-lower c =
+    let start : tie.Start Inv-loop μ-loop = search in
+    omega (arith, next-fits (start .pre .column .spans) (c .before .before .before .loop .inv .0))
 
 add-edge : tie.Need-add-edge Inv-loop μ-loop
 add-edge c = search needs
@@ -57,8 +63,9 @@ shared-slice-read-edge c = search needs
 
 plus-requires : tie.Need-plus-requires Inv-loop μ-loop
 plus-requires c κs =
-    let l = c .before .before .before .before .before .loop in
-    omega (arith, gas-fits (c .before .before .before .before .before .before .before .before .before .before .before .args .cap) (c .before .before .before .before .before .before .before .before .before .before .before .pre) (l .i) (l .inv .0 .layer), l .inv .1)
+    let start : tie.Start Inv-loop μ-loop = search in
+    let l = the (tie.At-loop Inv-loop μ-loop) (search) .loop in
+    omega (arith, gas-fits (start .args .cap) (start .pre) (l .i) (l .inv .0 .layer), l .inv .1)
 
 add-i : tie.Need-add-i Inv-loop μ-loop
 add-i c = search needs
@@ -68,8 +75,8 @@ loop-less c = search needs
 
 loop-again : tie.Need-loop-again Inv-loop μ-loop
 loop-again c =
-    let start = c .before .before .before .before .before .before .before .before .before .before .before .before in
-    let l = c .before .before .before .before .before .before .loop in (
+    let start : tie.Start Inv-loop μ-loop = search in
+    let l = the (tie.At-loop Inv-loop μ-loop) (search) .loop in (
       pass-layer (start .pre .column .spans) (l .inv .0) (omega arith) (c .before .if1 .taken),
       omega (arith, c .plus .ensures, l .inv .1, sum-more (l .i) (at (start .args .gas .now))),
       l .inv .2,
@@ -78,30 +85,35 @@ loop-again c =
     )
 
 sub-inside : tie.Need-sub-inside Inv-loop μ-loop
-sub-inside c = omega (arith, c .before .before .before .before .before .loop .inv .0 .ahead (omega arith))
+sub-inside c =
+    let l = the (tie.At-loop Inv-loop μ-loop) (search) .loop in
+    omega (arith, l .inv .0 .ahead (omega arith))
 
 cast-inside : tie.Need-cast-inside Inv-loop μ-loop
 cast-inside c =
-    let l = c .before .before .before .before .before .loop in
-    omega (arith, c .before .before .before .before .before .before .before .before .before .before .before .pre .column .spans .most (l .i) (l .inv .0 .layer))
+    let start : tie.Start Inv-loop μ-loop = search in
+    let l = the (tie.At-loop Inv-loop μ-loop) (search) .loop in
+    omega (arith, start .pre .column .spans .most (l .i) (l .inv .0 .layer))
 
 mismatch-at-requires : tie.Need-mismatch-at-requires Inv-loop μ-loop
 mismatch-at-requires c κs = search needs
 
 low-piece-requires : tie.Need-low-piece-requires Inv-loop μ-loop
 low-piece-requires c κs =
-    let start = c .before .before .before .before .before .before .before .before .before .before .before .before in
-    walk-giver (start .args .cap) (start .pre) (c .before .before .before .before .before .before .loop .inv .0) (omega arith) (c .before .if1 .left) _ (c .mismatch-at .ensures) _ _ _ refl refl refl
+    let start : tie.Start Inv-loop μ-loop = search in
+    let l = the (tie.At-loop Inv-loop μ-loop) (search) .loop in
+    walk-giver (start .args .cap) (start .pre) (l .inv .0) (omega arith) (c .before .if1 .left) _ (c .mismatch-at .ensures) _ _ _ refl refl refl
 
 plus-requires-2 : tie.Need-plus-requires-2 Inv-loop μ-loop
 plus-requires-2 c κs =
-    let l = c .before .before .before .before .before .before .before .loop in
-    omega (arith, gas-fits (c .before .before .before .before .before .before .before .before .before .before .before .before .before .args .cap) (c .before .before .before .before .before .before .before .before .before .before .before .before .before .pre) (l .i) (l .inv .0 .layer), l .inv .1, c .low-piece .ensures .within)
+    let start : tie.Start Inv-loop μ-loop = search in
+    let l = the (tie.At-loop Inv-loop μ-loop) (search) .loop in
+    omega (arith, gas-fits (start .args .cap) (start .pre) (l .i) (l .inv .0 .layer), l .inv .1, c .low-piece .ensures .within)
 
 minus-requires : tie.Need-minus-requires Inv-loop μ-loop
 minus-requires c κs =
-    let start = c .before .before .before .before .before .before .before .before .before .before .before .before .before .before in
-    let l = c .before .before .before .before .before .before .before .before .loop in
+    let start : tie.Start Inv-loop μ-loop = search in
+    let l = the (tie.At-loop Inv-loop μ-loop) (search) .loop in
     let next = next-above (start .args .cap) (start .pre) (l .inv .0) (omega arith) (c .before .before .before .if1 .left) (c .before .before .mismatch-at .ensures) (l .inv .1) (c .before .low-piece .ensures .is) (c .plus2 .ensures) in
     omega (arith, next, l .inv .2, above-rises (start .args .cap) (start .pre) (l .j) (omega arith))
 
@@ -119,9 +131,10 @@ loop-less-2 c = search needs
 
 loop-again-2 : tie.Need-loop-again-2 Inv-loop μ-loop
 loop-again-2 c =
-    let start = c .before .before .before .before .before .before .before .before .before .before .before .before .before .before .before in
-    let l = c .before .before .before .before .before .before .before .before .before .loop in
-    let next = next-above (start .args .cap) (start .pre) (l .inv .0) (omega arith) (c .before .before .before .before .if1 .left) (c .before .before .before .mismatch-at .ensures) (l .inv .1) (c .before .before .low-piece .ensures .is) (c .before .plus2 .ensures) in
+    let start : tie.Start Inv-loop μ-loop = search in
+    let l = the (tie.At-loop Inv-loop μ-loop) (search) .loop in
+    let edge-reached = the (tie.Else1 Inv-loop μ-loop) (search) .if1 .left in
+    let next = next-above (start .args .cap) (start .pre) (l .inv .0) (omega arith) edge-reached (c .before .before .before .mismatch-at .ensures) (l .inv .1) (c .before .before .low-piece .ensures .is) (c .before .plus2 .ensures) in
     let a = start .args in
     let G : ℕ → ℕ = walk.above (a .cap) (a .k) (a .air .now) (a .gas .now) (a .q .now) in (
       pass-edge (start .pre .column .spans) (l .inv .0) (omega arith),
@@ -136,7 +149,7 @@ same-length c = search needs
 
 returns : tie.Need-returns Inv-loop μ-loop
 returns c =
-    let start = c .before .before .before .before .before .before .before in
+    let start : tie.Start Inv-loop μ-loop = search in
     let l = c .before .loop in
     remapped-is (start .args .cap) (start .pre) (l .new) (λ t h. l .inv .4 t (omega arith))
 

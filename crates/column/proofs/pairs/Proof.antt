@@ -6,6 +6,7 @@ use native.Mathlib.Omega.{arith}
 use Rattle.model.specs.Basic.{howMany}
 use Rattle.column.specs.Walk.{Place, place-start, pass-layer, pass-edge, next-fits}
 use Rattle.column.specs.Pairs.{sharesAt, pairsTo, pairs-start, pairs-more, pairs-edge, pairs-all}
+use Rattle.units.specs.The.{the}
 use borrow.Author.Needs.{needs}
 use Rattle.column.proofs.pairs.Statement.{statement}
 use Rattle.column.proofs.pairs.Tie as tie
@@ -28,10 +29,14 @@ shared-slice-read-lower : tie.Need-shared-slice-read-lower Inv-loop μ-loop
 shared-slice-read-lower c = search needs
 
 cast-lower : tie.Need-cast-lower Inv-loop μ-loop
-cast-lower c = omega (arith, c .before .before .before .before .before .pre .most (c .before .before .loop .i) (c .before .before .loop .inv .0 .layer))
+cast-lower c =
+    let start : tie.Start Inv-loop μ-loop = search in
+    omega (arith, start .pre .most (c .before .before .loop .i) (c .before .before .loop .inv .0 .layer))
 
 add-lower : tie.Need-add-lower Inv-loop μ-loop
-add-lower c = omega (arith, next-fits (c .before .before .before .before .before .pre) (c .before .before .loop .inv .0))
+add-lower c =
+    let start : tie.Start Inv-loop μ-loop = search in
+    omega (arith, next-fits (start .pre) (c .before .before .loop .inv .0))
 
 mul-shared : tie.Need-mul-shared Inv-loop μ-loop
 mul-shared c = search needs
@@ -62,8 +67,8 @@ loop-less c = search needs
 
 loop-again : tie.Need-loop-again Inv-loop μ-loop
 loop-again c =
-    let start = c .before .before .before .before .before .before .before .before .before in
-    let l = c .before .before .before .before .before .before .loop in (
+    let start : tie.Start Inv-loop μ-loop = search in
+    let l = the (tie.At-loop Inv-loop μ-loop) (search) .loop in (
       pass-layer (start .pre) (l .inv .0) (omega arith) (c .if1 .taken),
       pairs-more (start .pre) (l .inv .0) (omega arith) (l .inv .1) (c .before .before .shared .ensures),
       omega (arith, c .before .before .shared .ensures),
@@ -77,8 +82,8 @@ loop-less-2 c = search needs
 
 loop-again-2 : tie.Need-loop-again-2 Inv-loop μ-loop
 loop-again-2 c =
-    let start = c .before .before .before .before .before .before .before .before .before in
-    let l = c .before .before .before .before .before .before .loop in (
+    let start : tie.Start Inv-loop μ-loop = search in
+    let l = the (tie.At-loop Inv-loop μ-loop) (search) .loop in (
       pass-edge (start .pre) (l .inv .0) (omega arith),
       pairs-edge (start .pre) (l .inv .0) (omega arith) (c .if1 .left) (pairs-more (start .pre) (l .inv .0) (omega arith) (l .inv .1) (c .before .before .shared .ensures)),
       omega (arith, c .before .before .shared .ensures),
@@ -86,8 +91,9 @@ loop-again-2 c =
 
 returns : tie.Need-returns Inv-loop μ-loop
 returns c =
+    let start : tie.Start Inv-loop μ-loop = search in
     let l = c .before .loop in
-    pairs-all (c .before .before .before .before .pre) (l .inv .0) (omega arith) (l .inv .1) (l .inv .2)
+    pairs-all (start .pre) (l .inv .0) (omega arith) (l .inv .1) (l .inv .2)
 
 pub pairs-spec : {M : Type 1} → statement M
 pairs-spec =

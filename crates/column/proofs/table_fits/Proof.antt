@@ -7,6 +7,7 @@ use native.Mathlib.Omega.{arith}
 use Rattle.model.specs.Basic.{every}
 use Rattle.model.specs.Laws.Basic.{every-none, every-more}
 use Rattle.column.specs.Laws.{pairFits}
+use Rattle.units.specs.The.{the}
 use borrow.Author.Needs.{needs}
 use Rattle.column.proofs.table_fits.Statement.{statement}
 use Rattle.column.proofs.table_fits.Tie as tie
@@ -82,15 +83,15 @@ loop-less c = search needs
 
 loop-again : tie.Need-loop-again Inv-loop μ-loop
 loop-again c =
-    let a = c .before .before .before .before .before .before .before .before .before .before .args in
-    let l = c .before .before .before .before .loop in (
+    let a = the (tie.Start Inv-loop μ-loop) (search) .args in
+    let l = the (tie.At-loop Inv-loop μ-loop) (search) .loop in (
       search needs,
       ap₂ _&&_ (l .inv .1) (c .pair-fits .ensures) ∙ sym (every-more (l .j) (pairFits (a .table .now))),
     )
 
 returns : tie.Need-returns Inv-loop μ-loop
 returns c =
-    let start = c .before .before .before .before .before .before .before in
+    let start : tie.Start Inv-loop μ-loop = search in
     let a = start .args in
     let l = c .before .loop in
     let done : l .j ≡ a .k + 1 = omega arith in

@@ -9,6 +9,7 @@ use Rattle.model.specs.Sweep.{layer, pieces}
 use Rattle.substep.specs.Faces.{flowOf, Same, same-none, same-more}
 use Rattle.layer.specs.Cells.{layer-faces}
 use Rattle.layer.specs.Gas.{gives-north, gives-south, piece-north, piece-south}
+use Rattle.units.specs.The.{the}
 use borrow.Author.Needs.{needs}
 use Rattle.layer.proofs.fill_pieces.Statement.{statement}
 use Rattle.layer.proofs.fill_pieces.Tie as tie
@@ -40,7 +41,7 @@ shared-slice-read-t18 c = search needs
 
 northward-requires : tie.Need-northward-requires Inv-loop μ-loop
 northward-requires c κs =
-    let start = c .before .before .before .before .before .before .before .before .before .before in
+    let start : tie.Start Inv-loop μ-loop = search in
     gives-north (start .pre .0) (start .pre .1) (c .before .before .loop .i) (omega arith)
 
 mul-t16-2 : tie.Need-mul-t16-2 Inv-loop μ-loop
@@ -51,8 +52,9 @@ shared-slice-read-t18-2 c = search needs
 
 southward-requires : tie.Need-southward-requires Inv-loop μ-loop
 southward-requires c κs =
-    let start = c .before .before .before .before .before .before .before .before .before .before .before .before in
-    gives-south (start .pre .0) (start .pre .1) (c .before .before .before .before .loop .i) (omega arith)
+    let start : tie.Start Inv-loop μ-loop = search in
+    let l = the (tie.At-loop Inv-loop μ-loop) (search) .loop in
+    gives-south (start .pre .0) (start .pre .1) (l .i) (omega arith)
 
 mul-high : tie.Need-mul-high Inv-loop μ-loop
 mul-high c = search needs
@@ -74,8 +76,8 @@ loop-less c = search needs
 
 loop-again : tie.Need-loop-again Inv-loop μ-loop
 loop-again c =
-    let pre = c .before .before .before .before .before .before .before .before .before .before .before .before .before .pre in
-    let l = c .before .before .before .before .before .loop in (
+    let pre = the (tie.Start Inv-loop μ-loop) (search) .pre in
+    let l = the (tie.At-loop Inv-loop μ-loop) (search) .loop in (
       search needs,
       search needs,
       search needs,
@@ -92,7 +94,7 @@ same-length-2 c = search needs
 
 returns : tie.Need-returns Inv-loop μ-loop
 returns c =
-    let a = c .before .before .before .before .before .before .before .before .before .args in
+    let a = the (tie.Start Inv-loop μ-loop) (search) .args in
     let l = c .before .loop in
     let done : l .i ≡ layer (a .w) (a .rows) .faces = omega (arith, layer-faces (a .w) (a .rows)) in
     rw done at (l .inv .3)

@@ -5,6 +5,7 @@ use mathlib.Core.Path.{_∙_}
 use Rattle.substep.specs.Faces.{flowOf}
 use Rattle.substep.specs.Cells.{cell-allows}
 use Rattle.layer.specs.Cells.{south-cell, north-cell, allowed-cells}
+use Rattle.units.specs.The.{the}
 use borrow.Author.Needs.{needs}
 use Rattle.layer.proofs.layer_allowed.Statement.{statement}
 use Rattle.layer.proofs.layer_allowed.Tie as tie
@@ -47,11 +48,14 @@ rows-allow-requires c κs = search needs
 
 returns : tie.Need-returns
 returns c =
-    let start = c .before .before .before .before .before .before .before .before .before .before .before .before in
+    let start : tie.Start = search in
+    let south-in = the tie.After-cap-sum (search) .cap-sum .ensures in
+    let south-out = the tie.After-cap-sum2 (search) .cap-sum2 .ensures in
+    let at-south = the tie.After-cell-allows (search) .cell-allows .ensures in
     let a = start .args in
     let up = a .up .now in
     let down = a .down .now in
-    let south = c .before .before .before .before .before .cell-allows .ensures ∙ cell-allows (south-cell (a .w) (a .rows) up down (c .before .before .before .before .before .before .before .cap-sum .ensures) (c .before .before .before .before .before .before .cap-sum2 .ensures)) (a .air .now) in
+    let south = at-south ∙ cell-allows (south-cell (a .w) (a .rows) up down south-in south-out) (a .air .now) in
     let north = c .before .cell-allows2 .ensures ∙ cell-allows (north-cell (a .w) (a .rows) up down (c .before .before .before .cap-sum3 .ensures) (c .before .before .cap-sum4 .ensures)) (a .air .now) in
     (λ i. south i && c .rows-allow .ensures i && north i) ∙ allowed-cells (a .w) (a .rows) (flowOf up down) (a .air .now)
 

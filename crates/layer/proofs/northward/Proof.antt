@@ -4,6 +4,7 @@ use mathlib.Core.Path.{_∙_}
 use native.Mathlib.Omega.{arith}
 use Rattle.substep.specs.Pieces.{piece-high}
 use Rattle.layer.specs.Gas.{south-cap-near, south-near}
+use Rattle.units.specs.The.{the}
 use borrow.Author.Needs.{needs}
 use Rattle.layer.proofs.northward.Statement.{statement}
 use Rattle.layer.proofs.northward.Tie as tie
@@ -13,13 +14,13 @@ south-of-requires c κs = search needs
 
 high-end-requires : tie.Need-high-end-requires
 high-end-requires c κs =
-    let start = c .before .before .before .before .before in
+    let start : tie.Start = search in
     let a = start .args in
     rw (c .before .south-of .ensures) (start .pre .need _ _ (south-cap-near (a .w) (a .rows) (a .i) (omega arith)))
 
 returns : tie.Need-returns
 returns c =
-    let start = c .before .before .before .before .before .before in
+    let start : tie.Start = search in
     let a = start .args in
     rw (c .before .before .south-of .ensures) at (c .high-end .ensures) ∙ piece-high (start .pre .ratios) (south-cap-near (a .w) (a .rows) (a .i) (omega arith)) _
 
@@ -34,15 +35,16 @@ north-of-requires c κs = search needs
 
 high-end-requires-2 : tie.Need-high-end-requires-2
 high-end-requires-2 c κs =
-    let start = c .before .before .before .before .before .before .before in
+    let start : tie.Start = search in
     let a = start .args in
     rw (c .before .south-of2 .ensures, c .before .before .before .south-of .ensures, c .north-of .ensures) (start .pre .need _ _ (south-near (a .w) (a .rows) (a .i) (omega arith) (start .pre .face)))
 
 returns-2 : tie.Need-returns-2
 returns-2 c =
-    let start = c .before .before .before .before .before .before .before .before in
+    let start : tie.Start = search in
+    let south = the tie.After-south-of (search) .south-of .ensures in
     let a = start .args in
-    rw (c .before .before .south-of2 .ensures, c .before .before .before .before .south-of .ensures, c .before .north-of .ensures) at (c .high-end2 .ensures) ∙ piece-high (start .pre .ratios) (south-near (a .w) (a .rows) (a .i) (omega arith) (start .pre .face)) _
+    rw (c .before .before .south-of2 .ensures, south, c .before .north-of .ensures) at (c .high-end2 .ensures) ∙ piece-high (start .pre .ratios) (south-near (a .w) (a .rows) (a .i) (omega arith) (start .pre .face)) _
 
 pub northward-spec : {M : Type 1} → statement M
 northward-spec =

@@ -7,6 +7,7 @@ use lib.ListN.{length-set}
 use Rattle.model.specs.Sweep.{layer}
 use Rattle.substep.specs.Cells.{moved-none, moved-exchange, moved-more, all-moved}
 use Rattle.layer.specs.Cells.{layer-cells, south-cell, north-cell, begin}
+use Rattle.units.specs.The.{the}
 use borrow.Author.Needs.{needs}
 use Rattle.layer.proofs.pass_layer.Statement.{statement}
 use Rattle.layer.proofs.pass_layer.Tie as tie
@@ -28,8 +29,9 @@ cap-sum-requires-2 c κs = search needs
 
 amount-after-requires : tie.Need-amount-after-requires
 amount-after-requires c κs =
-    let a = c .before .before .before .before .before .before .args in
-    let moves = c .before .before .before .before .before .before .pre .1 in
+    let start : tie.Start = search in
+    let a = start .args in
+    let moves = start .pre .1 in
     moved-exchange moves (moved-none moves) (south-cell (a .w) (a .rows) (a .up .now) (a .down .now) (c .before .cap-sum .ensures) (c .cap-sum2 .ensures))
 
 slice-write-amounts : tie.Need-slice-write-amounts
@@ -37,7 +39,7 @@ slice-write-amounts c = search needs
 
 pass-rows-requires : tie.Need-pass-rows-requires
 pass-rows-requires c κs =
-    let start = c .before .before .before .before .before .before .before .before in
+    let start : tie.Start = search in
     let a = start .args in
     let fit = start .pre .0 in (
       record { size = fit .size; long = simp length-set (fit .long); faces = fit .faces },
@@ -49,9 +51,12 @@ mul-amount-after c = search needs
 
 slice-read-amount-after-2 : tie.Need-slice-read-amount-after-2
 slice-read-amount-after-2 c =
-    let start = c .before .before .before .before .before .before .before .before .before .before .before .before in
+    let start : tie.Start = search in
+    let south-in = the tie.After-cap-sum (search) .cap-sum .ensures in
+    let south-out = the tie.After-cap-sum2 (search) .cap-sum2 .ensures in
+    let south = the tie.After-amount-after (search) .amount-after .ensures in
     let a = start .args in
-    omega (arith, c .before .before .before .pass-rows .ensures (begin (start .pre .1) (south-cell (a .w) (a .rows) (a .up .now) (a .down .now) (c .before .before .before .before .before .before .before .cap-sum .ensures) (c .before .before .before .before .before .before .cap-sum2 .ensures)) _ (c .before .before .before .before .before .amount-after .ensures)) .long, start .pre .0 .long)
+    omega (arith, c .before .before .before .pass-rows .ensures (begin (start .pre .1) (south-cell (a .w) (a .rows) (a .up .now) (a .down .now) south-in south-out) _ south) .long, start .pre .0 .long)
 
 cap-sum-requires-3 : tie.Need-cap-sum-requires-3
 cap-sum-requires-3 c κs = search needs
@@ -61,45 +66,50 @@ cap-sum-requires-4 c κs = search needs
 
 amount-after-requires-2 : tie.Need-amount-after-requires-2
 amount-after-requires-2 c κs =
-    let start = c .before .before .before .before .before .before .before .before .before .before .before .before .before .before in
-    let cap-sum-call = c .before .before .before .before .before .before .before .before .before .cap-sum in
-    let cap-sum2-call = c .before .before .before .before .before .before .before .before .cap-sum2 in
+    let start : tie.Start = search in
+    let south-in = the tie.After-cap-sum (search) .cap-sum .ensures in
+    let south-out = the tie.After-cap-sum2 (search) .cap-sum2 .ensures in
+    let south = the tie.After-amount-after (search) .amount-after .ensures in
+    let rows-passed = the tie.After-pass-rows (search) .pass-rows .ensures in
     let a = start .args in
-    let begun = begin (start .pre .1) (south-cell (start .args .w) (start .args .rows) (start .args .up .now) (start .args .down .now) (cap-sum-call .ensures) (cap-sum2-call .ensures)) _ (c .before .before .before .before .before .before .before .amount-after .ensures) in
-    moved-exchange (begun .moves) (c .before .before .before .before .before .pass-rows .ensures begun) (north-cell (a .w) (a .rows) (a .up .now) (a .down .now) (c .before .cap-sum3 .ensures) (c .cap-sum4 .ensures))
+    let begun = begin (start .pre .1) (south-cell (start .args .w) (start .args .rows) (start .args .up .now) (start .args .down .now) south-in south-out) _ south in
+    moved-exchange (begun .moves) (rows-passed begun) (north-cell (a .w) (a .rows) (a .up .now) (a .down .now) (c .before .cap-sum3 .ensures) (c .cap-sum4 .ensures))
 
 mul-amounts : tie.Need-mul-amounts
 mul-amounts c = search needs
 
 slice-write-amounts-2 : tie.Need-slice-write-amounts-2
 slice-write-amounts-2 c =
-    let start = c .before .before .before .before .before .before .before .before .before .before .before .before .before .before .before in
-    let cap-sum-call = c .before .before .before .before .before .before .before .before .before .before .cap-sum in
-    let cap-sum2-call = c .before .before .before .before .before .before .before .before .before .cap-sum2 in
-    let amount-after-call = c .before .before .before .before .before .before .before .before .amount-after in
+    let start : tie.Start = search in
+    let south-in = the tie.After-cap-sum (search) .cap-sum .ensures in
+    let south-out = the tie.After-cap-sum2 (search) .cap-sum2 .ensures in
+    let south = the tie.After-amount-after (search) .amount-after .ensures in
+    let rows-passed = the tie.After-pass-rows (search) .pass-rows .ensures in
     let a = start .args in
-    omega (arith, c .before .before .before .before .before .before .pass-rows .ensures (begin (start .pre .1) (south-cell (a .w) (a .rows) (a .up .now) (a .down .now) (cap-sum-call .ensures) (cap-sum2-call .ensures)) _ (amount-after-call .ensures)) .long, start .pre .0 .long)
+    omega (arith, rows-passed (begin (start .pre .1) (south-cell (a .w) (a .rows) (a .up .now) (a .down .now) south-in south-out) _ south) .long, start .pre .0 .long)
 
 same-length : tie.Need-same-length
 same-length c =
-    let start = c .before .before .before .before .before .before .before .before .before .before .before .before .before .before .before in
-    let cap-sum-call = c .before .before .before .before .before .before .before .before .before .before .cap-sum in
-    let cap-sum2-call = c .before .before .before .before .before .before .before .before .before .cap-sum2 in
-    let amount-after-call = c .before .before .before .before .before .before .before .before .amount-after in
+    let start : tie.Start = search in
+    let south-in = the tie.After-cap-sum (search) .cap-sum .ensures in
+    let south-out = the tie.After-cap-sum2 (search) .cap-sum2 .ensures in
+    let south = the tie.After-amount-after (search) .amount-after .ensures in
+    let rows-passed = the tie.After-pass-rows (search) .pass-rows .ensures in
     let a = start .args in
-    simp length-set (c .before .before .before .before .before .before .pass-rows .ensures (begin (start .pre .1) (south-cell (a .w) (a .rows) (a .up .now) (a .down .now) (cap-sum-call .ensures) (cap-sum2-call .ensures)) _ (amount-after-call .ensures)) .long)
+    simp length-set (rows-passed (begin (start .pre .1) (south-cell (a .w) (a .rows) (a .up .now) (a .down .now) south-in south-out) _ south) .long)
 
 returns : tie.Need-returns
 returns c =
-    let start = c .before .before .before .before .before .before .before .before .before .before .before .before .before .before .before in
-    let cap-sum-call = c .before .before .before .before .before .before .before .before .before .before .cap-sum in
-    let cap-sum2-call = c .before .before .before .before .before .before .before .before .before .cap-sum2 in
-    let amount-after-call = c .before .before .before .before .before .before .before .before .amount-after in
+    let start : tie.Start = search in
+    let south-in = the tie.After-cap-sum (search) .cap-sum .ensures in
+    let south-out = the tie.After-cap-sum2 (search) .cap-sum2 .ensures in
+    let south = the tie.After-amount-after (search) .amount-after .ensures in
+    let rows-passed = the tie.After-pass-rows (search) .pass-rows .ensures in
     let a = start .args in
-    let begun = begin (start .pre .1) (south-cell (start .args .w) (start .args .rows) (start .args .up .now) (start .args .down .now) (cap-sum-call .ensures) (cap-sum2-call .ensures)) _ (amount-after-call .ensures) in
+    let begun = begin (start .pre .1) (south-cell (start .args .w) (start .args .rows) (start .args .up .now) (start .args .down .now) south-in south-out) _ south in
     let north = north-cell (a .w) (a .rows) (a .up .now) (a .down .now) (c .before .before .cap-sum3 .ensures) (c .before .cap-sum4 .ensures) in
     let all : 1 + a .rows * a .w + 1 ≡ layer (a .w) (a .rows) .cells = omega (arith, layer-cells (a .w) (a .rows)) in
-    all-moved (begun .moves) (rw all at (moved-more (begun .moves) (c .before .before .before .before .before .before .pass-rows .ensures begun) north _ (c .amount-after2 .ensures)))
+    all-moved (begun .moves) (rw all at (moved-more (begun .moves) (rows-passed begun) north _ (c .amount-after2 .ensures)))
 
 pub pass-layer-spec : {M : Type 1} → statement M
 pass-layer-spec =

@@ -8,6 +8,7 @@ use Rattle.model.specs.Sweep.{layer}
 use Rattle.substep.specs.Faces.{flowOf}
 use Rattle.substep.specs.Cells.{moved-exchange, moved-more}
 use Rattle.layer.specs.Cells.{MovedOn, row-cell}
+use Rattle.units.specs.The.{the}
 use borrow.Author.Needs.{needs}
 use Rattle.layer.proofs.pass_rows.Statement.{statement}
 use Rattle.layer.proofs.pass_rows.Tie as tie
@@ -71,8 +72,8 @@ both-requires-2 c κs = search needs
 
 amount-after-requires : tie.Need-amount-after-requires Inv-loop μ-loop
 amount-after-requires c κs =
-    let start = c .before .before .before .before .before .before .before .before .before .before .before .before in
-    let l = c .before .before .before .before .before .before .before .before .loop in
+    let start : tie.Start Inv-loop μ-loop = search in
+    let l = the (tie.At-loop Inv-loop μ-loop) (search) .loop in
     let a = start .args in
     let begun = start .pre .1 in
     moved-exchange (begun .moves) (l .inv .2 begun) (row-cell (a .w) (a .rows) (a .up .now) (a .down .now) (l .j) (omega arith) (c .before .before .before .both .ensures .0) (c .both2 .ensures .0))
@@ -91,9 +92,10 @@ loop-less c = search needs
 
 loop-again : tie.Need-loop-again Inv-loop μ-loop
 loop-again c =
-    let l = c .before .before .before .before .before .before .before .before .before .loop in
-    let a = c .before .before .before .before .before .before .before .before .before .before .before .before .before .args in
-    let cell = row-cell (a .w) (a .rows) (a .up .now) (a .down .now) (l .j) (omega arith) (c .before .before .before .before .both .ensures .0) (c .before .both2 .ensures .0) in
+    let a = the (tie.Start Inv-loop μ-loop) (search) .args in
+    let l = the (tie.At-loop Inv-loop μ-loop) (search) .loop in
+    let inflow = the (tie.After-both Inv-loop μ-loop) (search) .both .ensures .0 in
+    let cell = row-cell (a .w) (a .rows) (a .up .now) (a .down .now) (l .j) (omega arith) inflow (c .before .both2 .ensures .0) in
     let next : 1 + l .j + 1 ≡ 1 + (l .j + 1) = omega arith in
     (search needs, search needs, λ b. rw next at (moved-more (b .moves) (l .inv .2 b) cell _ (c .amount-after .ensures)))
 
@@ -102,7 +104,7 @@ same-length c = search needs
 
 returns : tie.Need-returns Inv-loop μ-loop
 returns c =
-    let a = c .before .before .before .before .before .args in
+    let a = the (tie.Start Inv-loop μ-loop) (search) .args in
     let l = c .before .loop in
     let done : l .j ≡ a .rows * a .w = omega arith in
     λ b. rw done at (l .inv .2 b)

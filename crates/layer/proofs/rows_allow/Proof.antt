@@ -10,6 +10,7 @@ use Rattle.model.specs.Laws.Basic.{every-none, every-more}
 use Rattle.substep.specs.Faces.{flowOf}
 use Rattle.substep.specs.Cells.{cellAllowed, cell-allows}
 use Rattle.layer.specs.Cells.{row-cell}
+use Rattle.units.specs.The.{the}
 use borrow.Author.Needs.{needs}
 use Rattle.layer.proofs.rows_allow.Statement.{statement}
 use Rattle.layer.proofs.rows_allow.Tie as tie
@@ -79,14 +80,15 @@ loop-less c = search needs
 
 loop-again : tie.Need-loop-again Inv-loop μ-loop
 loop-again c =
-    let l = c .before .before .before .before .before .before .before .before .before .loop in
-    let a = c .before .before .before .before .before .before .before .before .before .before .before .before .before .args in
-    let cell = row-cell (a .w) (a .rows) (a .up .now) (a .down .now) (l .j) (omega arith) (c .before .before .before .before .both .ensures .0) (c .before .both2 .ensures .0) in
+    let a = the (tie.Start Inv-loop μ-loop) (search) .args in
+    let l = the (tie.At-loop Inv-loop μ-loop) (search) .loop in
+    let inflow = the (tie.After-both Inv-loop μ-loop) (search) .both .ensures .0 in
+    let cell = row-cell (a .w) (a .rows) (a .up .now) (a .down .now) (l .j) (omega arith) inflow (c .before .both2 .ensures .0) in
     (search needs, ap₂ _&&_ (l .inv .1) (c .cell-allows .ensures ∙ cell-allows cell (a .air .now)) ∙ sym (every-more (l .j) _))
 
 returns : tie.Need-returns Inv-loop μ-loop
 returns c =
-    let a = c .before .before .before .before .before .args in
+    let a = the (tie.Start Inv-loop μ-loop) (search) .args in
     let l = c .before .loop in
     let done : l .j ≡ a .rows * a .w = omega arith in
     rw done at (l .inv .1)

@@ -4,6 +4,7 @@ use mathlib.Core.Path.{_∙_}
 use native.Mathlib.Omega.{arith}
 use Rattle.substep.specs.Pieces.{piece-low}
 use Rattle.layer.specs.Gas.{north-cap-near, north-near}
+use Rattle.units.specs.The.{the}
 use borrow.Author.Needs.{needs}
 use Rattle.layer.proofs.southward.Statement.{statement}
 use Rattle.layer.proofs.southward.Tie as tie
@@ -16,13 +17,13 @@ north-of-requires c κs = search needs
 
 low-end-requires : tie.Need-low-end-requires
 low-end-requires c κs =
-    let start = c .before .before .before .before .before in
+    let start : tie.Start = search in
     let a = start .args in
     rw (c .before .north-of .ensures) (start .pre .need _ _ (north-cap-near (a .w) (a .rows) (a .i) (omega arith)))
 
 returns : tie.Need-returns
 returns c =
-    let start = c .before .before .before .before .before .before in
+    let start : tie.Start = search in
     let a = start .args in
     rw (c .before .before .north-of .ensures) at (c .low-end .ensures) ∙ piece-low (start .pre .ratios) (north-cap-near (a .w) (a .rows) (a .i) (omega arith)) _
 
@@ -37,15 +38,16 @@ north-of-requires-2 c κs = search needs
 
 low-end-requires-2 : tie.Need-low-end-requires-2
 low-end-requires-2 c κs =
-    let start = c .before .before .before .before .before .before .before in
+    let start : tie.Start = search in
     let a = start .args in
     rw (c .before .south-of .ensures, c .before .before .before .north-of .ensures, c .north-of2 .ensures) (start .pre .need _ _ (north-near (a .w) (a .rows) (a .i) (omega arith)))
 
 returns-2 : tie.Need-returns-2
 returns-2 c =
-    let start = c .before .before .before .before .before .before .before .before in
+    let start : tie.Start = search in
+    let north = the tie.After-north-of (search) .north-of .ensures in
     let a = start .args in
-    rw (c .before .before .south-of .ensures, c .before .before .before .before .north-of .ensures, c .before .north-of2 .ensures) at (c .low-end2 .ensures) ∙ piece-low (start .pre .ratios) (north-near (a .w) (a .rows) (a .i) (omega arith)) _
+    rw (c .before .before .south-of .ensures, north, c .before .north-of2 .ensures) at (c .low-end2 .ensures) ∙ piece-low (start .pre .ratios) (north-near (a .w) (a .rows) (a .i) (omega arith)) _
 
 pub southward-spec : {M : Type 1} → statement M
 southward-spec =

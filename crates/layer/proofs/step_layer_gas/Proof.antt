@@ -6,29 +6,32 @@ use native.Mathlib.Omega.{arith}
 use Rattle.model.specs.Laws.Layer.{layer-regular}
 use Rattle.substep.specs.Pieces.{HasAir, has-air, gas-moves, gas-after}
 use Rattle.layer.specs.Cells.{layer-cells}
+use Rattle.units.specs.The.{the}
 use borrow.Author.Needs.{needs}
 use Rattle.layer.proofs.step_layer_gas.Statement.{statement}
 use Rattle.layer.proofs.step_layer_gas.Tie as tie
 
 fill-ratios-requires : tie.Need-fill-ratios-requires
 fill-ratios-requires c κs =
-    let start = c .before .before .before .before .before .before .before .before .before in
+    let start : tie.Start = search in
     let a = start .args in
     subst (λ (n : ℕ). HasAir n (a .air .now) (a .gas .now) (a .q .now)) (sym (start .pre .need .airLong)) (has-air (start .pre .need) _ (omega (arith, layer-cells (a .w) (a .rows), start .pre .ratios)))
 
 fill-pieces-requires : tie.Need-fill-pieces-requires
 fill-pieces-requires c κs =
-    let pre = c .before .before .before .before .before .before .before .before .before .before .before .before .before .before .before .before .pre in (
+    let pre = the tie.Start (search) .pre in
+    let filled = the tie.After-fill-ratios (search) .fill-ratios .ensures in (
       record { size = pre .size; passes = pre .passes; ratios = search needs; pieces = pre .pieces; need = pre .need },
-      rw (pre .need .airLong) at (c .before .before .before .before .before .before .fill-ratios .ensures),
+      rw (pre .need .airLong) at filled,
     )
 
 pass-layer-requires : tie.Need-pass-layer-requires
 pass-layer-requires c κs =
-    let start = c .before .before .before .before .before .before .before .before .before .before .before .before .before .before .before .before .before .before .before .before .before .before .before .before in
+    let start : tie.Start = search in
+    let pieces = the tie.After-fill-pieces (search) .fill-pieces .ensures in
     let pre = start .pre in (
       record { size = pre .size; long = pre .need .gasLong ∙ layer-cells (start .args .w) (start .args .rows); faces = record { high = search needs; low = search needs } },
-      gas-moves (layer-regular (start .args .w) (start .args .rows)) (pre .need) (c .before .before .before .before .before .before .before .fill-pieces .ensures),
+      gas-moves (layer-regular (start .args .w) (start .args .rows)) (pre .need) pieces,
     )
 
 same-length : tie.Need-same-length
@@ -45,8 +48,9 @@ same-length-4 c = search needs
 
 returns : tie.Need-returns
 returns c =
-    let start = c .before .before .before .before .before .before .before .before .before .before .before .before .before .before .before .before .before .before .before .before .before .before .before .before .before .before .before in
-    c .before .before .pass-layer .ensures ∙ gas-after (layer-regular (start .args .w) (start .args .rows)) (start .pre .need) (c .before .before .before .before .before .before .before .before .before .before .fill-pieces .ensures)
+    let start : tie.Start = search in
+    let pieces = the tie.After-fill-pieces (search) .fill-pieces .ensures in
+    c .before .before .pass-layer .ensures ∙ gas-after (layer-regular (start .args .w) (start .args .rows)) (start .pre .need) pieces
 
 pub step-layer-gas-spec : {M : Type 1} → statement M
 step-layer-gas-spec =

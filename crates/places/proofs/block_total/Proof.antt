@@ -6,6 +6,7 @@ use native.Mathlib.Omega.{arith}
 use lib.ListN.{length}
 use Rattle.model.specs.Basic.{at, sum}
 use Rattle.places.specs.Totals.{BlockSum, block-none, block-more, bits-below, halves-total}
+use Rattle.units.specs.The.{the}
 use borrow.Author.Needs.{needs}
 use Rattle.places.proofs.block_total.Statement.{statement}
 use Rattle.places.proofs.block_total.Tie as tie
@@ -49,15 +50,17 @@ loop-less c = search needs
 
 loop-again : tie.Need-loop-again Inv-loop μ-loop
 loop-again c =
-    let l = c .before .before .before .before .before .loop in
-    let gas = c .before .before .before .before .before .before .before .args .gas .now in
+    let start : tie.Start Inv-loop μ-loop = search in
+    let l = the (tie.At-loop Inv-loop μ-loop) (search) .loop in
+    let inside = the (tie.In-loop Inv-loop μ-loop) (search) .loop-test .taken in
+    let gas = start .args .gas .now in
     let half : ℕ = length gas / 2 in (
       search needs,
       λ h.
           let below = bits-below (l .all) (at gas (l .i)) (at gas (half + l .i)) h in
           let old = l .inv .1 (below .0) in (
-            rw (c .before .wrapping-add-u32 .ensures) (block-more (l .first) (at gas (l .i)) (l .i) (at gas) (omega (arith, c .before .before .before .before .loop-test .taken, c .before .before .before .before .before .before .before .pre)) (old .0) refl (below .1)),
-            rw (c .wrapping-add-u322 .ensures) (block-more (l .second) (at gas (half + l .i)) (l .i) (λ k. at gas (half + k)) (omega (arith, c .before .before .before .before .loop-test .taken, c .before .before .before .before .before .before .before .pre)) (old .1) refl (below .2)),
+            rw (c .before .wrapping-add-u32 .ensures) (block-more (l .first) (at gas (l .i)) (l .i) (at gas) (omega (arith, inside, start .pre)) (old .0) refl (below .1)),
+            rw (c .wrapping-add-u322 .ensures) (block-more (l .second) (at gas (half + l .i)) (l .i) (λ k. at gas (half + k)) (omega (arith, inside, start .pre)) (old .1) refl (below .2)),
           ),
     )
 
@@ -86,21 +89,30 @@ wide-total-requires-2 : tie.Need-wide-total-requires-2 Inv-loop μ-loop
 wide-total-requires-2 c κs = search needs
 
 cast-result : tie.Need-cast-result Inv-loop μ-loop
-cast-result c = let done = c .before .before .before .before .loop .inv .1 (c .before .before .if1 .taken) in search needs
+cast-result c =
+    let l = the (tie.At-loop Inv-loop μ-loop) (search) .loop in
+    let done = l .inv .1 (c .before .before .if1 .taken) in search needs
 
 cast-result-2 : tie.Need-cast-result-2 Inv-loop μ-loop
-cast-result-2 c = let done = c .before .before .before .before .loop .inv .1 (c .before .before .if1 .taken) in search needs
+cast-result-2 c =
+    let l = the (tie.At-loop Inv-loop μ-loop) (search) .loop in
+    let done = l .inv .1 (c .before .before .if1 .taken) in search needs
 
 add-result : tie.Need-add-result Inv-loop μ-loop
-add-result c = let done = c .before .before .before .before .loop .inv .1 (c .before .before .if1 .taken) in search needs
+add-result c =
+    let l = the (tie.At-loop Inv-loop μ-loop) (search) .loop in
+    let done = l .inv .1 (c .before .before .if1 .taken) in search needs
 
 add-result-2 : tie.Need-add-result-2 Inv-loop μ-loop
-add-result-2 c = let done = c .before .before .before .before .loop .inv .1 (c .before .before .if1 .taken) in search needs
+add-result-2 c =
+    let l = the (tie.At-loop Inv-loop μ-loop) (search) .loop in
+    let done = l .inv .1 (c .before .before .if1 .taken) in search needs
 
 returns-2 : tie.Need-returns-2 Inv-loop μ-loop
 returns-2 c =
-    let l = c .before .before .before .before .loop in
-    let gas = c .before .before .before .before .before .before .args .gas .now in
+    let gas = the (tie.Start Inv-loop μ-loop) (search) .args .gas .now in
+    let turn : tie.At-loop Inv-loop μ-loop = search in
+    let l = turn .loop in
     let end : l .i ≡ length gas / 2 = omega arith in
     let done = rw end at (l .inv .1 (c .before .before .if1 .taken)) in
     halves-total gas (length gas / 2) (l .first) (l .second) _ (omega arith) (done .0) (done .1) (c .wide-total2 .ensures)

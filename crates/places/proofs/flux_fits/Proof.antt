@@ -4,6 +4,7 @@ use mathlib.Core.Path.{_≡_}
 use mir.Syntax.{w32}
 use mir.Val.{toZ, ofZ}
 use Rattle.places.specs.Fluxes.{size-fits}
+use Rattle.units.specs.The.{the}
 use borrow.Author.Needs.{needs}
 use Rattle.places.proofs.flux_fits.Statement.{statement}
 use Rattle.places.proofs.flux_fits.Tie as tie
@@ -13,8 +14,10 @@ split-requires c κs = search needs
 
 returns : tie.Need-returns
 returns c =
-    let same : toZ w32 (ofZ w32 (c .before .before .before .before .before .before .before .args .f)) ≡ c .before .before .before .before .before .before .before .args .f = search needs in
-    size-fits (c .before .before .before .before .before .before .before .args .f) (c .before .before .before .before .before .before .before .args .limit .0) _ _ (rw same at (c .before .before .before .before .before .before .split .ensures .high)) (rw same at (c .before .before .before .before .before .before .split .ensures .low))
+    let start : tie.Start = search in
+    let halves = the tie.After-split (search) .split .ensures in
+    let same : toZ w32 (ofZ w32 (start .args .f)) ≡ start .args .f = search needs in
+    size-fits (start .args .f) (start .args .limit .0) _ _ (rw same at (halves .high)) (rw same at (halves .low))
 
 pub flux-fits-spec : {M : Type 1} → statement M
 flux-fits-spec = tie.close (tie.spec split-requires returns)

@@ -42,7 +42,8 @@ loop-less c = search needs
 
 loop-again : tie.Need-loop-again Inv-loop μ-loop
 loop-again c =
-    let same : toZ w32 (ofZ w32 (getD (c .before .before .before .before .args .fluxes .now) (c .before .before .before .loop .i) (pos 0))) ≡ getD (c .before .before .before .before .args .fluxes .now) (c .before .before .before .loop .i) (pos 0) = search (needs, c .before .f .given) in (
+    let start : tie.Start Inv-loop μ-loop = search in
+    let same : toZ w32 (ofZ w32 (getD (start .args .fluxes .now) (c .before .before .before .loop .i) (pos 0))) ≡ getD (start .args .fluxes .now) (c .before .before .before .loop .i) (pos 0) = search (needs, c .before .f .given) in (
       search needs,
       ap₂ _&&_ (c .before .before .before .loop .inv .1) (rw same at (c .flux-fits .ensures)) ∙
           sym (every-more (c .before .before .before .loop .i) _),

@@ -7,6 +7,7 @@ use lib.ListN.{length}
 use Rattle.model.specs.Basic.{at, part, sum as total}
 use Rattle.model.specs.Laws.Basic.{sum-none, length-part}
 use Rattle.places.specs.Totals.{sum-block}
+use Rattle.units.specs.The.{the}
 use borrow.Author.Needs.{needs}
 use Rattle.places.proofs.gas_total.Statement.{statement}
 use Rattle.places.proofs.gas_total.Tie as tie
@@ -37,7 +38,7 @@ part-block-total-end c = search needs
 
 block-total-requires : tie.Need-block-total-requires Inv-loop μ-loop
 block-total-requires c κs =
-    let gas = c .before .before .before .before .before .args .gas .now in
+    let gas = the (tie.Start Inv-loop μ-loop) (search) .args .gas .now in
     let a = c .before .before .before .loop .a in
     let e = c .before .block-end in
     let size : length (part gas a (e .result - a)) ≡ e .result - a = length-part gas a (e .result - a) (omega (arith, e .ensures .0, e .ensures .1)) in
@@ -45,8 +46,8 @@ block-total-requires c κs =
 
 add-sum : tie.Need-add-sum Inv-loop μ-loop
 add-sum c =
-    let gas = c .before .before .before .before .before .before .args .gas .now in
-    let a = c .before .before .before .before .loop .a in
+    let gas = the (tie.Start Inv-loop μ-loop) (search) .args .gas .now in
+    let a = the (tie.At-loop Inv-loop μ-loop) (search) .loop .a in
     let e = c .before .before .block-end in
     let size : length (part gas a (e .result - a)) ≡ e .result - a = length-part gas a (e .result - a) (omega (arith, e .ensures .0, e .ensures .1)) in
     omega (arith, size, c .block-total .ensures .small, e .ensures .0, e .ensures .1)
@@ -56,8 +57,8 @@ loop-less c = search needs
 
 loop-again : tie.Need-loop-again Inv-loop μ-loop
 loop-again c =
-    let gas = c .before .before .before .before .before .before .args .gas .now in
-    let a = c .before .before .before .before .loop .a in
+    let gas = the (tie.Start Inv-loop μ-loop) (search) .args .gas .now in
+    let a = the (tie.At-loop Inv-loop μ-loop) (search) .loop .a in
     let e = c .before .before .block-end in
     let size : length (part gas a (e .result - a)) ≡ e .result - a = length-part gas a (e .result - a) (omega (arith, e .ensures .0, e .ensures .1)) in (
       e .ensures .1,

@@ -29,7 +29,7 @@ add-result c = search needs
 
 mul-result : tie.Need-mul-result
 mul-result c =
-    let start = c .before .before .before .before .before .before in
+    let start : tie.Start = search in
     let g = start .pre in
     record { fits = omega (arith, mul-le-mul (g .highW) (g .highR), g .highW) }
 

@@ -53,7 +53,8 @@ loop-less c = search needs
 
 loop-again : tie.Need-loop-again Inv-loop μ-loop
 loop-again c =
-    let room = tracer-room (c .before .before .before .before .before .pre) (c .before .before .before .loop .t) (search needs) in (
+    let start : tie.Start Inv-loop μ-loop = search in
+    let room = tracer-room (start .pre) (c .before .before .before .loop .t) (search needs) in (
       search needs,
       search needs,
       totals-more _ _ _ _ _ (search needs) (c .before .before .before .loop .inv .2) (part-total _ _ _ _ (room .0) (c .gas-total .ensures .0), c .gas-total .ensures .1),

@@ -40,7 +40,9 @@ number-1-requires : tie.Need-number-1-requires
 number-1-requires c κs = let start = c .before .before .before in omega (arith, whole-of (start .args .kind) Zonal (start .args .body .now) (start .pre) (cc))
 
 number-1-requires-2 : tie.Need-number-1-requires-2
-number-1-requires-2 c κs = let start = c .before .before .before .before in omega (arith, whole-of (start .args .kind) Zonal (start .args .body .now) (start .pre) (cc))
+number-1-requires-2 c κs =
+    let start : tie.Start = search in
+    omega (arith, whole-of (start .args .kind) Zonal (start .args .body .now) (start .pre) (cc))
 
 enum-told-7 : tie.Need-enum-told-7
 enum-told-7 c = search needs
@@ -64,7 +66,9 @@ number-1-requires-5 : tie.Need-number-1-requires-5
 number-1-requires-5 c κs = let start = c .before .before .before in omega (arith, whole-of (start .args .kind) Cell (start .args .body .now) (start .pre) (cc))
 
 number-2-requires : tie.Need-number-2-requires
-number-2-requires c κs = let start = c .before .before .before .before in omega (arith, whole-of (start .args .kind) Cell (start .args .body .now) (start .pre) (cc))
+number-2-requires c κs =
+    let start : tie.Start = search in
+    omega (arith, whole-of (start .args .kind) Cell (start .args .body .now) (start .pre) (cc))
 
 returns : tie.Need-returns
 returns c = absurd (let e : false ≡ true = cc (c .before .before .before .pre .known) in false≢true e)
@@ -82,19 +86,27 @@ returns-5 : tie.Need-returns-5
 returns-5 c = record { commands = λ g. cc (c .parse-amount2 .ensures .tracerIs, c .parse-amount2 .ensures .cellIs, c .parse-amount2 .ensures .amountIs); sameKind = cc }
 
 returns-6 : tie.Need-returns-6
-returns-6 c = record { commands = λ g. cc (c .before .number-1 .ensures .0, c .number-12 .ensures .0, number-one (c .before .before .before .before .before .args .body .now) 0 (let start = c .before .before .before .before .before in omega (arith, whole-of (start .args .kind) Zonal (start .args .body .now) (start .pre) (cc))), number-one (c .before .before .before .before .before .args .body .now) 1 (let start = c .before .before .before .before .before in omega (arith, whole-of (start .args .kind) Zonal (start .args .body .now) (start .pre) (cc)))); sameKind = cc }
+returns-6 c =
+    let start : tie.Start = search in
+    record { commands = λ g. cc (c .before .number-1 .ensures .0, c .number-12 .ensures .0, number-one (start .args .body .now) 0 (omega (arith, whole-of (start .args .kind) Zonal (start .args .body .now) (start .pre) (cc))), number-one (start .args .body .now) 1 (omega (arith, whole-of (start .args .kind) Zonal (start .args .body .now) (start .pre) (cc)))); sameKind = cc }
 
 returns-7 : tie.Need-returns-7
-returns-7 c = record { commands = λ g. cc (c .number-13 .ensures .0, number-one (c .before .before .before .before .args .body .now) 0 (let start = c .before .before .before .before in omega (arith, whole-of (start .args .kind) Meridional (start .args .body .now) (start .pre) (cc)))); sameKind = cc }
+returns-7 c =
+    let start : tie.Start = search in
+    record { commands = λ g. cc (c .number-13 .ensures .0, number-one (start .args .body .now) 0 (omega (arith, whole-of (start .args .kind) Meridional (start .args .body .now) (start .pre) (cc)))); sameKind = cc }
 
 returns-8 : tie.Need-returns-8
 returns-8 c = record { commands = λ g. cc; sameKind = cc }
 
 returns-9 : tie.Need-returns-9
-returns-9 c = record { commands = λ g. cc (c .number-14 .ensures .0, number-one (c .before .before .before .before .args .body .now) 0 (let start = c .before .before .before .before in omega (arith, whole-of (start .args .kind) Total (start .args .body .now) (start .pre) (cc)))); sameKind = cc }
+returns-9 c =
+    let start : tie.Start = search in
+    record { commands = λ g. cc (c .number-14 .ensures .0, number-one (start .args .body .now) 0 (omega (arith, whole-of (start .args .kind) Total (start .args .body .now) (start .pre) (cc)))); sameKind = cc }
 
 returns-10 : tie.Need-returns-10
-returns-10 c = record { commands = λ g. cc (c .before .number-15 .ensures .0, c .number-2 .ensures .0, number-one (c .before .before .before .before .before .args .body .now) 0 (let start = c .before .before .before .before .before in omega (arith, whole-of (start .args .kind) Cell (start .args .body .now) (start .pre) (cc)))); sameKind = cc }
+returns-10 c =
+    let start : tie.Start = search in
+    record { commands = λ g. cc (c .before .number-15 .ensures .0, c .number-2 .ensures .0, number-one (start .args .body .now) 0 (omega (arith, whole-of (start .args .kind) Cell (start .args .body .now) (start .pre) (cc)))); sameKind = cc }
 
 pub parse-spec : {M : Type 1} → statement M
 parse-spec =

@@ -18,7 +18,7 @@ number-4-requires c κs = search needs
 
 returns : tie.Need-returns
 returns c =
-    let start = c .before .before .before .before in
+    let start : tie.Start = search in
     record {
       tracerIs = c .before .before .number-1 .ensures .0 ∙ number-one (start .args .body .now) 0 (omega (arith, start .pre));
       cellIs = c .before .number-2 .ensures .0;

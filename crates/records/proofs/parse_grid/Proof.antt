@@ -21,7 +21,7 @@ number-1-requires-4 c κs = search needs
 
 returns : tie.Need-returns
 returns c =
-    let start = c .before .before .before .before .before in
+    let start : tie.Start = search in
     let body = start .args .body .now in
     λ i.
     record {

@@ -5,6 +5,7 @@ use mathlib.Core.Path.{sym, _∙_}
 use native.Mathlib.Omega.{arith}
 use borrow.Author.Count.{below-more}
 use Rattle.row.specs.Substeps.{NoneBelow, found-first, found-none}
+use Rattle.units.specs.The.{the}
 use borrow.Author.Needs.{needs}
 use Rattle.row.proofs.count.Statement.{statement}
 use Rattle.row.proofs.count.Tie as tie
@@ -23,8 +24,8 @@ copy-serves-requires c κs = search needs
 
 returns : tie.Need-returns Inv-loop μ-loop
 returns c =
+    let a = the (tie.Start Inv-loop μ-loop) (search) .args in
     let l = c .before .before .before .loop in
-    let a = c .before .before .before .before .before .args in
     found-first (a .air .now) (a .fluxes .now) (l .n) (l .inv .0) (search needs) (l .inv .2) (sym (c .before .copy-serves .ensures) ∙ c .if1 .taken)
 
 add-n : tie.Need-add-n Inv-loop μ-loop

@@ -9,6 +9,7 @@ use Rattle.model.specs.Sweep.{ring}
 use Rattle.substep.specs.Faces.{flowOf}
 use Rattle.substep.specs.Cells.{Moved, moved-none, moved-exchange, moved-more, all-moved}
 use Rattle.row.specs.Columns.{column}
+use Rattle.units.specs.The.{the}
 use borrow.Author.Needs.{needs}
 use Rattle.row.proofs.pass_row.Statement.{statement}
 use Rattle.row.proofs.pass_row.Tie as tie
@@ -64,10 +65,11 @@ both-requires-2 c κs = search needs
 
 amount-after-requires : tie.Need-amount-after-requires Inv-loop μ-loop
 amount-after-requires c κs =
-    let l = c .before .before .before .before .before .before .before .before .before .loop in
-    let start = c .before .before .before .before .before .before .before .before .before .before .before .before .before in
+    let start : tie.Start Inv-loop μ-loop = search in
+    let l = the (tie.At-loop Inv-loop μ-loop) (search) .loop in
+    let west = the (tie.After-west-of Inv-loop μ-loop) (search) .west-of .ensures .0 in
     let a = start .args in
-    let own = column (length (a .amounts .now)) (l .i) (search needs) (flowOf (a .up .now) (a .down .now)) _ (c .before .before .before .before .before .before .before .west-of .ensures .0) in
+    let own = column (length (a .amounts .now)) (l .i) (search needs) (flowOf (a .up .now) (a .down .now)) _ west in
     rw (c .before .before .before .both .ensures .0, c .both2 .ensures .0) (moved-exchange (start .pre .moves) (l .inv .2) own)
 
 mul-amounts : tie.Need-mul-amounts Inv-loop μ-loop
@@ -84,13 +86,15 @@ loop-less c = search needs
 
 loop-again : tie.Need-loop-again Inv-loop μ-loop
 loop-again c =
-    let l = c .before .before .before .before .before .before .before .before .before .before .loop in
-    let start = c .before .before .before .before .before .before .before .before .before .before .before .before .before .before in
+    let start : tie.Start Inv-loop μ-loop = search in
+    let l = the (tie.At-loop Inv-loop μ-loop) (search) .loop in
+    let west = the (tie.After-west-of Inv-loop μ-loop) (search) .west-of .ensures .0 in
+    let inflow = the (tie.After-both Inv-loop μ-loop) (search) .both .ensures .0 in
     let a = start .args in
-    let own = column (length (a .amounts .now)) (l .i) (search needs) (flowOf (a .up .now) (a .down .now)) _ (c .before .before .before .before .before .before .before .before .west-of .ensures .0) in (
+    let own = column (length (a .amounts .now)) (l .i) (search needs) (flowOf (a .up .now) (a .down .now)) _ west in (
       search needs,
       search needs,
-      moved-more (start .pre .moves) (l .inv .2) own _ (c .amount-after .ensures ∙ ap₂ (λ (e o : ℕ). at (l .amounts) (l .i) + e - o) (c .before .before .before .before .both .ensures .0) (c .before .both2 .ensures .0)),
+      moved-more (start .pre .moves) (l .inv .2) own _ (c .amount-after .ensures ∙ ap₂ (λ (e o : ℕ). at (l .amounts) (l .i) + e - o) inflow (c .before .both2 .ensures .0)),
     )
 
 same-length : tie.Need-same-length Inv-loop μ-loop
@@ -99,8 +103,8 @@ same-length c = search needs
 returns : tie.Need-returns Inv-loop μ-loop
 unfolding ring
 returns c =
+    let start : tie.Start Inv-loop μ-loop = search in
     let l = c .before .loop in
-    let start = c .before .before .before .before .before in
     let done : l .i ≡ length (start .args .amounts .now) = omega arith in
     all-moved (start .pre .moves) (rw done at (l .inv .2))
 

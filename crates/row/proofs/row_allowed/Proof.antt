@@ -11,6 +11,7 @@ use Rattle.model.specs.Laws.Basic.{every-none, every-more}
 use Rattle.substep.specs.Faces.{flowOf}
 use Rattle.substep.specs.Cells.{mayPass, cellAllowed, cell-allows}
 use Rattle.row.specs.Columns.{allowed-columns, column}
+use Rattle.units.specs.The.{the}
 use borrow.Author.Needs.{needs}
 use Rattle.row.proofs.row_allowed.Statement.{statement}
 use Rattle.row.proofs.row_allowed.Tie as tie
@@ -76,21 +77,23 @@ loop-less c = search needs
 
 loop-again : tie.Need-loop-again Inv-loop μ-loop
 loop-again c =
-    let l = c .before .before .before .before .before .before .before .before .before .before .loop in
-    let a = c .before .before .before .before .before .before .before .before .before .before .before .before .before .before .args in
+    let a = the (tie.Start Inv-loop μ-loop) (search) .args in
+    let l = the (tie.At-loop Inv-loop μ-loop) (search) .loop in
+    let west = the (tie.After-west-of Inv-loop μ-loop) (search) .west-of .ensures .0 in
+    let inflow = the (tie.After-both Inv-loop μ-loop) (search) .both .ensures .0 in
     let w : ℕ = length (a .air .now) in
     let flow = flowOf (a .up .now) (a .down .now) in
-    let own = column w (l .i) (search needs) flow _ (c .before .before .before .before .before .before .before .before .west-of .ensures .0) in (
+    let own = column w (l .i) (search needs) flow _ west in (
       search needs,
       search needs,
-      ap₂ _&&_ (l .inv .2) (c .cell-allows .ensures ∙ ap₂ (mayPass (at (a .air .now) (l .i))) (c .before .before .before .before .both .ensures .0) (c .before .both2 .ensures .0) ∙ cell-allows own (a .air .now)) ∙
+      ap₂ _&&_ (l .inv .2) (c .cell-allows .ensures ∙ ap₂ (mayPass (at (a .air .now) (l .i))) inflow (c .before .both2 .ensures .0) ∙ cell-allows own (a .air .now)) ∙
           sym (every-more (l .i) (cellAllowed (ring w) flow (a .air .now))),
     )
 
 returns : tie.Need-returns Inv-loop μ-loop
 returns c =
+    let a = the (tie.Start Inv-loop μ-loop) (search) .args in
     let l = c .before .loop in
-    let a = c .before .before .before .before .before .args in
     let done : l .i ≡ length (a .air .now) = omega arith in
     l .inv .2 ∙ ap (λ (n : ℕ). every n (cellAllowed (ring (length (a .air .now))) (flowOf (a .up .now) (a .down .now)) (a .air .now))) done ∙
     allowed-columns (length (a .air .now)) (flowOf (a .up .now) (a .down .now)) (a .air .now)

@@ -11,6 +11,7 @@ use Rattle.model.specs.Laws.Basic.{every-none, every-more}
 use Rattle.substep.specs.Faces.{flowOf}
 use Rattle.substep.specs.Cells.{air-moves}
 use Rattle.row.specs.Substeps.{chain, may, chain-start, chain-more, may-step, serves-is, serves-not}
+use Rattle.units.specs.The.{the}
 use borrow.Author.Needs.{needs}
 use Rattle.row.proofs.serves.Statement.{statement}
 use Rattle.row.proofs.serves.Tie as tie
@@ -56,16 +57,16 @@ same-length c = search needs
 
 returns : tie.Need-returns Inv-loop μ-loop
 returns c =
-    let start = c .before .before .before .before .before .before .before .before .before .before .before .before .before in
-    let l-call = c .before .before .before .before .before .before .before .before .before .before .before .loop in
-    let fill-parts-call = c .before .before .before .before .before .before .before .fill-parts in
-    let l = l-call in
+    let start : tie.Start Inv-loop μ-loop = search in
+    let l = the (tie.At-loop Inv-loop μ-loop) (search) .loop in
+    let inside = the (tie.In-loop Inv-loop μ-loop) (search) .loop-test .taken in
+    let parts = the (tie.After-fill-parts Inv-loop μ-loop) (search) .fill-parts in
     let a = start .args in
-    let up = fill-parts-call .last .1 .1 .1 .0 in
-    let down = fill-parts-call .last .1 .1 .1 .1 .0 in
+    let up = parts .last .1 .1 .1 .0 in
+    let down = parts .last .1 .1 .1 .1 .0 in
     let wide : length (l .air) ≡ length (a .fluxes .now) = l .inv .3 ∙ start .pre .long in
-    let tested = c .before .row-allowed .ensures ∙ ap (λ (w : ℕ). allowed (ring w) (flowOf up down) (l .air)) wide ∙ may-step (a .fluxes .now) (a .n) (a .air .now) (l .s) up down (l .air) (fill-parts-call .ensures) (l .inv .4) in
-    sym (serves-not (a .fluxes .now) (a .n) (a .air .now) (l .s) (omega (arith, c .before .before .before .before .before .before .before .before .before .before .loop-test .taken)) (sym tested ∙ c .if1 .left))
+    let tested = c .before .row-allowed .ensures ∙ ap (λ (w : ℕ). allowed (ring w) (flowOf up down) (l .air)) wide ∙ may-step (a .fluxes .now) (a .n) (a .air .now) (l .s) up down (l .air) (parts .ensures) (l .inv .4) in
+    sym (serves-not (a .fluxes .now) (a .n) (a .air .now) (l .s) (omega (arith, inside)) (sym tested ∙ c .if1 .left))
 
 slice-aggregate-pass-row : tie.Need-slice-aggregate-pass-row Inv-loop μ-loop
 slice-aggregate-pass-row c = search needs
@@ -76,9 +77,10 @@ slice-aggregate-pass-row-2 c = search needs
 pass-row-requires : tie.Need-pass-row-requires Inv-loop μ-loop
 unfolding ring
 pass-row-requires c κs =
+    let allowed-is = the (tie.After-row-allowed Inv-loop μ-loop) (search) .row-allowed .ensures in
     record {
       room = record { high = search needs; low = search needs };
-      moves = air-moves _ _ _ refl (sym (c .before .before .before .before .row-allowed .ensures) ∙ c .before .before .before .if1 .taken);
+      moves = air-moves _ _ _ refl (sym allowed-is ∙ c .before .before .before .if1 .taken);
     }
 
 add-s : tie.Need-add-s Inv-loop μ-loop
@@ -89,21 +91,23 @@ loop-less c = search needs
 
 loop-again : tie.Need-loop-again Inv-loop μ-loop
 loop-again c =
-    let start = c .before .before .before .before .before .before .before .before .before .before .before .before .before .before .before .before .before .before .before in
-    let l-call = c .before .before .before .before .before .before .before .before .before .before .before .before .before .before .before .before .before .loop in
-    let fill-parts-call = c .before .before .before .before .before .before .before .before .before .before .before .before .before .fill-parts in
-    let l = l-call in
+    let start : tie.Start Inv-loop μ-loop = search in
+    let l = the (tie.At-loop Inv-loop μ-loop) (search) .loop in
+    let inside = the (tie.In-loop Inv-loop μ-loop) (search) .loop-test .taken in
+    let parts = the (tie.After-fill-parts Inv-loop μ-loop) (search) .fill-parts in
+    let allowed-is = the (tie.After-row-allowed Inv-loop μ-loop) (search) .row-allowed .ensures in
+    let row-allowed = the (tie.Then1 Inv-loop μ-loop) (search) .if1 .taken in
     let a = start .args in
-    let up = fill-parts-call .last .1 .1 .1 .0 in
-    let down = fill-parts-call .last .1 .1 .1 .1 .0 in
+    let up = parts .last .1 .1 .1 .0 in
+    let down = parts .last .1 .1 .1 .1 .0 in
     let wide : length (l .air) ≡ length (a .fluxes .now) = l .inv .3 ∙ start .pre .long in
-    let tested = c .before .before .before .before .before .before .before .row-allowed .ensures ∙ ap (λ (w : ℕ). allowed (ring w) (flowOf up down) (l .air)) wide ∙ may-step (a .fluxes .now) (a .n) (a .air .now) (l .s) up down (l .air) (fill-parts-call .ensures) (l .inv .4) in (
-      omega (arith, c .before .before .before .before .before .before .before .before .before .before .before .before .before .before .before .before .loop-test .taken),
+    let tested = allowed-is ∙ ap (λ (w : ℕ). allowed (ring w) (flowOf up down) (l .air)) wide ∙ may-step (a .fluxes .now) (a .n) (a .air .now) (l .s) up down (l .air) (parts .ensures) (l .inv .4) in (
+      omega (arith, inside),
       search needs,
       search needs,
       search needs,
-      c .before .before .pass-row .ensures ∙ ap (λ (w : ℕ). afterFlow (ring w) (flowOf up down) (l .air)) wide ∙ chain-more (a .fluxes .now) (a .n) (a .air .now) (l .s) up down (l .air) (fill-parts-call .ensures) (l .inv .4),
-      every-more (l .s) (may (a .fluxes .now) (a .n) (a .air .now)) ∙ ap₂ _&&_ (l .inv .5) (sym tested ∙ c .before .before .before .before .before .before .if1 .taken),
+      c .before .before .pass-row .ensures ∙ ap (λ (w : ℕ). afterFlow (ring w) (flowOf up down) (l .air)) wide ∙ chain-more (a .fluxes .now) (a .n) (a .air .now) (l .s) up down (l .air) (parts .ensures) (l .inv .4),
+      every-more (l .s) (may (a .fluxes .now) (a .n) (a .air .now)) ∙ ap₂ _&&_ (l .inv .5) (sym tested ∙ row-allowed),
     )
 
 same-length-2 : tie.Need-same-length-2 Inv-loop μ-loop

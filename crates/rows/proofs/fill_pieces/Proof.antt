@@ -8,6 +8,7 @@ use Rattle.model.specs.Scheme.{mismatch}
 use Rattle.model.specs.Sweep.{ring, pieces}
 use Rattle.substep.specs.Faces.{flowOf, Same, same-none, same-more}
 use Rattle.rows.specs.Gas.{face-gives-high, face-high, face-gives-low, face-low}
+use Rattle.units.specs.The.{the}
 use borrow.Author.Needs.{needs}
 use Rattle.rows.proofs.fill_pieces.Statement.{statement}
 use Rattle.rows.proofs.fill_pieces.Tie as tie
@@ -43,8 +44,9 @@ shared-slice-read-t18 c = search needs
 
 high-end-requires : tie.Need-high-end-requires Inv-loop μ-loop
 high-end-requires c κs =
-    let start = c .before .before .before .before .before .before .before .before .before .before .before .before .before in
-    face-gives-high (start .pre) (c .before .before .before .before .before .loop .i) (search needs) _ (c .before .before .east-of .ensures .0) _ (c .before .before .before .west-of .ensures .0)
+    let start : tie.Start Inv-loop μ-loop = search in
+    let l = the (tie.At-loop Inv-loop μ-loop) (search) .loop in
+    face-gives-high (start .pre) (l .i) (search needs) _ (c .before .before .east-of .ensures .0) _ (c .before .before .before .west-of .ensures .0)
 
 mul-t16-2 : tie.Need-mul-t16-2 Inv-loop μ-loop
 mul-t16-2 c = search needs
@@ -54,8 +56,10 @@ shared-slice-read-t18-2 c = search needs
 
 low-end-requires : tie.Need-low-end-requires Inv-loop μ-loop
 low-end-requires c κs =
-    let start = c .before .before .before .before .before .before .before .before .before .before .before .before .before .before .before in
-    face-gives-low (start .pre) (c .before .before .before .before .before .before .before .loop .i) (search needs) _ (c .before .before .before .before .east-of .ensures .0) _ (c .before .before .before .east-of2 .ensures .0)
+    let start : tie.Start Inv-loop μ-loop = search in
+    let l = the (tie.At-loop Inv-loop μ-loop) (search) .loop in
+    let east = the (tie.After-east-of Inv-loop μ-loop) (search) .east-of .ensures .0 in
+    face-gives-low (start .pre) (l .i) (search needs) _ east _ (c .before .before .before .east-of2 .ensures .0)
 
 mul-high : tie.Need-mul-high Inv-loop μ-loop
 mul-high c = search needs
@@ -77,17 +81,19 @@ loop-less c = search needs
 
 loop-again : tie.Need-loop-again Inv-loop μ-loop
 loop-again c =
-    let l = c .before .before .before .before .before .before .before .before .loop in
-    let need = c .before .before .before .before .before .before .before .before .before .before .before .before .before .before .before .before .pre in
-    let inside = c .before .before .before .before .before .before .before .loop-test .taken in
-    let east = c .before .before .before .before .before .east-of .ensures .0 in (
+    let need = the (tie.Start Inv-loop μ-loop) (search) .pre in
+    let l = the (tie.At-loop Inv-loop μ-loop) (search) .loop in
+    let inside = the (tie.In-loop Inv-loop μ-loop) (search) .loop-test .taken in
+    let west = the (tie.After-west-of Inv-loop μ-loop) (search) .west-of .ensures .0 in
+    let east = the (tie.After-east-of Inv-loop μ-loop) (search) .east-of .ensures .0 in
+    let next = the (tie.After-east-of2 Inv-loop μ-loop) (search) .east-of2 .ensures .0 in (
       search needs,
       search needs,
       search needs,
       search needs,
       same-more (l .high) (l .low) _ (l .i) _ _ (search needs) (search needs) (l .inv .4)
-          (c .before .before .high-end .ensures ∙ face-high need (l .i) (search needs) _ east _ (c .before .before .before .before .before .before .west-of .ensures .0))
-          (c .low-end .ensures ∙ face-low need (l .i) (search needs) _ east _ (c .before .before .before .before .east-of2 .ensures .0)),
+          (c .before .before .high-end .ensures ∙ face-high need (l .i) (search needs) _ east _ west)
+          (c .low-end .ensures ∙ face-low need (l .i) (search needs) _ east _ next),
     )
 
 same-length : tie.Need-same-length Inv-loop μ-loop
@@ -98,8 +104,9 @@ same-length-2 c = search needs
 
 returns : tie.Need-returns Inv-loop μ-loop
 returns c =
+    let start : tie.Start Inv-loop μ-loop = search in
     let l = c .before .loop in
-    let done : l .i ≡ length (c .before .before .before .before .before .before .before .before .before .args .air .now) = omega arith in
+    let done : l .i ≡ length (start .args .air .now) = omega arith in
     rw done at (l .inv .4)
 
 pub fill-pieces-spec : {M : Type 1} → statement M

@@ -5,6 +5,7 @@ use mathlib.Core.Path.{_≡_, refl}
 use native.Mathlib.Omega.{arith}
 use lib.ListN.{length}
 use Rattle.rows.specs.Rows.{AreRows, rows-none, rows-more, row-room}
+use Rattle.units.specs.The.{the}
 use borrow.Author.Needs.{needs}
 use Rattle.rows.proofs.load_rows.Statement.{statement}
 use Rattle.rows.proofs.load_rows.Tie as tie
@@ -65,9 +66,10 @@ loop-less c = search needs
 
 loop-again : tie.Need-loop-again Inv-loop μ-loop
 loop-again c =
-    let l = c .before .before .before .before .before .loop in
-    let start = c .before .before .before .before .before .before .before in
-    let room = row-room (start .pre) (l .t) (omega (arith, c .before .before .before .before .loop-test .taken)) .0 in (
+    let start : tie.Start Inv-loop μ-loop = search in
+    let l = the (tie.At-loop Inv-loop μ-loop) (search) .loop in
+    let inside = the (tie.In-loop Inv-loop μ-loop) (search) .loop-test .taken in
+    let room = row-room (start .pre) (l .t) (omega (arith, inside)) .0 in (
       search needs,
       search needs,
       rows-more _ _ _ _ _ _ room (l .inv .2) _ (c .before .copy .last .1 .0) (search needs) refl (start .pre .fewColumns) (c .before .copy .ensures),

@@ -2,6 +2,7 @@
 -- Assumes nothing.
 use mathlib.Core.Path.{_∙_}
 use Rattle.rows.specs.Gas.{ratios-need, pieces-pass, pieces-passed}
+use Rattle.units.specs.The.{the}
 use borrow.Author.Needs.{needs}
 use Rattle.rows.proofs.step_gas.Statement.{statement}
 use Rattle.rows.proofs.step_gas.Tie as tie
@@ -10,7 +11,9 @@ slice-aggregate-fill-ratios : tie.Need-slice-aggregate-fill-ratios
 slice-aggregate-fill-ratios c = search needs
 
 fill-ratios-requires : tie.Need-fill-ratios-requires
-fill-ratios-requires c κs = ratios-need (c .before .before .before .before .before .before .pre) _ (c .before .before .before .before .before .before .pre .wide)
+fill-ratios-requires c κs =
+    let start : tie.Start = search in
+    ratios-need (start .pre) _ (start .pre .wide)
 
 slice-aggregate-fill-pieces : tie.Need-slice-aggregate-fill-pieces
 slice-aggregate-fill-pieces c = search needs
@@ -32,17 +35,18 @@ slice-aggregate-pass-row-2 c = search needs
 
 pass-row-requires : tie.Need-pass-row-requires
 pass-row-requires c κs =
-    let start = c .before .before .before .before .before .before .before .before .before .before .before .before .before .before .before .before .before .before in
-    pieces-pass (start .pre) _ _ (c .before .before .before .before .before .fill-pieces .ensures) (record { high = search needs; low = search needs })
+    let start : tie.Start = search in
+    let pieces = the tie.After-fill-pieces (search) .fill-pieces .ensures in
+    pieces-pass (start .pre) _ _ pieces (record { high = search needs; low = search needs })
 
 same-length : tie.Need-same-length
 same-length c = search needs
 
 returns : tie.Need-returns
 returns c =
-    let start = c .before .before .before .before .before .before .before .before .before .before .before .before .before .before .before .before .before .before .before .before .before in
-    let fill-pieces-call = c .before .before .before .before .before .before .before .before .fill-pieces in
-    c .before .before .pass-row .ensures ∙ pieces-passed (start .pre) (fill-pieces-call .last .1 .1 .1 .1 .1 .0) (fill-pieces-call .last .1 .1 .1 .1 .1 .1 .0) (fill-pieces-call .ensures)
+    let start : tie.Start = search in
+    let pieces = the tie.After-fill-pieces (search) .fill-pieces in
+    c .before .before .pass-row .ensures ∙ pieces-passed (start .pre) (pieces .last .1 .1 .1 .1 .1 .0) (pieces .last .1 .1 .1 .1 .1 .1 .0) (pieces .ensures)
 
 pub step-gas-spec : {M : Type 1} → statement M
 step-gas-spec =

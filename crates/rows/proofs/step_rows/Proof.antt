@@ -6,6 +6,7 @@ use mathlib.Core.Path.{_≡_, ap, _∙_}
 use native.Mathlib.Omega.{arith}
 use lib.ListN.{length}
 use Rattle.rows.specs.Gas.{rowStepped, Stepping, step-need, stepping-none, stepping-more, row-lent}
+use Rattle.units.specs.The.{the}
 use borrow.Author.Needs.{needs}
 use Rattle.rows.proofs.step_rows.Statement.{statement}
 use Rattle.rows.proofs.step_rows.Tie as tie
@@ -34,13 +35,14 @@ part-row-start c = search needs
 
 part-row-end : tie.Need-part-row-end Inv-loop μ-loop
 part-row-end c =
+    let start : tie.Start Inv-loop μ-loop = search in
     let l = c .before .before .loop in
-    omega (arith, l .inv .2 .wideRows (l .t) (search needs), c .before .before .before .before .before .before .pre .wide)
+    omega (arith, l .inv .2 .wideRows (l .t) (search needs), start .pre .wide)
 
 step-gas-requires : tie.Need-step-gas-requires Inv-loop μ-loop
 step-gas-requires c κs =
+    let need = the (tie.Start Inv-loop μ-loop) (search) .pre in
     let l = c .before .before .before .loop in
-    let need = c .before .before .before .before .before .before .before .pre in
     rw (row-lent need (l .inv .2) (search needs)) (step-need need (l .t) (search needs))
 
 mul-rows : tie.Need-mul-rows Inv-loop μ-loop
@@ -57,10 +59,10 @@ loop-less c = search needs
 
 loop-again : tie.Need-loop-again Inv-loop μ-loop
 loop-again c =
-    let l = c .before .before .before .before .before .loop in
-    let start = c .before .before .before .before .before .before .before .before .before in
-    let a = start .args in
-    let inside = c .before .before .before .before .loop-test .taken in (
+    let start : tie.Start Inv-loop μ-loop = search in
+    let l = the (tie.At-loop Inv-loop μ-loop) (search) .loop in
+    let inside = the (tie.In-loop Inv-loop μ-loop) (search) .loop-test .taken in
+    let a = start .args in (
       search needs,
       search needs,
       stepping-more (start .pre) (l .inv .2) (search needs) _ (c .before .step-gas .ensures ∙ ap (λ (g : List ℕ). rowStepped g (a .air .now) (a .up .now) (a .down .now)) (row-lent (start .pre) (l .inv .2) (search needs))),

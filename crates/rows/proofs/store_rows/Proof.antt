@@ -5,6 +5,7 @@ use mathlib.Core.Path.{_≡_, ap, _∙_}
 use native.Mathlib.Omega.{arith}
 use lib.ListN.{length}
 use Rattle.rows.specs.Rows.{storedUpTo, row-room, stored-none, stored-more, stored-all, length-stored-up-to}
+use Rattle.units.specs.The.{the}
 use borrow.Author.Needs.{needs}
 use Rattle.rows.proofs.store_rows.Statement.{statement}
 use Rattle.rows.proofs.store_rows.Tie as tie
@@ -42,10 +43,15 @@ part-copy-start : tie.Need-part-copy-start Inv-loop μ-loop
 part-copy-start c = search needs
 
 part-copy-end : tie.Need-part-copy-end Inv-loop μ-loop
-part-copy-end c = omega (arith, c .before .before .before .before .before .pre .wideRows (c .before .before .before .loop .t) (search needs), c .before .before .before .before .before .pre .fit .fewColumns)
+part-copy-end c =
+    let start : tie.Start Inv-loop μ-loop = search in
+    omega (arith, start .pre .wideRows (c .before .before .before .loop .t) (search needs), start .pre .fit .fewColumns)
 
 mul-copy : tie.Need-mul-copy Inv-loop μ-loop
-mul-copy c = let room = row-room (c .before .before .before .before .before .before .pre .fit) (c .before .before .before .before .loop .t) (search needs) in search needs
+mul-copy c =
+    let start : tie.Start Inv-loop μ-loop = search in
+    let l = the (tie.At-loop Inv-loop μ-loop) (search) .loop in
+    let room = row-room (start .pre .fit) (l .t) (search needs) in search needs
 
 sub-copy-2 : tie.Need-sub-copy-2 Inv-loop μ-loop
 sub-copy-2 c = search needs
@@ -55,8 +61,8 @@ part-copy-start-2 c = search needs
 
 part-copy-end-2 : tie.Need-part-copy-end-2 Inv-loop μ-loop
 part-copy-end-2 c =
-    let start = c .before .before .before .before .before .before in
-    let l = c .before .before .before .before .loop in
+    let start : tie.Start Inv-loop μ-loop = search in
+    let l = the (tie.At-loop Inv-loop μ-loop) (search) .loop in
     let room = row-room (start .pre .fit) (l .t) (search needs) in
     omega (arith, ap length (l .inv .1), length-stored-up-to (start .args .tracers .now) (start .args .first) (start .args .cells) (start .args .w) (start .args .n) (start .args .t1) (start .pre) (l .t) (search needs))
 
@@ -71,8 +77,8 @@ loop-less c = search needs
 
 loop-again : tie.Need-loop-again Inv-loop μ-loop
 loop-again c =
-    let start = c .before .before .before .before .before .before .before .before .before .before in
-    let l = c .before .before .before .before .before .before .before .before .loop in
+    let start : tie.Start Inv-loop μ-loop = search in
+    let l = the (tie.At-loop Inv-loop μ-loop) (search) .loop in
     (search needs, stored-more (start .args .tracers .now) (start .args .first) (start .args .cells) (start .args .w) (start .args .n) (start .args .t1) (start .pre) (l .t) (search needs) _ _ (l .inv .1) (c .before .before .copy .ensures))
 
 same-length : tie.Need-same-length Inv-loop μ-loop

@@ -5,6 +5,7 @@ use mathlib.Core.Path.{_≡_}
 use native.Mathlib.Omega.{arith}
 use lib.ListN.{length}
 use Rattle.rows.specs.Swept.{After, after-none, rows-may-step, air-may-pass, after-more, after-all}
+use Rattle.units.specs.The.{the}
 use borrow.Author.Needs.{needs}
 use Rattle.rows.proofs.sweep_rows.Statement.{statement}
 use Rattle.rows.proofs.sweep_rows.Tie as tie
@@ -39,14 +40,13 @@ slice-aggregate-step-rows-2 c = search needs
 
 step-rows-requires : tie.Need-step-rows-requires Inv-loop μ-loop
 step-rows-requires c κs =
-    let start = c .before .before .before .before .before .before .before .before .before .before .before in
-    let l-call = c .before .before .before .before .before .before .before .before .before .loop in
-    let fill-parts-call = c .before .before .before .before .before .fill-parts in
-    let l = l-call in
-    let up = fill-parts-call .last .1 .1 .1 .0 in
-    let down = fill-parts-call .last .1 .1 .1 .1 .0 in
-    let inside = c .before .before .before .before .before .before .before .before .loop-test .taken in
-    rows-may-step _ _ _ _ _ (start .pre) (l .s) (search needs) (l .air) (l .current) (l .inv .3) up down (fill-parts-call .ensures) (record { high = search needs; low = search needs })
+    let start : tie.Start Inv-loop μ-loop = search in
+    let l = the (tie.At-loop Inv-loop μ-loop) (search) .loop in
+    let inside = the (tie.In-loop Inv-loop μ-loop) (search) .loop-test .taken in
+    let parts = the (tie.After-fill-parts Inv-loop μ-loop) (search) .fill-parts in
+    let up = parts .last .1 .1 .1 .0 in
+    let down = parts .last .1 .1 .1 .1 .0 in
+    rows-may-step _ _ _ _ _ (start .pre) (l .s) (search needs) (l .air) (l .current) (l .inv .3) up down (parts .ensures) (record { high = search needs; low = search needs })
 
 slice-aggregate-pass-row : tie.Need-slice-aggregate-pass-row Inv-loop μ-loop
 slice-aggregate-pass-row c = search needs
@@ -56,14 +56,13 @@ slice-aggregate-pass-row-2 c = search needs
 
 pass-row-requires : tie.Need-pass-row-requires Inv-loop μ-loop
 pass-row-requires c κs =
-    let start = c .before .before .before .before .before .before .before .before .before .before .before .before .before .before .before in
-    let l-call = c .before .before .before .before .before .before .before .before .before .before .before .before .before .loop in
-    let fill-parts-call = c .before .before .before .before .before .before .before .before .before .fill-parts in
-    let l = l-call in
-    let up = fill-parts-call .last .1 .1 .1 .0 in
-    let down = fill-parts-call .last .1 .1 .1 .1 .0 in
-    let inside = c .before .before .before .before .before .before .before .before .before .before .before .before .loop-test .taken in
-    air-may-pass _ _ _ _ _ (start .pre) (l .s) (search needs) (l .air) (l .current) (l .inv .3) up down (fill-parts-call .ensures) (record { high = search needs; low = search needs })
+    let start : tie.Start Inv-loop μ-loop = search in
+    let l = the (tie.At-loop Inv-loop μ-loop) (search) .loop in
+    let inside = the (tie.In-loop Inv-loop μ-loop) (search) .loop-test .taken in
+    let parts = the (tie.After-fill-parts Inv-loop μ-loop) (search) .fill-parts in
+    let up = parts .last .1 .1 .1 .0 in
+    let down = parts .last .1 .1 .1 .1 .0 in
+    air-may-pass _ _ _ _ _ (start .pre) (l .s) (search needs) (l .air) (l .current) (l .inv .3) up down (parts .ensures) (record { high = search needs; low = search needs })
 
 add-s : tie.Need-add-s Inv-loop μ-loop
 add-s c = search needs
@@ -73,17 +72,17 @@ loop-less c = search needs
 
 loop-again : tie.Need-loop-again Inv-loop μ-loop
 loop-again c =
-    let start = c .before .before .before .before .before .before .before .before .before .before .before .before .before .before .before .before .before .before in
-    let l-call = c .before .before .before .before .before .before .before .before .before .before .before .before .before .before .before .before .loop in
-    let fill-parts-call = c .before .before .before .before .before .before .before .before .before .before .before .before .fill-parts in
-    let l = l-call in
-    let up = fill-parts-call .last .1 .1 .1 .0 in
-    let down = fill-parts-call .last .1 .1 .1 .1 .0 in
-    let inside = c .before .before .before .before .before .before .before .before .before .before .before .before .before .before .before .loop-test .taken in (
+    let start : tie.Start Inv-loop μ-loop = search in
+    let l = the (tie.At-loop Inv-loop μ-loop) (search) .loop in
+    let inside = the (tie.In-loop Inv-loop μ-loop) (search) .loop-test .taken in
+    let parts = the (tie.After-fill-parts Inv-loop μ-loop) (search) .fill-parts in
+    let stepped = the (tie.After-step-rows Inv-loop μ-loop) (search) .step-rows .ensures in
+    let up = parts .last .1 .1 .1 .0 in
+    let down = parts .last .1 .1 .1 .1 .0 in (
       search needs,
       search needs,
       search needs,
-      after-more _ _ _ _ _ (start .pre) (l .s) (search needs) (l .air) (l .current) (l .inv .3) up down (fill-parts-call .ensures) (record { high = search needs; low = search needs }) _ _ (c .before .before .pass-row .ensures) (c .before .before .before .before .before .before .step-rows .ensures),
+      after-more _ _ _ _ _ (start .pre) (l .s) (search needs) (l .air) (l .current) (l .inv .3) up down (parts .ensures) (record { high = search needs; low = search needs }) _ _ (c .before .before .pass-row .ensures) stepped,
     )
 
 same-length : tie.Need-same-length Inv-loop μ-loop

@@ -4,6 +4,7 @@ use Prim.Native.Nat.{ℕ, _*_, _-_, _^_, _≤_, _<_}
 use mathlib.Core.Path.{_≡_, refl, sym}
 use native.Mathlib.Nat.{div-one, le-refl, mul-le-mul, mul-zero, zero-div}
 use native.Mathlib.Omega.{arith}
+use Rattle.units.specs.The.{the}
 use borrow.Author.Needs.{needs}
 use mir.Syntax.{w64}
 use mir.Val.{Fits}
@@ -12,9 +13,9 @@ use Rattle.model.specs.Laws.Scheme.{flux-part-not-cut, flux-part-le}
 use Rattle.scheme.proofs.flux_part.Statement.{statement}
 use Rattle.scheme.proofs.flux_part.Tie as tie
 
-flux-part-whole : (n s f : ℕ) → n ≡ 1 → 0 < s → s ≤ n → fluxPart n s f ≡ f
+flux-part-whole : {n s f : ℕ} → n ≡ 1 → 0 < s → s ≤ n → fluxPart n s f ≡ f
 unfolding fluxPart
-flux-part-whole n s f one some most =
+flux-part-whole {n} {s} {f} one some most =
     let first : s ≡ 1 = omega arith in
     rw (one, first) (omega (arith, div-one (1 * f), div-one ((1 - 1) * f)))
 
@@ -30,7 +31,9 @@ product-fits a b ha hb =
 
 -- the one part of one is the whole
 returns : tie.Need-returns
-returns c = record { is = sym (flux-part-whole (c .before .args .n) (c .before .args .s) (c .before .args .f .0) (c .if1 .taken) (c .before .pre .0) (c .before .pre .1)); within = le-refl _ }
+returns c =
+    let start = c .before in
+    record { is = sym (flux-part-whole (c .if1 .taken) (start .pre .0) (start .pre .1)); within = le-refl _ }
 
 -- every part of nothing is nothing
 returns-2 : tie.Need-returns-2
@@ -62,7 +65,7 @@ sub-part c = flux-part-not-cut _ _ _ (search needs)
 cast-part : tie.Need-cast-part
 unfolding fluxPart
 cast-part c =
-    let a = c .before .before .before .before .args in
+    let a = the tie.Start (search) .args in
     omega (arith, flux-part-le (a .n) (a .s) (a .f .0) (search needs) (search needs))
 
 returns-3 : tie.Need-returns-3

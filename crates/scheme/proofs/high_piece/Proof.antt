@@ -6,6 +6,7 @@ use mathlib.Core.Logic.{⊎-elim}
 use mathlib.Core.Path.{_≡_, sym, _∙_, ap}
 use native.Mathlib.Nat.{div-div-eq-div-mul}
 use native.Mathlib.Omega.{arith}
+use Rattle.units.specs.The.{the}
 use borrow.Author.Needs.{needs}
 use Rattle.units.specs.declared.Air.{Air}
 use Rattle.units.specs.declared.Tracer.{Tracer}
@@ -35,7 +36,9 @@ sizes {d} {have} {m} {t} g =
     }
 
 -- x is the numerator, as the code has it at the mismatch's sign
-signed : {x : ℕ} (D : Mismatch) (M T m : ℕ) (b : Bool) → D .positive ≡ b → x ≡ numerator (record { size = D .size; positive = b }) M T m → x ≡ numerator D M T m
+signed :
+    {x : ℕ} (D : Mismatch) (M T m : ℕ) (b : Bool) → D .positive ≡ b →
+    x ≡ numerator (record { size = D .size; positive = b }) M T m → x ≡ numerator D M T m
 signed D M T m b e h = h ∙ ap (λ (b : Bool). numerator (record { size = D .size; positive = b }) M T m) (sym e)
 
 cast-air : tie.Need-cast-air
@@ -55,7 +58,7 @@ mul-level-2 c = omega (arith, sizes (c .before .before .before .pre))
 
 mul-tilt : tie.Need-mul-tilt
 mul-tilt c =
-    let start = c .before .before .before .before in
+    let start : tie.Start = search in
     omega (arith, sizes (start .pre))
 
 sub-tilt : tie.Need-sub-tilt
@@ -63,27 +66,30 @@ sub-tilt c = search needs
 
 mul-tilt-2 : tie.Need-mul-tilt-2
 mul-tilt-2 c =
-    let start = c .before .before .before .before in
+    let start : tie.Start = search in
     omega (arith, sizes (start .pre))
 
 add-numerator : tie.Need-add-numerator
 add-numerator c =
-    let start = c .before .before .before .before .before in
+    let start : tie.Start = search in
     omega (arith, sizes (start .pre))
 
 sub-numerator : tie.Need-sub-numerator
 sub-numerator c =
-    let start = c .before .before .before .before .before in
+    let start : tie.Start = search in
     sizes (start .pre) .tilt
 
 div-piece : tie.Need-div-piece
 div-piece c = search needs
 
 -- the quotient is the piece that the model gives: dividing by 2·S and then by M is dividing by 2·S·M
-quotient : (c : tie.Joined1) → let a = c .before .before .before .before .before .args in c .if1 .numerator / (2 * scale) / a .have .0 ≡ highPiece (mismatchOf (a .d)) (a .have .0) (a .t .0) (a .m .0)
+quotient :
+    (c : tie.Joined1) →
+    let a = the tie.Start (search) .args in
+    c .if1 .numerator / (2 * scale) / a .have .0 ≡ highPiece (mismatchOf (a .d)) (a .have .0) (a .t .0) (a .m .0)
 unfolding numerator
 quotient c =
-    let start = c .before .before .before .before .before in
+    let start : tie.Start = search in
     let a = start .args in
     let is-numerator = signed (mismatchOf (a .d)) (a .have .0) (a .t .0) (a .m .0) in
     rw (piece-is (mismatchOf (a .d)) (a .have .0) (a .t .0) (a .m .0))
@@ -93,13 +99,13 @@ quotient c =
 
 cast-piece : tie.Need-cast-piece
 cast-piece c =
-    let start = c .before .before .before .before .before .before in
+    let start : tie.Start = search in
     let g = start .pre in
     omega (arith, quotient (c .before), sizes g, g .tracer)
 
 returns : tie.Need-returns
 returns c =
-    let start = c .before .before .before .before .before .before in
+    let start : tie.Start = search in
     let g = start .pre in
     record { is = quotient (c .before); within = rw (quotient (c .before)) (sizes g .piece) }
 

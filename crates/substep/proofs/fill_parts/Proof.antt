@@ -8,6 +8,7 @@ use mir.Facts.{toZ-ofZ}
 use mir.Syntax.{w32}
 use Rattle.model.specs.Sweep.{forward, backward, flux, fluxPart, parts}
 use Rattle.substep.specs.Faces.{flowOf, Same, same-none, same-more}
+use Rattle.units.specs.The.{the}
 use borrow.Author.Needs.{needs, sfits-of}
 use Rattle.substep.proofs.fill_parts.Statement.{statement}
 use Rattle.substep.proofs.fill_parts.Tie as tie
@@ -61,14 +62,15 @@ loop-less c = search needs
 loop-again : tie.Need-loop-again Inv-loop μ-loop
 unfolding parts
 loop-again c =
-    let l = c .before .before .before .before .before .loop in
+    let start : tie.Start Inv-loop μ-loop = search in
+    let l = the (tie.At-loop Inv-loop μ-loop) (search) .loop in
     let halves = c .before .before .split .ensures in
-    let x = flux (c .before .before .before .before .before .before .before .before .args .fluxes .now) (l .i) in
+    let x = flux (start .args .fluxes .now) (l .i) in
     let same = toZ-ofZ {w = w32} {z = x} (sfits-of (c .before .before .before .x .given)) in (
       search needs,
       search needs,
       search needs,
-      same-more (l .up) (l .down) _ _ _ _ (search needs) (search needs) (l .inv .3)
+      same-more (l .up) (l .down) (search needs) (search needs) (l .inv .3)
           (c .before .flux-part .ensures .is ∙ ap (fluxPart _ _) (halves .high ∙ ap forward same))
           (c .flux-part2 .ensures .is ∙ ap (fluxPart _ _) (halves .low ∙ ap backward same)),
     )
@@ -81,8 +83,9 @@ same-length-2 c = search needs
 
 returns : tie.Need-returns Inv-loop μ-loop
 returns c =
+    let start : tie.Start Inv-loop μ-loop = search in
     let l = c .before .loop in
-    let done : l .i ≡ length (c .before .before .before .before .args .fluxes .now) = omega arith in
+    let done : l .i ≡ length (start .args .fluxes .now) = omega arith in
     rw done at (l .inv .3)
 
 pub fill-parts-spec : {M : Type 1} → statement M

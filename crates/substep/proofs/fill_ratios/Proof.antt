@@ -1,12 +1,13 @@
 -- `substep::fill_ratios` meets its contract. The loop's invariant: the cells passed have their ratio.
 -- Assumes nothing.
-use Prim.Native.Nat.{_≤_, _-_}
+use Prim.Native.Nat.{ℕ, _≤_, _-_}
 use mathlib.Core.Path.{_≡_}
 use native.Mathlib.Omega.{arith}
 use lib.ListN.{length}
 use Rattle.model.specs.Sweep.{cellRatio}
 use Rattle.model.specs.Laws.Entries.{entries-more}
 use Rattle.substep.specs.Pieces.{AreRatios}
+use Rattle.units.specs.The.{the}
 use borrow.Author.Needs.{needs}
 use Rattle.substep.proofs.fill_ratios.Statement.{statement}
 use Rattle.substep.proofs.fill_ratios.Tie as tie
@@ -20,20 +21,22 @@ abbrev μ-loop : tie.MeasureT-loop
 loop-holds : tie.Need-loop-holds Inv-loop μ-loop
 loop-holds c = (search needs, search needs, record { is = λ k h. absurd (omega arith) })
 
-mul-t8 : tie.Need-mul-t8 Inv-loop μ-loop
-mul-t8 c = search needs
+mul-have : tie.Need-mul-have Inv-loop μ-loop
+mul-have c = search needs
 
-shared-slice-read-t10 : tie.Need-shared-slice-read-t10 Inv-loop μ-loop
-shared-slice-read-t10 c = search needs
+shared-slice-read-have : tie.Need-shared-slice-read-have Inv-loop μ-loop
+shared-slice-read-have c = search needs
 
-mul-t12 : tie.Need-mul-t12 Inv-loop μ-loop
-mul-t12 c = search needs
+mul-amount : tie.Need-mul-amount Inv-loop μ-loop
+mul-amount c = search needs
 
-shared-slice-read-t14 : tie.Need-shared-slice-read-t14 Inv-loop μ-loop
-shared-slice-read-t14 c = search needs
+shared-slice-read-amount : tie.Need-shared-slice-read-amount Inv-loop μ-loop
+shared-slice-read-amount c = search needs
 
 ratio-requires : tie.Need-ratio-requires Inv-loop μ-loop
-ratio-requires c κs = c .before .before .before .before .before .before .before .pre .some _ (search needs)
+ratio-requires c κs =
+    let start : tie.Start Inv-loop μ-loop = search in
+    start .pre .some _ (search needs)
 
 mul-q : tie.Need-mul-q Inv-loop μ-loop
 mul-q c = search needs
@@ -49,11 +52,12 @@ loop-less c = search needs
 
 loop-again : tie.Need-loop-again Inv-loop μ-loop
 loop-again c =
-    let l = c .before .before .before .before .loop in
-    let a = c .before .before .before .before .before .before .before .before .args in (
+    let a = the (tie.Start Inv-loop μ-loop) (search) .args in
+    let l = the (tie.At-loop Inv-loop μ-loop) (search) .loop in
+    let is-ratio : ℕ → ℕ → Type 0 = λ k x. x ≡ cellRatio (a .air .now) (a .gas .now) k in (
       search needs,
       search needs,
-      record { is = entries-more 0 (l .q) (l .c) _ (λ k x. x ≡ cellRatio (a .air .now) (a .gas .now) k) (search needs) (l .inv .2 .is) (c .ratio .ensures) },
+      record { is = entries-more 0 (l .q) (l .c) _ is-ratio (search needs) (l .inv .2 .is) (c .ratio .ensures) },
     )
 
 same-length : tie.Need-same-length Inv-loop μ-loop
@@ -71,10 +75,10 @@ fill-ratios-spec =
     Inv-loop
     μ-loop
     loop-holds
-    mul-t8
-    shared-slice-read-t10
-    mul-t12
-    shared-slice-read-t14
+    mul-have
+    shared-slice-read-have
+    mul-amount
+    shared-slice-read-amount
     ratio-requires
     mul-q
     slice-write-q
