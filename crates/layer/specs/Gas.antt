@@ -32,7 +32,7 @@ module _ (w rows : ℕ) where
         low = layer-regular w rows .lowIn j (omega arith);
         own = omega arith;
         high = layer-regular w rows .highIn (w + j) (omega arith);
-        is = λ air gas. mismatch-between (layer w rows) air gas (suc j) j (w + j) (sides-inner w (rows * w) j h);
+        is = λ air gas. mismatch-between mismatch (layer w rows) air gas (suc j) j (w + j) (sides-inner w (rows * w) j h);
       }
 
   -- those of the cell south of face i
@@ -44,7 +44,7 @@ module _ (w rows : ℕ) where
         low = omega arith;
         own = omega arith;
         high = omega arith;
-        is = λ air gas. mismatch-south (layer w rows) air gas 0 0 w refl ∙ sym (mismatch-own _);
+        is = λ air gas. mismatch-south mismatch (layer w rows) air gas 0 0 w refl ∙ sym (mismatch-own _);
       })
 
   pub south-near : (i : ℕ) → w ≤ i → i < w + rows * w → Neighbours (layer w rows) (southOf w (i - w)) (southOf w i) (northOf (rows * w) i)
@@ -64,7 +64,7 @@ module _ (w rows : ℕ) where
         low = omega arith;
         own = omega arith;
         high = omega arith;
-        is = λ air gas. mismatch-north (layer w rows) air gas (suc (rows * w)) (rows * w) w (sides-north w (rows * w) (rows * w) (omega arith)) ∙ sym (mismatch-own _);
+        is = λ air gas. mismatch-north mismatch (layer w rows) air gas (suc (rows * w)) (rows * w) w (sides-north w (rows * w) (rows * w) (omega arith)) ∙ sym (mismatch-own _);
       })
 
 -- ---- a piece through face i
@@ -116,8 +116,8 @@ module _ {w rows : ℕ} {air gas up down q high low : List ℕ} (step : Step w r
   -- and so the model's pieces are
   pub piece-north : highPiece (cellMismatch mismatch (layer w rows) air gas (southOf w i)) (at air (southOf w i)) (at gas (southOf w i)) (at up i) ≡ pieces mismatch (layer w rows) (flowOf up down) air gas .toHigh i
   unfolding layer
-  piece-north = sym (piece-up (layer w rows) (flowOf up down) air gas i (southOf w i) refl)
+  piece-north = sym (piece-up mismatch (layer w rows) (flowOf up down) air gas i (southOf w i) refl)
 
   pub piece-south : lowPiece (cellMismatch mismatch (layer w rows) air gas (northOf (rows * w) i)) (at air (northOf (rows * w) i)) (at gas (northOf (rows * w) i)) (at down i) ≡ pieces mismatch (layer w rows) (flowOf up down) air gas .toLow i
   unfolding layer
-  piece-south = sym (piece-down (layer w rows) (flowOf up down) air gas i (northOf (rows * w) i) refl)
+  piece-south = sym (piece-down mismatch (layer w rows) (flowOf up down) air gas i (northOf (rows * w) i) refl)
