@@ -106,7 +106,9 @@ result-eq a b e =
     }
 
 -- one case less
-first-passes : (c : Case) (cs : List Case) (b : Bool) → sameResult (step (c .world) (c .call)) (c .expected) ≡ b → failing (c ∷ cs) ≡ [] → (b ≡ true) × (failing cs ≡ [])
+first-passes :
+    (c : Case) (cs : List Case) (b : Bool) → sameResult (step (c .world) (c .call)) (c .expected) ≡ b →
+    failing (c ∷ cs) ≡ [] → (b ≡ true) × (failing cs ≡ [])
 unfolding failing
 first-passes c cs true e h = (refl, rw (e, failing) at h)
 first-passes c cs false e h = absurd (cons≢nil (rw (e, failing) at h))

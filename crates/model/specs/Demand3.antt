@@ -25,14 +25,22 @@ use Rattle.model.specs.Cases.Marked.{four, stair}
 -- What demand 3 says at point i of a list of calls that starts at the world `start`, which an accepted load left
 pub record HoldsAt (start : World) (calls : List Call) (i : ℕ) : Type 0 where
   -- "Each gas total equals its loaded amount plus its accepted emissions less its accepted withdrawals, and total air is unchanged."
-  pub gasKept : (t : ℕ) → t < start .grid .N → gasTotal (point start calls i) t + history start t (take i calls) .withdrawn ≡ gasTotal start t + history start t (take i calls) .emitted
+  pub gasKept :
+      (t : ℕ) → t < start .grid .N →
+      gasTotal (point start calls i) t + history start t (take i calls) .withdrawn ≡ gasTotal start t + history start t (take i calls) .emitted
   pub airKept : airTotal (point start calls i) ≡ airTotal start
   -- "A gas at the same whole-number ratio to air in every cell keeps that ratio exactly while none of it is emitted or withdrawn": at each later point j
-  pub ratioKept : (t z j : ℕ) → t < start .grid .N → i ≤ j → HasRatio (point start calls i) t z → history start t (take j calls) ≡ history start t (take i calls) → HasRatio (point start calls j) t z
+  pub ratioKept :
+      (t z j : ℕ) → t < start .grid .N → i ≤ j → HasRatio (point start calls i) t z →
+      history start t (take j calls) ≡ history start t (take i calls) → HasRatio (point start calls j) t z
   -- "Each substep of a sweep leaves each cell it writes within its old neighbourhood's range of ratios, .. and a remap": the call made at this point, if it is accepted
-  pub inRange : (t : ℕ) → t < start .grid .N → step (point start calls i) (callAt calls i) .answer ≡ 0 → CallInRange (point start calls i) t (callAt calls i)
+  pub inRange :
+      (t : ℕ) → t < start .grid .N → step (point start calls i) (callAt calls i) .answer ≡ 0 →
+      CallInRange (point start calls i) t (callAt calls i)
   -- "After any other accepted load that differs only in the other gases, the same list gives the same amounts of one gas and the same answers to calls that name no other gas": for a set of gases `own`
-  pub independent : (own : ℕ → Bool) (v : World) → Loaded v → Alike own start (loadedWorld v) → Alike own (point start calls i) (point (loadedWorld v) calls i) × (namesNoOther own start (callAt calls i) ≡ true → SameReply (point start calls i) (point (loadedWorld v) calls i) (callAt calls i))
+  pub independent :
+      (own : ℕ → Bool) (v : World) → Loaded v → Alike own start (loadedWorld v) →
+      Alike own (point start calls i) (point (loadedWorld v) calls i) × (namesNoOther own start (callAt calls i) ≡ true → SameReply (point start calls i) (point (loadedWorld v) calls i) (callAt calls i))
 
 -- what each call keeps
 pub call-keeps : (call : Call) → MeaningKeeps (meaning call)
@@ -76,14 +84,18 @@ demand-3 w calls loaded i =
     }
 
 -- The chain that the range of an accepted sweep speaks of starts with the amounts before it and ends with those that `step` leaves
-pub zonal-chain : (w : World) → Fits w → (k r : ℕ) (fluxes : List ℤ) → step w (zonal k r fluxes) .answer ≡ 0 → (t : ℕ) → t < w .grid .N → ChainOf w (step w (zonal k r fluxes) .next) (ring (w .grid .W)) (rowStart (w .grid) k r) fluxes (step w (zonal k r fluxes) .count) t
+pub zonal-chain :
+    (w : World) → Fits w → (k r : ℕ) (fluxes : List ℤ) → step w (zonal k r fluxes) .answer ≡ 0 → (t : ℕ) → t < w .grid .N →
+    ChainOf w (step w (zonal k r fluxes) .next) (ring (w .grid .W)) (rowStart (w .grid) k r) fluxes (step w (zonal k r fluxes) .count) t
 unfolding accepted
 zonal-chain w fits k r fluxes e t h =
     let go = sym (answer-is w (zonal k r fluxes)) ∙ e in
     rw (step-accepted w (zonal k r fluxes) go)
     (swept-chain w fits _ _ fluxes _ (zonal-sweeps k r fluxes w go .inside) t h)
 
-pub meridional-chain : (w : World) → Fits w → (k : ℕ) (fluxes : List ℤ) → step w (meridional k fluxes) .answer ≡ 0 → (t : ℕ) → t < w .grid .N → ChainOf w (step w (meridional k fluxes) .next) (layer (w .grid .W) (w .grid .R)) (layerStart (w .grid) k) fluxes 1 t
+pub meridional-chain :
+    (w : World) → Fits w → (k : ℕ) (fluxes : List ℤ) → step w (meridional k fluxes) .answer ≡ 0 → (t : ℕ) → t < w .grid .N →
+    ChainOf w (step w (meridional k fluxes) .next) (layer (w .grid .W) (w .grid .R)) (layerStart (w .grid) k) fluxes 1 t
 unfolding accepted
 meridional-chain w fits k fluxes e t h =
     let go = sym (answer-is w (meridional k fluxes)) ∙ e in
@@ -91,7 +103,9 @@ meridional-chain w fits k fluxes e t h =
     (swept-chain w fits _ _ fluxes 1 (meridional-sweeps k fluxes w go .inside) t h)
 
 -- A world that calls reach from an accepted load never meets the refusals 1 to 4 again, but 2 for the list that a call itself lends: the refusal is that of the call's own places alone
-pub reached : (w : World) (calls : List Call) → Loaded w → (i : ℕ) → Reached (point (loadedWorld w) calls i) × ((call : Call) → lentFits (loadedWorld w .grid) call ≡ true → refusal (point (loadedWorld w) calls i) call ≡ firstOf (ownPlaces call) (point (loadedWorld w) calls i))
+pub reached :
+    (w : World) (calls : List Call) → Loaded w → (i : ℕ) →
+    Reached (point (loadedWorld w) calls i) × ((call : Call) → lentFits (loadedWorld w .grid) call ≡ true → refusal (point (loadedWorld w) calls i) call ≡ firstOf (ownPlaces call) (point (loadedWorld w) calls i))
 reached w calls start i =
     let kept = calls-keep (loadedWorld w) (take i calls) (loaded-reached w start) in (
       kept .reached,

@@ -59,7 +59,9 @@ lines-eq (l ∷ ls) (m ∷ ms) e =
     let p = and-eq-true-iff _ (sameLines ls ms) .0 e in
     ap₂ _∷_ (line-eq l m (p .0)) (lines-eq ls ms (p .1))
 
-first-passes : (c : Case) (cs : List Case) (b : Bool) → sameLines (lines (c .input)) (c .printed) ≡ b → failing (c ∷ cs) ≡ [] → (b ≡ true) × (failing cs ≡ [])
+first-passes :
+    (c : Case) (cs : List Case) (b : Bool) → sameLines (lines (c .input)) (c .printed) ≡ b → failing (c ∷ cs) ≡ [] →
+    (b ≡ true) × (failing cs ≡ [])
 unfolding failing
 first-passes c cs true e h = (refl, rw (e, failing) at h)
 first-passes c cs false e h = absurd (cons≢nil (rw (e, failing) at h))

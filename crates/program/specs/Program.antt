@@ -23,11 +23,15 @@ module _ (bytes : List ℕ) (before rest : List Entry) (e : Entry) (split : entr
   s = since nothingYet before
 
   -- Each line that the program prints for a call has the answer and the count that `step` gives in the world that those calls have left
-  pub printed-calls : (call : Call) → e .finding ≡ command (make call) → (e .printed .answer ≡ step (worldNow s) call .answer) × (e .printed .count ≡ step (worldNow s) call .count)
+  pub printed-calls :
+      (call : Call) → e .finding ≡ command (make call) →
+      (e .printed .answer ≡ step (worldNow s) call .answer) × (e .printed .count ≡ step (worldNow s) call .count)
   printed-calls call asked =
       let said = all-say 0 start bytes nothingYet tt before rest e split call asked in
       (said .answered, said .counted)
 
   -- Each total that the program prints equals the loaded amount plus the emissions less the withdrawals, answered 0, since the last accepted load
-  pub printed-totals : (t : ℕ) → e .finding ≡ command (make (total t)) → e .printed .answer ≡ 0 → e .printed .count + history (s .first) t (s .calls) .withdrawn ≡ gasTotal (s .first) t + history (s .first) t (s .calls) .emitted
+  pub printed-totals :
+      (t : ℕ) → e .finding ≡ command (make (total t)) → e .printed .answer ≡ 0 →
+      e .printed .count + history (s .first) t (s .calls) .withdrawn ≡ gasTotal (s .first) t + history (s .first) t (s .calls) .emitted
   printed-totals t asked = total-said t s e (all-say 0 start bytes nothingYet tt before rest e split (total t) asked)

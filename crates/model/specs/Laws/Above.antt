@@ -25,7 +25,9 @@ abbrev pub Leans : Bool → ℕ → ℕ → ColumnLayer → Type 0
 Leans b H L l = CellRoom b H L (l .air) (l .tracer) (l .slope .size)
 
 -- ---- as a sum over the layers: from each the low-end piece of as much of its air as lies in the x units
-amount-first : (l : ColumnLayer) (below : List ColumnLayer) → 1 ≤ l .air → amountAbove below 0 ≡ 0 → (x : ℕ) → amountAbove (l ∷ below) x ≡ layerPiece l (min x (l .air)) + amountAbove below (x - l .air)
+amount-first :
+    (l : ColumnLayer) (below : List ColumnLayer) → 1 ≤ l .air → amountAbove below 0 ≡ 0 → (x : ℕ) →
+    amountAbove (l ∷ below) x ≡ layerPiece l (min x (l .air)) + amountAbove below (x - l .air)
 unfolding amountAbove
 amount-first l below has none x = go (leb (l .air) x) refl
   where
@@ -114,13 +116,17 @@ module _ (f : ℕ → ColumnLayer) where
     amount-whole = amount-is (airOf n) ∙ parts-whole n (airOf n) (omega arith) (omega arith)
 
     -- G never falls
-    pub amount-rises : ((k : ℕ) → k < n → Safe (f k .slope) (f k .air) (f k .tracer)) → (x y : ℕ) → x ≤ y → amountAbove (tab n f) x ≤ amountAbove (tab n f) y
+    pub amount-rises :
+        ((k : ℕ) → k < n → Safe (f k .slope) (f k .air) (f k .tracer)) → (x y : ℕ) → x ≤ y →
+        amountAbove (tab n f) x ≤ amountAbove (tab n f) y
     amount-rises safe x y le =
         rw (amount-is x, amount-is y)
         (sum-le n _ _ (λ k h. piece-rises (opposite (f k .slope)) (f k .air) (f k .tracer) (safe k h) (has k h) _ _ (omega arith) (omega arith)))
 
     -- where every layer has z units of tracer for each unit of air, and no slope, so has G
-    pub amount-even : (z : ℕ) → ((k : ℕ) → k < n → (f k .slope .size ≡ 0) × (f k .tracer ≡ z * f k .air)) → (x : ℕ) → x ≤ airOf n → amountAbove (tab n f) x ≡ z * x
+    pub amount-even :
+        (z : ℕ) → ((k : ℕ) → k < n → (f k .slope .size ≡ 0) × (f k .tracer ≡ z * f k .air)) → (x : ℕ) → x ≤ airOf n →
+        amountAbove (tab n f) x ≡ z * x
     amount-even z even x le =
         amount-is x ∙
         sum-ext n _ (λ k. z * min (x - airOf k) (f k .air)) (λ k h. piece-constant (opposite (f k .slope)) (f k .air) (f k .tracer) _ z (has k h) (even k h .0) (even k h .1)) ∙
@@ -157,7 +163,9 @@ module _ (f : ℕ → ColumnLayer) where
       none m = leaves-same b H L 0 m 0 refl
 
       -- from x to the high end of m layers
-      rest-leaves : (m x : ℕ) → m ≤ n → x < airOf m → ((k : ℕ) → k < m → x < airOf (suc k) → Leans b H L (f k)) → Leaves b H L (airOf m - x) (tracerOf m) (sum m (λ k. layerPart k x)) (lost (not b))
+      rest-leaves :
+          (m x : ℕ) → m ≤ n → x < airOf m → ((k : ℕ) → k < m → x < airOf (suc k) → Leans b H L (f k)) →
+          Leaves b H L (airOf m - x) (tracerOf m) (sum m (λ k. layerPart k x)) (lost (not b))
       unfolding sum
       rest-leaves zero x h lt leans = absurd (omega arith)
       rest-leaves (suc m) x h lt leans =
@@ -172,7 +180,10 @@ module _ (f : ℕ → ColumnLayer) where
           (le-or-lt (airOf m) x)
 
       -- from x to y
-      between-leaves : (m x y : ℕ) → m ≤ n → x < y → y ≤ airOf m → ((k : ℕ) → k < m → max (airOf k) x < min (airOf (suc k)) y → Leans b H L (f k)) → Leaves b H L (y - x) (sum m (λ k. layerPart k y)) (sum m (λ k. layerPart k x)) 1
+      between-leaves :
+          (m x y : ℕ) → m ≤ n → x < y → y ≤ airOf m →
+          ((k : ℕ) → k < m → max (airOf k) x < min (airOf (suc k)) y → Leans b H L (f k)) →
+          Leaves b H L (y - x) (sum m (λ k. layerPart k y)) (sum m (λ k. layerPart k x)) 1
       unfolding sum
       between-leaves zero x y h lt le leans = absurd (omega arith)
       between-leaves (suc m) x y h lt le leans =
@@ -193,7 +204,9 @@ module _ (f : ℕ → ColumnLayer) where
           (le-or-lt (airOf m) x)))
           (le-or-lt y (airOf m))
 
-      pub amount-between : (x y : ℕ) → x < y → y ≤ airOf n → ((k : ℕ) → k < n → max (airOf k) x < min (airOf (suc k)) y → Leans b H L (f k)) → Near b H L (y - x) (amountAbove (tab n f) y - amountAbove (tab n f) x) 1
+      pub amount-between :
+          (x y : ℕ) → x < y → y ≤ airOf n → ((k : ℕ) → k < n → max (airOf k) x < min (airOf (suc k)) y → Leans b H L (f k)) →
+          Near b H L (y - x) (amountAbove (tab n f) y - amountAbove (tab n f) x) 1
       amount-between x y lt le leans =
           leaves-near b H L (y - x) _ _ 1 (amount-rises safe x y (omega arith))
           (rw (amount-is x, amount-is y) (between-leaves n x y (omega arith) lt le leans))

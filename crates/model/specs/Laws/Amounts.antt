@@ -25,7 +25,10 @@ record Room (w : World) (t c : ℕ) (new : ℕ → ℕ) (x : Exchange) : Type 0 
   balance : amountAt w t c + x .emitted ≡ new (amountAt w t c) + x .withdrawn
   most : gasTotal w t ≤ totalLimit → gasTotal w t + x .emitted ≤ totalLimit + x .withdrawn
 
-tracer-cell-alike : (own : ℕ → Bool) (w v : World) → Alike own w v → (t c : ℕ) (ps : List Place) → (t < w .grid .N → firstOf ps w ≡ firstOf ps v) → firstOf (absent t (λ g. g .N) ∷ absent c worldCells ∷ ps) w ≡ firstOf (absent t (λ g. g .N) ∷ absent c worldCells ∷ ps) v
+tracer-cell-alike :
+    (own : ℕ → Bool) (w v : World) → Alike own w v → (t c : ℕ) (ps : List Place) →
+    (t < w .grid .N → firstOf ps w ≡ firstOf ps v) →
+    firstOf (absent t (λ g. g .N) ∷ absent c worldCells ∷ ps) w ≡ firstOf (absent t (λ g. g .N) ∷ absent c worldCells ∷ ps) v
 tracer-cell-alike own w v a t c ps rest =
     absent-alike own w v a t (λ g. g .N) _ (λ present. absent-alike own w v a c worldCells ps (λ inside. rest present))
 
@@ -38,7 +41,10 @@ module _ (w : World) (reached : Reached w) (t c x : ℕ) (present : t < w .grid 
   amount-total = total-changed w t c x inside (length-gas w t (fits .tracersLength) present)
 
   -- x' of gas t is exchanged, and nothing of the other gases
-  amount-kept : (x' : Exchange) → amountAt w t c + x' .emitted ≡ x + x' .withdrawn → gasTotal w t + x' .emitted ≤ totalLimit + x' .withdrawn → Kept w (withAmount w t c x) (λ t'. elim (eqb t t') [ true ↦ x' | false ↦ noExchange ])
+  amount-kept :
+      (x' : Exchange) → amountAt w t c + x' .emitted ≡ x + x' .withdrawn →
+      gasTotal w t + x' .emitted ≤ totalLimit + x' .withdrawn →
+      Kept w (withAmount w t c x) (λ t'. elim (eqb t t') [ true ↦ x' | false ↦ noExchange ])
   amount-kept x' balance room =
       record {
         reached =
@@ -85,7 +91,9 @@ module _ (w : World) (reached : Reached w) (t c x : ℕ) (present : t < w .grid 
 
 -- in two worlds alike, and beside the own gases
 module _ (own : ℕ → Bool) (w : World) (t c : ℕ) (inside : c < worldCells (w .grid)) where
-  amount-alike : (v : World) → Alike own w v → gas w t ≡ gas v t → (f : ℕ → ℕ) → Alike own (withAmount w t c (f (amountAt w t c))) (withAmount v t c (f (amountAt v t c)))
+  amount-alike :
+      (v : World) → Alike own w v → gas w t ≡ gas v t → (f : ℕ → ℕ) →
+      Alike own (withAmount w t c (f (amountAt w t c))) (withAmount v t c (f (amountAt v t c)))
   amount-alike v a named f =
       record { sameGrid = a .sameGrid; sameAir = a .sameAir; sameGas = λ t' o. same t' o (ℕ-discrete t' t) }
     where
@@ -128,7 +136,10 @@ cell-keeps t c =
     (λ own w v a named e. ap (λ (l : List ℕ). at l c) (named-alike own w v a t named (found t (λ g. g .N) _ w e .0)))
 
 -- a call that changes one amount, where its last place reads no other gas, and leaves room for what comes in and goes out
-changes-keep : (t c : ℕ) (last : Place) (new : ℕ → ℕ) (x : Exchange) → ((own : ℕ → Bool) (w v : World) → Alike own w v → gas w t ≡ gas v t → gasTotal w t ≡ gasTotal v t → last .applies w ≡ last .applies v) → ((w : World) → firstOf (last ∷ []) w ≡ 0 → Room w t c new x) → MeaningKeeps (changes t c last new x)
+changes-keep :
+    (t c : ℕ) (last : Place) (new : ℕ → ℕ) (x : Exchange) →
+    ((own : ℕ → Bool) (w v : World) → Alike own w v → gas w t ≡ gas v t → gasTotal w t ≡ gasTotal v t → last .applies w ≡ last .applies v) →
+    ((w : World) → firstOf (last ∷ []) w ≡ 0 → Room w t c new x) → MeaningKeeps (changes t c last new x)
 changes-keep t c last new x reading room =
     record {
       sameGrid = λ w. refl;

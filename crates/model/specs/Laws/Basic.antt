@@ -199,7 +199,9 @@ pub data Smallest (n : ℕ) (p : ℕ → Bool) : ℕ → Type 0 where
   none : ((i : ℕ) → 1 ≤ i → i ≤ n → p i ≡ false) → Smallest n p 0
   found : {m : ℕ} → m < n → p (suc m) ≡ true → ((i : ℕ) → 1 ≤ i → i ≤ m → p i ≡ false) → Smallest n p (suc m)
 
-smallest-next : (n : ℕ) (p : ℕ → Bool) (r : ℕ) (b : Bool) → p (suc n) ≡ b → Smallest n p r → Smallest (suc n) p (elim r [ zero ↦ elim b [ true ↦ suc n | false ↦ 0 ] | suc m ↦ suc m ])
+smallest-next :
+    (n : ℕ) (p : ℕ → Bool) (r : ℕ) (b : Bool) → p (suc n) ≡ b → Smallest n p r →
+    Smallest (suc n) p (elim r [ zero ↦ elim b [ true ↦ suc n | false ↦ 0 ] | suc m ↦ suc m ])
 smallest-next n p zero true e (none h) = found {m = n} (omega arith) e h
 smallest-next n p zero false e (none h) =
     none (λ i low high. ⊎-elim (λ (u : i ≡ suc n). rw u e) (λ u. h i low (omega arith)) (eq-or-lt-of-le high))

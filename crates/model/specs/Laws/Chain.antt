@@ -27,18 +27,24 @@ module _ (mesh : Mesh) (fluxes : List ℤ) (n : ℕ) (air : List ℕ) where
   length-air-after e zero = e
   length-air-after e (suc s) = length-after-flow mesh _ _
 
-  pub length-gas-after : (rule : Rule) (gas : List ℕ) → length gas ≡ mesh .cells → (s : ℕ) → length (gasAfter rule mesh fluxes n air gas s) ≡ mesh .cells
+  pub length-gas-after :
+      (rule : Rule) (gas : List ℕ) → length gas ≡ mesh .cells → (s : ℕ) →
+      length (gasAfter rule mesh fluxes n air gas s) ≡ mesh .cells
   unfolding gasAfter
   length-gas-after rule gas e zero = e
   length-gas-after rule gas e (suc s) = length-after-flow mesh _ _
 
 -- ---- where n serves, each of its substeps is allowed
-pub serves-allowed : (mesh : Mesh) (fluxes : List ℤ) (air : List ℕ) (n : ℕ) → serves mesh fluxes air n ≡ true → (s : ℕ) → s < n → Allowed mesh (parts fluxes n (suc s)) (airAfter mesh fluxes n air s)
+pub serves-allowed :
+    (mesh : Mesh) (fluxes : List ℤ) (air : List ℕ) (n : ℕ) → serves mesh fluxes air n ≡ true → (s : ℕ) → s < n →
+    Allowed mesh (parts fluxes n (suc s)) (airAfter mesh fluxes n air s)
 unfolding serves
 serves-allowed mesh fluxes air n e s h = allowed-is mesh _ _ (every-at n _ e s h)
 
 -- ---- what is kept from the start to the end of each substep
-module _ (mesh : Mesh) (regular : Regular mesh) (fluxes : List ℤ) (air : List ℕ) (n : ℕ) (fits : AirIn (mesh .cells) air) (serving : serves mesh fluxes air n ≡ true) where
+module _
+    (mesh : Mesh) (regular : Regular mesh) (fluxes : List ℤ) (air : List ℕ) (n : ℕ) (fits : AirIn (mesh .cells) air)
+    (serving : serves mesh fluxes air n ≡ true) where
   pub air-after-in : (s : ℕ) → s ≤ n → AirIn (mesh .cells) (airAfter mesh fluxes n air s)
   unfolding airAfter
   air-after-in zero h = fits
@@ -64,7 +70,9 @@ module _ (mesh : Mesh) (regular : Regular mesh) (fluxes : List ℤ) (air : List 
     gas-after-le s h c inside = rw (← (gas-after-total s h)) (term-le-sum (mesh .cells) _ c inside)
 
     -- a constant whole-number ratio stays
-    pub even-chain : (z : ℕ) → ((c : ℕ) → c < mesh .cells → at gas c ≡ z * at air c) → (s : ℕ) → s ≤ n → (c : ℕ) → c < mesh .cells → at (gasAfter rule mesh fluxes n air gas s) c ≡ z * at (airAfter mesh fluxes n air s) c
+    pub even-chain :
+        (z : ℕ) → ((c : ℕ) → c < mesh .cells → at gas c ≡ z * at air c) → (s : ℕ) → s ≤ n → (c : ℕ) → c < mesh .cells →
+        at (gasAfter rule mesh fluxes n air gas s) c ≡ z * at (airAfter mesh fluxes n air s) c
     unfolding airAfter gasAfter
     even-chain z even zero h = even
     even-chain z even (suc s) h =

@@ -131,7 +131,10 @@ module _ {rule : Rule} (limited : Limited rule) (cap : Bool) (K : ℕ) (table ai
       same i hi = ratio-constant (at air i) (at gas i) z (has i hi) (even i hi)
 
   -- a layer near which none passes a fraction may lean by its slope
-  layer-leans : Monotone rule → (shares : ℕ → Bool) (b : Bool) (H L : ℕ) → ((d : ℕ) → d < K → isNearLayer K shares d ≡ true → Inside b H L (at air d) (at gas d)) → (k : ℕ) → k < K → shares k ≡ true → Leans b H L (layerOf rule cap K air gas k)
+  layer-leans :
+      Monotone rule → (shares : ℕ → Bool) (b : Bool) (H L : ℕ) →
+      ((d : ℕ) → d < K → isNearLayer K shares d ≡ true → Inside b H L (at air d) (at gas d)) → (k : ℕ) → k < K →
+      shares k ≡ true → Leans b H L (layerOf rule cap K air gas k)
   layer-leans monotone shares b H L inside k h shared =
       let here = inside k h (near-self K shares k shared) in
       ⊎-elim
@@ -151,7 +154,9 @@ module _ {rule : Rule} (limited : Limited rule) (cap : Bool) (K : ℕ) (table ai
     above : ℕ → ℕ
     above j = amountAbove (layers rule cap K air gas) (edge table (airAbove air K) j)
 
-    pub new-tracer-not-cut : (j : ℕ) → j < K → amountAbove (layers rule cap K air gas) (edge table (airAbove air K) j) ≤ amountAbove (layers rule cap K air gas) (edge table (airAbove air K) (suc j))
+    pub new-tracer-not-cut :
+        (j : ℕ) → j < K →
+        amountAbove (layers rule cap K air gas) (edge table (airAbove air K) j) ≤ amountAbove (layers rule cap K air gas) (edge table (airAbove air K) (suc j))
     new-tracer-not-cut j h =
         rw (layers-are rule cap K air gas)
         (amount-rises (layerOf rule cap K air gas) K has layer-safe _ _ (omega (arith, edges .rises j h)))
@@ -168,7 +173,9 @@ module _ {rule : Rule} (limited : Limited rule) (cap : Bool) (K : ℕ) (table ai
         end = rw (edges .last, layers-are rule cap K air gas) (amount-whole (layerOf rule cap K air gas) K has)
 
     -- a whole-number ratio stays
-    pub new-tracer-even : (z : ℕ) → ((k : ℕ) → k < K → at gas k ≡ z * at air k) → (j : ℕ) → j < K → newTracer table (airAbove air K) (layers rule cap K air gas) j ≡ z * newAir table (airAbove air K) j
+    pub new-tracer-even :
+        (z : ℕ) → ((k : ℕ) → k < K → at gas k ≡ z * at air k) → (j : ℕ) → j < K →
+        newTracer table (airAbove air K) (layers rule cap K air gas) j ≡ z * newAir table (airAbove air K) j
     new-tracer-even z even j h = ap₂ _-_ (at-edge (suc j) h) (at-edge j (omega arith)) ∙ sym (mul-sub z _ _)
       where
         at-edge : (j : ℕ) → j ≤ K → amountAbove (layers rule cap K air gas) (edge table (airAbove air K) j) ≡ z * edge table (airAbove air K) j
@@ -177,17 +184,24 @@ module _ {rule : Rule} (limited : Limited rule) (cap : Bool) (K : ℕ) (table ai
             (amount-even (layerOf rule cap K air gas) K has z (λ k p. (layer-level z even k p, even k p)) _ (edge-le K table _ edges j h))
 
     -- ---- the range: a new layer passes no fraction that bounds the layers near it, but for 1/scale and a unit
-    shared : (j k : ℕ) → max (airAbove air k) (edge table (airAbove air K) j) < min (airAbove air (suc k)) (edge table (airAbove air K) (suc j)) → shareAir table air (airAbove air K) j k ≡ true
+    shared :
+        (j k : ℕ) →
+        max (airAbove air k) (edge table (airAbove air K) j) < min (airAbove air (suc k)) (edge table (airAbove air K) (suc j)) →
+        shareAir table air (airAbove air K) j k ≡ true
     unfolding shareAir
     shared j k h = lt-ltb _ _ h
 
-    new-layer-bounded : Monotone rule → (j : ℕ) → j < K → Bounded K (isNearLayer K (shareAir table air (airAbove air K) j)) air gas 1 (newAir table (airAbove air K) j) (newTracer table (airAbove air K) (layers rule cap K air gas) j)
+    new-layer-bounded :
+        Monotone rule → (j : ℕ) → j < K →
+        Bounded K (isNearLayer K (shareAir table air (airAbove air K) j)) air gas 1 (newAir table (airAbove air K) j) (newTracer table (airAbove air K) (layers rule cap K air gas) j)
     new-layer-bounded monotone j h b H L inside =
         rw (layers-are rule cap K air gas)
         (amount-between (layerOf rule cap K air gas) K has layer-safe b H L _ _ (edges .rises j h) (edge-le K table _ edges (suc j) h)
         (λ k hk s. layer-leans monotone (shareAir table air (airAbove air K) j) b H L inside k hk (shared j k s)))
 
-    pub new-layer-in-range : Monotone rule → (j : ℕ) → j < K → inRange K (isNearLayer K (shareAir table air (airAbove air K) j)) air gas 2 (newAir table (airAbove air K) j) (newTracer table (airAbove air K) (layers rule cap K air gas) j) ≡ true
+    pub new-layer-in-range :
+        Monotone rule → (j : ℕ) → j < K →
+        inRange K (isNearLayer K (shareAir table air (airAbove air K) j)) air gas 2 (newAir table (airAbove air K) j) (newTracer table (airAbove air K) (layers rule cap K air gas) j) ≡ true
     new-layer-in-range monotone j h =
         let some = layer-between (layerOf rule cap K air gas) K has K _ _ (omega arith) (edges .rises j h) (edge-le K table _ edges (suc j) h) in
         in-range K _ air gas (some .0) (some .1) (near-self K (shareAir table air (airAbove air K) j) _ (shared j _ (some .2))) (has _ (some .1)) 1 _ _ (new-air-least K table _ edges j h) (edges .most j h)

@@ -42,7 +42,9 @@ more-least from to lo hi h =
     less : {a c : ℕ} (d : ℕ) → a ≤ c → a ≤ c + d
     less d e = omega arith
 
-more-most : (from to lo hi : ℕ) → from < to → lo < hi → meets from to lo hi + min 1 (lo - from) + min 1 (from - lo) ≤ min 1 (hi - from) + min 1 (to - lo)
+more-most :
+    (from to lo hi : ℕ) → from < to → lo < hi →
+    meets from to lo hi + min 1 (lo - from) + min 1 (from - lo) ≤ min 1 (hi - from) + min 1 (to - lo)
 more-most from to lo hi h h' =
     ⊎-elim
     (λ (p : from ≤ lo). rw (max-eq-right p) (across (min 1 (min to hi - lo)) (min 1 (lo - from)) (min 1 (from - lo)) (min 1 (hi - from)) (min 1 (to - lo)) (omega arith) (omega arith) (omega arith)))

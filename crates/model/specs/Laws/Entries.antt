@@ -17,7 +17,9 @@ use Rattle.model.specs.Laws.Basic.{length-part, at-part, sum-ext, sum-sp
 
 module _ {A : Type 0} (d : A) (l : List A) (n : ℕ) (x : A) where
   -- P holds of the entries below n, and of the one that is set at n
-  pub entries-more : (P : ℕ → A → Type 0) → n < length l → ((k : ℕ) → k < n → P k (getD l k d)) → P n x → (k : ℕ) → k < n + 1 → P k (getD (set l n x) k d)
+  pub entries-more :
+      (P : ℕ → A → Type 0) → n < length l → ((k : ℕ) → k < n → P k (getD l k d)) → P n x → (k : ℕ) → k < n + 1 →
+      P k (getD (set l n x) k d)
   entries-more P room old new k h =
       ⊎-elim
       (λ (e : k ≡ n). subst (λ (i : ℕ). P i (getD (set l n x) i d)) (sym e) (rw (getD-set-same l n x d room) new))
@@ -55,7 +57,9 @@ unfolding joined
 joined-more n f = ap joined (tab-more n f) ∙ joined-append (tab n f) (f n ∷ []) ∙ ap (λ (l : List ℕ). joined (tab n f) ++ l) (append-nil (f n))
 
 -- a part written in the middle one of three lists
-pub written-middle : (a g r new : List ℕ) (first : ℕ) → first + length new ≤ length g → written (a ++ (g ++ r)) (length a + first) new ≡ a ++ (written g first new ++ r)
+pub written-middle :
+    (a g r new : List ℕ) (first : ℕ) → first + length new ≤ length g →
+    written (a ++ (g ++ r)) (length a + first) new ≡ a ++ (written g first new ++ r)
 written-middle a g r new first h =
     let front : take (length a + first) (a ++ (g ++ r)) ≡ a ++ take first g = take-append-add a (g ++ r) first ∙ ap (λ (l : List ℕ). a ++ l) (take-append-le first g r (omega arith)) in
     let back : drop (length a + first + length new) (a ++ (g ++ r)) ≡ drop (first + length new) g ++ r =

@@ -111,7 +111,9 @@ gap-apart : (b : Bool) (q r d : ℕ) → suc d ≤ 2 * gap b q r → Apart b q r
 gap-apart true q r d h = omega arith
 gap-apart false q r d h = omega arith
 
-room-gap : (b : Bool) (H L M T q r g d : ℕ) → Within (not b) (q * M) (scale * T) (lost (not b) * M) → Within b (r * L) (scale * H) (lost b * L) → Apart b q r g → d ≤ 2 * g → CellRoom b H L M T d
+room-gap :
+    (b : Bool) (H L M T q r g d : ℕ) → Within (not b) (q * M) (scale * T) (lost (not b) * M) →
+    Within b (r * L) (scale * H) (lost b * L) → Apart b q r g → d ≤ 2 * g → CellRoom b H L M T d
 room-gap true H L M T q r g d f h e k =
     omega (arith, mul-le-mul-right L f, mul-le-mul-right M h, ap (λ (x : ℕ). x * L * M) e, mul-le-mul-right (L * M) k)
 room-gap false H L M T q r g d f h e k =
@@ -122,7 +124,9 @@ room-level true H L M T i = omega (arith, mul-le-mul-right scale i)
 room-level false H L M T i = omega (arith, mul-le-mul-right scale i)
 
 -- a cell that is inside may lean twice as far as the ratio of a neighbour that is inside
-room : (b : Bool) (H L M T M₂ T₂ d : ℕ) → 0 < M → 0 < M₂ → Inside b H L M T → Inside b H L M₂ T₂ → d ≤ 2 * gap b (ratio M T) (ratio M₂ T₂) → CellRoom b H L M T d
+room :
+    (b : Bool) (H L M T M₂ T₂ d : ℕ) → 0 < M → 0 < M₂ → Inside b H L M T → Inside b H L M₂ T₂ →
+    d ≤ 2 * gap b (ratio M T) (ratio M₂ T₂) → CellRoom b H L M T d
 unfolding ratio
 room b H L M T M₂ T₂ zero hM hM₂ i i₂ h = room-level b H L M T i
 room b H L M T M₂ T₂ (suc d) hM hM₂ i i₂ h =
@@ -139,17 +143,23 @@ abbrev Tilted : Bool → ℕ → ℕ → ℕ → Type 0
 Tilted true n level tilt = n ≡ level + tilt
 Tilted false n level tilt = n + tilt ≡ level
 
-numerator-tilted : (D : Mismatch) (L M T m k : ℕ) → Safe D M T → m + k ≡ M → Tilted (D .positive) (numerator D M T m * L) (m * (2 * scale * T * L)) (D .size * L * m * k)
+numerator-tilted :
+    (D : Mismatch) (L M T m k : ℕ) → Safe D M T → m + k ≡ M →
+    Tilted (D .positive) (numerator D M T m * L) (m * (2 * scale * T * L)) (D .size * L * m * k)
 unfolding numerator
 numerator-tilted D L M T m k safe e =
     go (D .positive) (D .size * m * (M - m)) (tilt-le-level D M T safe m (omega arith)) (ap (λ (x : ℕ). D .size * m * x) (omega arith))
   where
-    go : (s : Bool) (tilt : ℕ) → tilt ≤ 2 * scale * m * T → tilt ≡ D .size * m * k → Tilted s ((elim s [ true ↦ 2 * scale * m * T + tilt | false ↦ 2 * scale * m * T - tilt ]) * L) (m * (2 * scale * T * L)) (D .size * L * m * k)
+    go :
+        (s : Bool) (tilt : ℕ) → tilt ≤ 2 * scale * m * T → tilt ≡ D .size * m * k →
+        Tilted s ((elim s [ true ↦ 2 * scale * m * T + tilt | false ↦ 2 * scale * m * T - tilt ]) * L) (m * (2 * scale * T * L)) (D .size * L * m * k)
     go true tilt h e₂ = omega (arith, ap (λ (x : ℕ). x * L) e₂)
     go false tilt h e₂ = omega (arith, ap (λ (x : ℕ). x * L) (sub-add-cancel h), ap (λ (x : ℕ). x * L) e₂)
 
 -- a part of m units at an end
-end-within : (b s : Bool) (L M τ m k d n u v : ℕ) → m + k ≡ M → Tilted s n (m * τ) (d * L * m * k) → Room b τ (leaning b s d * L * M) u v → Within b n (m * u) (m * v)
+end-within :
+    (b s : Bool) (L M τ m k d n u v : ℕ) → m + k ≡ M → Tilted s n (m * τ) (d * L * m * k) →
+    Room b τ (leaning b s d * L * M) u v → Within b n (m * u) (m * v)
 end-within true true L M τ m k d n u v e e₁ h =
     omega (arith, ap (λ (x : ℕ). x * (d * L * m)) e, mul-le-mul-right m h)
 end-within true false L M τ m k d n u v e e₁ h =
@@ -160,7 +170,9 @@ end-within false false L M τ m k d n u v e e₁ h =
     omega (arith, ap (λ (x : ℕ). x * (d * L * m)) e, mul-le-mul-right m h)
 
 -- the part of r units that m₁ units at the low end and m₂ at the high end leave
-middle-within : (b s : Bool) (M τ m₁ m₂ r δ n₁ n₂ u v : ℕ) → m₁ + m₂ + r ≡ M → Tilted (not s) n₁ (m₁ * τ) (δ * m₁ * (m₂ + r)) → Tilted s n₂ (m₂ * τ) (δ * m₂ * (m₁ + r)) → Room b τ (δ * M) u v → Within b (M * τ) (r * u + (n₁ + n₂)) (r * v)
+middle-within :
+    (b s : Bool) (M τ m₁ m₂ r δ n₁ n₂ u v : ℕ) → m₁ + m₂ + r ≡ M → Tilted (not s) n₁ (m₁ * τ) (δ * m₁ * (m₂ + r)) →
+    Tilted s n₂ (m₂ * τ) (δ * m₂ * (m₁ + r)) → Room b τ (δ * M) u v → Within b (M * τ) (r * u + (n₁ + n₂)) (r * v)
 middle-within true true M τ m₁ m₂ r δ n₁ n₂ u v e e₁ e₂ h =
     omega (arith, ap (λ (x : ℕ). x * τ) e, ap (λ (x : ℕ). x * (δ * r)) e, mul-le-mul-right r h)
 middle-within true false M τ m₁ m₂ r δ n₁ n₂ u v e e₁ e₂ h =
@@ -194,11 +206,16 @@ abbrev pub Leaves : Bool → ℕ → ℕ → ℕ → ℕ → ℕ → ℕ → Typ
 Leaves b H L r T p j = Within b (T * (scale * L)) (r * (scale * H) + p * (scale * L)) (r * L + j * (scale * L))
 
 -- p is j floors of the numerator N in all: of a piece, and of what pieces leave
-enter : (b : Bool) (H L M m N p j : ℕ) → 0 < M → Within b (N * L) (m * (2 * scale * H * M)) (m * (2 * L * M)) → Within b (p * (2 * scale * M)) N (j * (2 * scale * M)) → Near b H L m p j
+enter :
+    (b : Bool) (H L M m N p j : ℕ) → 0 < M → Within b (N * L) (m * (2 * scale * H * M)) (m * (2 * L * M)) →
+    Within b (p * (2 * scale * M)) N (j * (2 * scale * M)) → Near b H L m p j
 enter true H L M m N p j hM h f = le-of-mul-le-mul-right {k = 2 * M} (omega (arith, mul-le-mul-right L f)) (omega arith)
 enter false H L M m N p j hM h f = le-of-mul-le-mul-right {k = 2 * M} (omega (arith, mul-le-mul-right L f)) (omega arith)
 
-leave : (b : Bool) (H L M T r N p j : ℕ) → 0 < M → Within b (M * (2 * scale * T * L)) (r * (2 * scale * H * M) + N * L) (r * (2 * L * M)) → Within (not b) (p * (2 * scale * M)) N (j * (2 * scale * M)) → Leaves b H L r T p j
+leave :
+    (b : Bool) (H L M T r N p j : ℕ) → 0 < M →
+    Within b (M * (2 * scale * T * L)) (r * (2 * scale * H * M) + N * L) (r * (2 * L * M)) →
+    Within (not b) (p * (2 * scale * M)) N (j * (2 * scale * M)) → Leaves b H L r T p j
 leave true H L M T r N p j hM h f = le-of-mul-le-mul-right {k = 2 * M} (omega (arith, mul-le-mul-right L f)) (omega arith)
 leave false H L M T r N p j hM h f = le-of-mul-le-mul-right {k = 2 * M} (omega (arith, mul-le-mul-right L f)) (omega arith)
 
@@ -229,14 +246,18 @@ level-floors true X B (suc n) m h = omega (arith, level-floors true X B n m h, f
 level-floors false X B zero m h = omega arith
 level-floors false X B (suc n) m h = omega (arith, level-floors false X B n m h, floor-within false (m n * B) X h)
 
-level-within : (b : Bool) (H L M T m r : ℕ) → m + r ≡ M → CellRoom b H L M T 0 → Within b (M * (2 * scale * T * L)) (r * (2 * scale * H * M) + m * (2 * scale * T) * L) (r * (2 * L * M))
+level-within :
+    (b : Bool) (H L M T m r : ℕ) → m + r ≡ M → CellRoom b H L M T 0 →
+    Within b (M * (2 * scale * T * L)) (r * (2 * scale * H * M) + m * (2 * scale * T) * L) (r * (2 * L * M))
 level-within true H L M T m r e h = omega (arith, ap (λ (x : ℕ). x * (T * L)) e, mul-le-mul-right r h)
 level-within false H L M T m r e h = omega (arith, ap (λ (x : ℕ). x * (T * L)) e, mul-le-mul-right r h)
 
 -- ---- the laws of a cell of air M and tracer T inside H/L
 module _ (b : Bool) (H L M T : ℕ) (hM : 0 < M) (inside : Inside b H L M T) where
   -- a piece that it gives to a neighbour at its high end
-  pub piece-near : (D : Mismatch) (M₂ T₂ m : ℕ) → 0 < M₂ → Inside b H L M₂ T₂ → Safe D M T → Towards D (ratio M T) (ratio M₂ T₂) → m ≤ M → Near b H L m (highPiece D M T m) (lost b)
+  pub piece-near :
+      (D : Mismatch) (M₂ T₂ m : ℕ) → 0 < M₂ → Inside b H L M₂ T₂ → Safe D M T → Towards D (ratio M T) (ratio M₂ T₂) → m ≤ M →
+      Near b H L m (highPiece D M T m) (lost b)
   piece-near D M₂ T₂ m hM₂ inside₂ safe towards h =
       rw (piece-is D M T m)
       (enter b H L M m (numerator D M T m) _ (lost b) hM
@@ -246,14 +267,19 @@ module _ (b : Bool) (H L M T : ℕ) (hM : 0 < M) (inside : Inside b H L M T) whe
       (floor-within b _ _ (omega arith)))
 
   -- between two neighbours it may lean at both ends
-  pub room-between : (D : Mismatch) (M₁ T₁ M₂ T₂ : ℕ) → 0 < M₁ → 0 < M₂ → Inside b H L M₁ T₁ → Inside b H L M₂ T₂ → Towards (opposite D) (ratio M T) (ratio M₁ T₁) → Towards D (ratio M T) (ratio M₂ T₂) → CellRoom b H L M T (D .size)
+  pub room-between :
+      (D : Mismatch) (M₁ T₁ M₂ T₂ : ℕ) → 0 < M₁ → 0 < M₂ → Inside b H L M₁ T₁ → Inside b H L M₂ T₂ →
+      Towards (opposite D) (ratio M T) (ratio M₁ T₁) → Towards D (ratio M T) (ratio M₂ T₂) → CellRoom b H L M T (D .size)
   room-between D M₁ T₁ M₂ T₂ hM₁ hM₂ inside₁ inside₂ low high =
       room-ends b (D .positive) H L M T (D .size)
       (room b H L M T M₁ T₁ _ hM hM₁ inside inside₁ (low b))
       (room b H L M T M₂ T₂ _ hM hM₂ inside inside₂ (high b))
 
   -- what it keeps in r units of air, after a piece from each end, between two neighbours
-  pub ends-leave : (D : Mismatch) (M₁ T₁ M₂ T₂ m₁ m₂ r : ℕ) → 0 < M₁ → 0 < M₂ → Inside b H L M₁ T₁ → Inside b H L M₂ T₂ → Safe D M T → Towards (opposite D) (ratio M T) (ratio M₁ T₁) → Towards D (ratio M T) (ratio M₂ T₂) → m₁ + m₂ + r ≡ M → Leaves b H L r T (lowPiece D M T m₁ + highPiece D M T m₂) (2 * lost (not b))
+  pub ends-leave :
+      (D : Mismatch) (M₁ T₁ M₂ T₂ m₁ m₂ r : ℕ) → 0 < M₁ → 0 < M₂ → Inside b H L M₁ T₁ → Inside b H L M₂ T₂ → Safe D M T →
+      Towards (opposite D) (ratio M T) (ratio M₁ T₁) → Towards D (ratio M T) (ratio M₂ T₂) → m₁ + m₂ + r ≡ M →
+      Leaves b H L r T (lowPiece D M T m₁ + highPiece D M T m₂) (2 * lost (not b))
   ends-leave D M₁ T₁ M₂ T₂ m₁ m₂ r hM₁ hM₂ inside₁ inside₂ safe low high e =
       let N₁ = numerator (opposite D) M T m₁ in
       let N₂ = numerator D M T m₂ in
@@ -267,7 +293,9 @@ module _ (b : Bool) (H L M T : ℕ) (hM : 0 < M) (inside : Inside b H L M T) whe
       (floors-within (not b) N₁ N₂ _ (omega arith)))
 
   -- and after n plain pieces
-  pub plains-leave : (D : Mismatch) (n r : ℕ) (m : ℕ → ℕ) → D .size ≡ 0 → sum n m + r ≡ M → Leaves b H L r T (sum n (λ i. highPiece D M T (m i))) (n * lost (not b))
+  pub plains-leave :
+      (D : Mismatch) (n r : ℕ) (m : ℕ → ℕ) → D .size ≡ 0 → sum n m + r ≡ M →
+      Leaves b H L r T (sum n (λ i. highPiece D M T (m i))) (n * lost (not b))
   plains-leave D n r m flat e =
       rw (sum-ext n (λ i. highPiece D M T (m i)) (λ i. m i * (2 * scale * T) / (2 * scale * M)) (λ i h. piece-is D M T (m i) ∙ rw (level-numerator D M T (m i) flat)))
       (leave b H L M T r (sum n m * (2 * scale * T)) _ (n * lost (not b)) hM
@@ -275,11 +303,15 @@ module _ (b : Bool) (H L M T : ℕ) (hM : 0 < M) (inside : Inside b H L M T) whe
       (level-floors (not b) (2 * scale * M) (2 * scale * T) n m (omega arith)))
 
 -- ---- the part of a cell between two of its points: p₂ units of tracer up to the higher one, p₁ up to the lower one
-leaves-add : (b : Bool) (H L r T p j r' T' p' j' : ℕ) → Leaves b H L r T p j → Leaves b H L r' T' p' j' → Leaves b H L (r + r') (T + T') (p + p') (j + j')
+leaves-add :
+    (b : Bool) (H L r T p j r' T' p' j' : ℕ) → Leaves b H L r T p j → Leaves b H L r' T' p' j' →
+    Leaves b H L (r + r') (T + T') (p + p') (j + j')
 leaves-add true H L r T p j r' T' p' j' h h' = omega arith
 leaves-add false H L r T p j r' T' p' j' h h' = omega arith
 
-pub leaves-join : (b : Bool) (H L r T p j r' T' p' j' : ℕ) {r'' j'' : ℕ} → Leaves b H L r T p j → Leaves b H L r' T' p' j' → r + r' ≡ r'' → j + j' ≡ j'' → Leaves b H L r'' (T + T') (p + p') j''
+pub leaves-join :
+    (b : Bool) (H L r T p j r' T' p' j' : ℕ) {r'' j'' : ℕ} → Leaves b H L r T p j → Leaves b H L r' T' p' j' → r + r' ≡ r'' →
+    j + j' ≡ j'' → Leaves b H L r'' (T + T') (p + p') j''
 leaves-join b H L r T p j r' T' p' j' h h' e e₂ = rw (← e, ← e₂) (leaves-add b H L r T p j r' T' p' j' h h')
 
 pub leaves-same : (b : Bool) (H L r p j : ℕ) → r ≡ 0 → Leaves b H L r p p j
@@ -290,7 +322,11 @@ pub leaves-near : (b : Bool) (H L r T p j : ℕ) → p ≤ T → Leaves b H L r 
 leaves-near true H L r T p j h k = omega (arith, ap (λ (x : ℕ). x * (scale * L)) (sub-add-cancel h))
 leaves-near false H L r T p j h k = omega (arith, ap (λ (x : ℕ). x * (scale * L)) (sub-add-cancel h))
 
-part-leaves : (b : Bool) (H L M r N₁ N₂ p₁ p₂ j₁ j₂ : ℕ) → 0 < M → Within b (N₂ * L) (r * (2 * scale * H * M) + N₁ * L) (r * (2 * L * M)) → Within b (p₂ * (2 * scale * M)) N₂ (j₂ * (2 * scale * M)) → Within (not b) (p₁ * (2 * scale * M)) N₁ (j₁ * (2 * scale * M)) → Leaves b H L r p₂ p₁ (j₂ + j₁)
+part-leaves :
+    (b : Bool) (H L M r N₁ N₂ p₁ p₂ j₁ j₂ : ℕ) → 0 < M →
+    Within b (N₂ * L) (r * (2 * scale * H * M) + N₁ * L) (r * (2 * L * M)) →
+    Within b (p₂ * (2 * scale * M)) N₂ (j₂ * (2 * scale * M)) →
+    Within (not b) (p₁ * (2 * scale * M)) N₁ (j₁ * (2 * scale * M)) → Leaves b H L r p₂ p₁ (j₂ + j₁)
 part-leaves true H L M r N₁ N₂ p₁ p₂ j₁ j₂ hM h f₂ f₁ =
     le-of-mul-le-mul-right {k = 2 * M} (omega (arith, mul-le-mul-right L f₁, mul-le-mul-right L f₂)) (omega arith)
 part-leaves false H L M r N₁ N₂ p₁ p₂ j₁ j₂ hM h f₂ f₁ =
@@ -301,7 +337,9 @@ exact-within true x y e = omega arith
 exact-within false x y e = omega arith
 
 -- all but what lies past the higher point
-all-but : (b : Bool) (L M T A n₁ n₂ N v : ℕ) → n₂ + N ≡ 2 * scale * M * T → Within b (M * (2 * scale * T * L)) (A + (n₁ + n₂ * L)) v → Within b (N * L) (A + n₁) v
+all-but :
+    (b : Bool) (L M T A n₁ n₂ N v : ℕ) → n₂ + N ≡ 2 * scale * M * T →
+    Within b (M * (2 * scale * T * L)) (A + (n₁ + n₂ * L)) v → Within b (N * L) (A + n₁) v
 all-but true L M T A n₁ n₂ N v e h = omega (arith, ap (λ (x : ℕ). x * L) e)
 all-but false L M T A n₁ n₂ N v e h = omega (arith, ap (λ (x : ℕ). x * L) e)
 
@@ -311,7 +349,9 @@ two-floors false = refl
 
 module _ (b : Bool) (H L M T : ℕ) (hM : 0 < M) (D : Mismatch) (safe : Safe D M T) (leans : CellRoom b H L M T (D .size)) where
   -- the numerators of the low-end pieces up to x and up to y
-  part-within : (x y : ℕ) → x ≤ y → y ≤ M → Within b (numerator (opposite D) M T y * L) ((y - x) * (2 * scale * H * M) + numerator (opposite D) M T x * L) ((y - x) * (2 * L * M))
+  part-within :
+      (x y : ℕ) → x ≤ y → y ≤ M →
+      Within b (numerator (opposite D) M T y * L) ((y - x) * (2 * scale * H * M) + numerator (opposite D) M T x * L) ((y - x) * (2 * L * M))
   part-within x y h h' =
       let past : M - (M - y) ≡ y = omega arith in
       all-but b L M T _ _ _ _ _
@@ -344,7 +384,9 @@ module _ (b : Bool) (H L M T : ℕ) (hM : 0 < M) (D : Mismatch) (safe : Safe D M
   all-leaves = part-leaves b H L M (M - 0) _ _ _ _ _ _ hM (part-within 0 M (omega arith) (omega arith)) (whole b) (none (not b))
 
 -- ---- the cell afterwards: p₂ units of tracer left it, r units of air stayed, and m with p units came in; each face cost a unit, of what came in or of what stayed
-pub replaced : (b : Bool) (H L r T m p p₂ f M' T' : ℕ) → Near b H L m p (f * lost b) → Leaves b H L r T p₂ (f * lost (not b)) → r + m ≡ M' → T + p - p₂ ≡ T' → Near b H L M' T' f
+pub replaced :
+    (b : Bool) (H L r T m p p₂ f M' T' : ℕ) → Near b H L m p (f * lost b) → Leaves b H L r T p₂ (f * lost (not b)) →
+    r + m ≡ M' → T + p - p₂ ≡ T' → Near b H L M' T' f
 replaced true H L r T m p p₂ f M' zero came stays eM eT = omega arith
 replaced true H L r T m p p₂ f M' (suc t) came stays eM eT =
     let e : suc t + p₂ ≡ T + p = omega arith in

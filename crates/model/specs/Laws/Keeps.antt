@@ -90,7 +90,9 @@ module _ (own : ℕ → Bool) (w v : World) (alike : Alike own w v) where
       ap₂ (λ (g : Grid) (l : List ℕ). sum (worldCells g) (at l)) (alike .sameGrid) (named-alike t named present)
 
   -- what is named is absent in both worlds or in neither; the last place; no place
-  pub absent-alike : (i : ℕ) (many : Grid → ℕ) (ps : List Place) → (i < many (w .grid) → firstOf ps w ≡ firstOf ps v) → firstOf (absent i many ∷ ps) w ≡ firstOf (absent i many ∷ ps) v
+  pub absent-alike :
+      (i : ℕ) (many : Grid → ℕ) (ps : List Place) → (i < many (w .grid) → firstOf ps w ≡ firstOf ps v) →
+      firstOf (absent i many ∷ ps) w ≡ firstOf (absent i many ∷ ps) v
   absent-alike i many ps rest =
       firstOf-same (absent i many) ps w v
       (ap (λ (g : Grid). not (ltb i (many g))) (alike .sameGrid))
@@ -113,7 +115,9 @@ module _ (own : ℕ → Bool) (w v : World) (alike : Alike own w v) where
 pub record AcceptedKeeps (w : World) (m : Meaning) : Type 0 where
   pub kept : Kept w (m .next w) (m .exchange w)
   pub inRange : (t : ℕ) → t < w .grid .N → m .range w t
-  pub alike : (own : ℕ → Bool) (v : World) → Reached v → Alike own w v → namesOwn own w (m .names) ≡ true → Alike own (m .next w) (m .next v) × (m .count w ≡ m .count v)
+  pub alike :
+      (own : ℕ → Bool) (v : World) → Reached v → Alike own w v → namesOwn own w (m .names) ≡ true →
+      Alike own (m .next w) (m .next v) × (m .count w ≡ m .count v)
   pub apart : (own : ℕ → Bool) → namesOwn own w (m .names) ≡ false → Alike own w (m .next w)
 
 -- in any world its grid stays, and its own places do not tell two worlds alike apart, if it names no other gas
@@ -123,7 +127,11 @@ pub record MeaningKeeps (m : Meaning) : Type 0 where
   pub accepts : (w : World) → Reached w → firstOf (m .places) w ≡ 0 → AcceptedKeeps w m
 
 -- a call that reads keeps all, if its places and its count read no other gas than the one that it names
-pub reads-keep : (names : Named) (ps : List Place) (count : World → ℕ) → ((own : ℕ → Bool) (w v : World) → Alike own w v → namesOwn own w names ≡ true → firstOf ps w ≡ firstOf ps v) → ((own : ℕ → Bool) (w v : World) → Alike own w v → namesOwn own w names ≡ true → firstOf ps w ≡ 0 → count w ≡ count v) → MeaningKeeps (reads names ps count)
+pub reads-keep :
+    (names : Named) (ps : List Place) (count : World → ℕ) →
+    ((own : ℕ → Bool) (w v : World) → Alike own w v → namesOwn own w names ≡ true → firstOf ps w ≡ firstOf ps v) →
+    ((own : ℕ → Bool) (w v : World) → Alike own w v → namesOwn own w names ≡ true → firstOf ps w ≡ 0 → count w ≡ count v) →
+    MeaningKeeps (reads names ps count)
 reads-keep names ps count places counts =
     record {
       sameGrid = λ w. refl;
@@ -142,7 +150,9 @@ reads-keep names ps count places counts =
 pub record StepKeeps (w : World) (call : Call) : Type 0 where
   pub kept : Kept w (step w call .next) (λ t. exchanged w t call)
   pub inRange : (t : ℕ) → t < w .grid .N → step w call .answer ≡ 0 → CallInRange w t call
-  pub independent : (own : ℕ → Bool) (v : World) → Reached v → Alike own w v → Alike own (step w call .next) (step v call .next) × (namesNoOther own w call ≡ true → SameReply w v call)
+  pub independent :
+      (own : ℕ → Bool) (v : World) → Reached v → Alike own w v →
+      Alike own (step w call .next) (step v call .next) × (namesNoOther own w call ≡ true → SameReply w v call)
 
 exchange-accepted : (w : World) (call : Call) → step w call .answer ≡ 0 → (t : ℕ) → exchanged w t call ≡ meaning call .exchange w t
 exchange-accepted w call e t = rw (e, exchanged)
@@ -164,7 +174,9 @@ module _ (call : Call) (keeps : MeaningKeeps (meaning call)) where
       rw (step-refused w call n e) (kept-same reached (exchange-refused w call n (answer-is w call ∙ e)))
 
   -- its refusal in two worlds alike, if it names no other gas
-  refusal-alike : (own : ℕ → Bool) (w v : World) → Alike own w v → Reached w → Reached v → namesNoOther own w call ≡ true → refusal w call ≡ refusal v call
+  refusal-alike :
+      (own : ℕ → Bool) (w v : World) → Alike own w v → Reached w → Reached v → namesNoOther own w call ≡ true →
+      refusal w call ≡ refusal v call
   unfolding ownPlaces
   refusal-alike own w v alike ww vv named = go (lentFits (w .grid) call) refl
     where
@@ -175,20 +187,27 @@ module _ (call : Call) (keeps : MeaningKeeps (meaning call)) where
       go false e = lent-refusal w call (ww .fits) e ∙ sym (lent-refusal v call (vv .fits) (rw (alike .sameGrid) at e))
 
   -- a call that names another gas leaves the own ones alone
-  step-apart : (own : ℕ → Bool) (w : World) → Reached w → namesNoOther own w call ≡ false → (n : ℕ) → refusal w call ≡ n → Alike own w (step w call .next)
+  step-apart :
+      (own : ℕ → Bool) (w : World) → Reached w → namesNoOther own w call ≡ false → (n : ℕ) → refusal w call ≡ n →
+      Alike own w (step w call .next)
   unfolding accepted refused
   step-apart own w reached other zero e = rw (step-accepted w call e) (accepts w reached e .apart own other)
   step-apart own w reached other (suc n) e = rw (step-refused w call n e) (alike-same own w)
 
   -- one that names no other does the same in both worlds
-  step-alike : (own : ℕ → Bool) (w v : World) → Reached w → Reached v → Alike own w v → namesNoOther own w call ≡ true → (n : ℕ) → refusal w call ≡ n → refusal v call ≡ n → Alike own (step w call .next) (step v call .next) × (step w call .count ≡ step v call .count)
+  step-alike :
+      (own : ℕ → Bool) (w v : World) → Reached w → Reached v → Alike own w v → namesNoOther own w call ≡ true → (n : ℕ) →
+      refusal w call ≡ n → refusal v call ≡ n →
+      Alike own (step w call .next) (step v call .next) × (step w call .count ≡ step v call .count)
   unfolding accepted refused
   step-alike own w v ww vv a named zero e f =
       rw (step-accepted w call e, step-accepted v call f) (accepts w ww e .alike own v vv a named)
   step-alike own w v ww vv a named (suc n) e f =
       rw (step-refused w call n e, step-refused v call n f) (a, refl)
 
-  step-independent : (own : ℕ → Bool) (w v : World) → Reached w → Reached v → Alike own w v → (b : Bool) → namesNoOther own w call ≡ b → Alike own (step w call .next) (step v call .next) × (b ≡ true → SameReply w v call)
+  step-independent :
+      (own : ℕ → Bool) (w v : World) → Reached w → Reached v → Alike own w v → (b : Bool) → namesNoOther own w call ≡ b →
+      Alike own (step w call .next) (step v call .next) × (b ≡ true → SameReply w v call)
   step-independent own w v ww vv a true e =
       let same = refusal-alike own w v a ww vv e in
       let r = step-alike own w v ww vv a e (refusal w call) refl (sym same) in

@@ -42,7 +42,9 @@ module _ (keeps : (call : Call) (w : World) → Reached w → StepKeeps w call) 
       kept-trans one (list-kept (step w call .next) calls (one .reached))
 
   -- two worlds alike at the start are alike at the end
-  pub list-alike : (own : ℕ → Bool) (w v : World) (calls : List Call) → Reached w → Reached v → Alike own w v → Alike own (after w calls) (after v calls)
+  pub list-alike :
+      (own : ℕ → Bool) (w v : World) (calls : List Call) → Reached w → Reached v → Alike own w v →
+      Alike own (after w calls) (after v calls)
   unfolding after
   list-alike own w v [] ww vv a = a
   list-alike own w v (call ∷ calls) ww vv a =
@@ -50,7 +52,10 @@ module _ (keeps : (call : Call) (w : World) → Reached w → StepKeeps w call) 
       list-alike own (step w call .next) (step v call .next) calls (one .kept .reached) (keeps call v vv .kept .reached) (one .independent own v vv a .0)
 
   -- a ratio from point i to point j, between which nothing of the gas was emitted or withdrawn
-  pub points-ratio : (i j : ℕ) (w : World) (calls : List Call) → Reached w → i ≤ j → (t z : ℕ) → t < w .grid .N → HasRatio (point w calls i) t z → history w t (take j calls) ≡ history w t (take i calls) → HasRatio (point w calls j) t z
+  pub points-ratio :
+      (i j : ℕ) (w : World) (calls : List Call) → Reached w → i ≤ j → (t z : ℕ) → t < w .grid .N →
+      HasRatio (point w calls i) t z → history w t (take j calls) ≡ history w t (take i calls) →
+      HasRatio (point w calls j) t z
   points-ratio i j w calls reached le t z h ratio none =
       let first : List Call = take i calls in
       let between : List Call = take (j - i) (drop i calls) in

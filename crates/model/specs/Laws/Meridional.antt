@@ -18,7 +18,9 @@ use Rattle.model.specs.Laws.Keeps.{air-alike, MeaningKeeps}
 use Rattle.model.specs.Laws.Sweep.{Sweeps, sweeps-keep, ChangesOnly, swept-changes-only, step-changes-only}
 
 -- what its own places tell, where they are passed
-own-sweeps : (k : ℕ) (fluxes : List ℤ) (w : World) → firstOf (ownPlaces (meridional k fluxes)) w ≡ 0 → Sweeps w (layer (w .grid .W) (w .grid .R)) (layerStart (w .grid) k) fluxes 1
+own-sweeps :
+    (k : ℕ) (fluxes : List ℤ) (w : World) → firstOf (ownPlaces (meridional k fluxes)) w ≡ 0 →
+    Sweeps w (layer (w .grid .W) (w .grid .R)) (layerStart (w .grid) k) fluxes 1
 unfolding ownPlaces layer
 own-sweeps k fluxes w e =
     let p = found k (λ g. g .K) _ w e in
@@ -32,7 +34,9 @@ own-sweeps k fluxes w e =
       serving = not-false _ (one .0);
     }
 
-pub meridional-sweeps : (k : ℕ) (fluxes : List ℤ) (w : World) → refusal w (meridional k fluxes) ≡ 0 → Sweeps w (layer (w .grid .W) (w .grid .R)) (layerStart (w .grid) k) fluxes 1
+pub meridional-sweeps :
+    (k : ℕ) (fluxes : List ℤ) (w : World) → refusal w (meridional k fluxes) ≡ 0 →
+    Sweeps w (layer (w .grid .W) (w .grid .R)) (layerStart (w .grid) k) fluxes 1
 meridional-sweeps k fluxes w e = own-sweeps k fluxes w (accepted-passed w (meridional k fluxes) e .2)
 
 pub meridional-keeps : (k : ℕ) (fluxes : List ℤ) → MeaningKeeps (meaning (meridional k fluxes))
@@ -43,7 +47,9 @@ meridional-keeps k fluxes =
     (own-sweeps k fluxes)
 
 -- ---- the frame: it writes only its layer; a refused one writes nothing
-pub meridional-changes-only : (k : ℕ) (fluxes : List ℤ) (w : World) → ChangesOnly w (step w (meridional k fluxes) .next) (layerStart (w .grid) k) (layerCells (w .grid))
+pub meridional-changes-only :
+    (k : ℕ) (fluxes : List ℤ) (w : World) →
+    ChangesOnly w (step w (meridional k fluxes) .next) (layerStart (w .grid) k) (layerCells (w .grid))
 unfolding accepted layer
 meridional-changes-only k fluxes w =
     step-changes-only w (meridional k fluxes) _ _

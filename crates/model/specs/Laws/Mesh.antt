@@ -50,19 +50,27 @@ pub record Regular (mesh : Mesh) : Type 0 where
   pub passesOn : (flow : Flow) → sum (mesh .cells) (entering mesh flow) ≡ sum (mesh .cells) (leaving mesh flow)
 
 -- where what leaves all cells is what passes all faces, it is what enters all cells
-pub passes-on : (mesh : Mesh) → ((flow : Flow) → sum (mesh .cells) (leaving mesh flow) ≡ sum (mesh .faces) (flow .toHigh) + sum (mesh .faces) (flow .toLow)) → (flow : Flow) → sum (mesh .cells) (entering mesh flow) ≡ sum (mesh .cells) (leaving mesh flow)
+pub passes-on :
+    (mesh : Mesh) →
+    ((flow : Flow) → sum (mesh .cells) (leaving mesh flow) ≡ sum (mesh .faces) (flow .toHigh) + sum (mesh .faces) (flow .toLow)) →
+    (flow : Flow) → sum (mesh .cells) (entering mesh flow) ≡ sum (mesh .cells) (leaving mesh flow)
 passes-on mesh all flow = omega (arith, all flow, all (reversed flow))
 
 -- where a flow is z times another through every face, what leaves a cell is z times what leaves it there
 module _ (mesh : Mesh) (regular : Regular mesh) (z : ℕ) where
-  out-times : (flow more : Flow) → ((f : ℕ) → f < mesh .faces → more .toHigh f ≡ z * flow .toHigh f) → ((f : ℕ) → f < mesh .faces → more .toLow f ≡ z * flow .toLow f) → (c : ℕ) (s : Sides) → Meets mesh c s → out more s ≡ z * out flow s
+  out-times :
+      (flow more : Flow) → ((f : ℕ) → f < mesh .faces → more .toHigh f ≡ z * flow .toHigh f) →
+      ((f : ℕ) → f < mesh .faces → more .toLow f ≡ z * flow .toLow f) → (c : ℕ) (s : Sides) → Meets mesh c s →
+      out more s ≡ z * out flow s
   out-times flow more high low c (between l h) m = omega (arith, low l (m .0), high h (m .1))
   out-times flow more high low c (southCap k n) m =
       sum-ext n _ _ (λ i p. high (k + i) (m i p .0)) ∙ sum-times n z (λ i. flow .toHigh (k + i))
   out-times flow more high low c (northCap k n) m =
       sum-ext n _ _ (λ i p. low (k + i) (m i p .0)) ∙ sum-times n z (λ i. flow .toLow (k + i))
 
-  module _ (flow more : Flow) (high : (f : ℕ) → f < mesh .faces → more .toHigh f ≡ z * flow .toHigh f) (low : (f : ℕ) → f < mesh .faces → more .toLow f ≡ z * flow .toLow f) (c : ℕ) (inside : c < mesh .cells) where
+  module _
+      (flow more : Flow) (high : (f : ℕ) → f < mesh .faces → more .toHigh f ≡ z * flow .toHigh f)
+      (low : (f : ℕ) → f < mesh .faces → more .toLow f ≡ z * flow .toLow f) (c : ℕ) (inside : c < mesh .cells) where
     pub leaving-times : leaving mesh more c ≡ z * leaving mesh flow c
     leaving-times =
         rw (leaving-is mesh more c, leaving-is mesh flow c) (out-times flow more high low c (mesh .sides c) (regular .meets c inside))

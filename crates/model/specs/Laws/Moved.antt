@@ -32,7 +32,9 @@ pub record KeepsGas (cells : ℕ) (air new : List ℕ) (change : List ℕ → Li
   pub gasKept : (had : List ℕ) → length had ≡ cells → sum cells (at (change had)) ≡ sum cells (at had)
   pub evenKept : (had : List ℕ) (z : ℕ) → length had ≡ cells → Even cells z air had → Even cells z new (change had)
 
-pub moved-kept : (w : World) → Reached w → (new : List ℕ) (change : ℕ → List ℕ → List ℕ) → KeepsAir (worldCells (w .grid)) (w .air) new → ((t : ℕ) → KeepsGas (worldCells (w .grid)) (w .air) new (change t)) → Kept w (moved w new change) (λ t. noExchange)
+pub moved-kept :
+    (w : World) → Reached w → (new : List ℕ) (change : ℕ → List ℕ → List ℕ) → KeepsAir (worldCells (w .grid)) (w .air) new →
+    ((t : ℕ) → KeepsGas (worldCells (w .grid)) (w .air) new (change t)) → Kept w (moved w new change) (λ t. noExchange)
 moved-kept w reached new change air gases =
     record {
       reached =
@@ -64,7 +66,12 @@ moved-kept w reached new change air gases =
     total t h = rw (gas-moved w new change as-many t h) (gases t .gasKept (gas w t) (had t h))
 
 -- in two worlds of the same grid: the same new air, and the same new amounts of each own gas
-pub moved-alike : (own : ℕ → Bool) (w v : World) (new newer : List ℕ) (change alter : ℕ → List ℕ → List ℕ) → ((t : ℕ) → t < w .grid .N → length (change t (gas w t)) ≡ worldCells (w .grid)) → ((t : ℕ) → t < v .grid .N → length (alter t (gas v t)) ≡ worldCells (v .grid)) → w .grid ≡ v .grid → new ≡ newer → ((t : ℕ) → t < w .grid .N → own t ≡ true → change t (gas w t) ≡ alter t (gas v t)) → Alike own (moved w new change) (moved v newer alter)
+pub moved-alike :
+    (own : ℕ → Bool) (w v : World) (new newer : List ℕ) (change alter : ℕ → List ℕ → List ℕ) →
+    ((t : ℕ) → t < w .grid .N → length (change t (gas w t)) ≡ worldCells (w .grid)) →
+    ((t : ℕ) → t < v .grid .N → length (alter t (gas v t)) ≡ worldCells (v .grid)) → w .grid ≡ v .grid → new ≡ newer →
+    ((t : ℕ) → t < w .grid .N → own t ≡ true → change t (gas w t) ≡ alter t (gas v t)) →
+    Alike own (moved w new change) (moved v newer alter)
 moved-alike own w v new newer change alter many many-v sameGrid sameAir sameChange =
     record { sameGrid = sameGrid; sameAir = sameAir; sameGas = λ t o. same t o (ltb t (w .grid .N)) refl }
   where

@@ -34,20 +34,28 @@ Cap (northCap k n) = Unit {0}
 
 -- ---- the mismatch of a cell leans towards the cells across its faces
 module _ {rule : Rule} (monotone : Monotone rule) (mesh : Mesh) (air gas : List ℕ) where
-  towards-high : (c f : ℕ) → OnHighSide f (mesh .sides c) → Towards (cellMismatch rule mesh air gas c) (cellRatio air gas c) (cellRatio air gas (mesh .highCell f))
+  towards-high :
+      (c f : ℕ) → OnHighSide f (mesh .sides c) →
+      Towards (cellMismatch rule mesh air gas c) (cellRatio air gas c) (cellRatio air gas (mesh .highCell f))
   unfolding cellMismatch
   towards-high c f = go (mesh .sides c) refl
     where
-      go : (s : Sides) → mesh .sides c ≡ s → OnHighSide f s → Towards (cellMismatch rule mesh air gas c) (cellRatio air gas c) (cellRatio air gas (mesh .highCell f))
+      go :
+          (s : Sides) → mesh .sides c ≡ s → OnHighSide f s →
+          Towards (cellMismatch rule mesh air gas c) (cellRatio air gas c) (cellRatio air gas (mesh .highCell f))
       go (between l h) e on = rw (e, cellMismatch, ← on) (monotone .towardsHigh _ _ _)
       go (southCap k n) e on = rw (e, cellMismatch) (level-towards true _ _)
       go (northCap k n) e on = absurd on
 
-  towards-low : (c f : ℕ) → OnLowSide f (mesh .sides c) → Towards (opposite (cellMismatch rule mesh air gas c)) (cellRatio air gas c) (cellRatio air gas (mesh .lowCell f))
+  towards-low :
+      (c f : ℕ) → OnLowSide f (mesh .sides c) →
+      Towards (opposite (cellMismatch rule mesh air gas c)) (cellRatio air gas c) (cellRatio air gas (mesh .lowCell f))
   unfolding cellMismatch
   towards-low c f = go (mesh .sides c) refl
     where
-      go : (s : Sides) → mesh .sides c ≡ s → OnLowSide f s → Towards (opposite (cellMismatch rule mesh air gas c)) (cellRatio air gas c) (cellRatio air gas (mesh .lowCell f))
+      go :
+          (s : Sides) → mesh .sides c ≡ s → OnLowSide f s →
+          Towards (opposite (cellMismatch rule mesh air gas c)) (cellRatio air gas c) (cellRatio air gas (mesh .lowCell f))
       go (between l h) e on = rw (e, cellMismatch, ← on) (monotone .towardsLow _ _ _)
       go (southCap k n) e on = absurd on
       go (northCap k n) e on = rw (e, cellMismatch) (level-towards false _ _)
@@ -108,28 +116,39 @@ module _ (mesh : Mesh) (c : ℕ) where
           rw (e, leaving) (rw i at (term-le-sum n (λ i. flow .toLow (k + i)) (f - k) (omega arith)))
 
 -- ---- a substep: air in every cell, and no cell gives more than it has
-module _ {rule : Rule} (limited : Limited rule) (monotone : Monotone rule) (mesh : Mesh) (regular : Regular mesh) (flow : Flow) (air gas : List ℕ) (has : (c : ℕ) → c < mesh .cells → 1 ≤ at air c) (gives : (c : ℕ) → c < mesh .cells → leaving mesh flow c ≤ at air c) where
+module _
+    {rule : Rule} (limited : Limited rule) (monotone : Monotone rule) (mesh : Mesh) (regular : Regular mesh) (flow : Flow)
+    (air gas : List ℕ) (has : (c : ℕ) → c < mesh .cells → 1 ≤ at air c)
+    (gives : (c : ℕ) → c < mesh .cells → leaving mesh flow c ≤ at air c) where
   -- a fraction H/L that no cell near c passes
-  module _ (b : Bool) (H L c : ℕ) (hc : c < mesh .cells) (inside : (d : ℕ) → d < mesh .cells → isNear mesh c d ≡ true → Inside b H L (at air d) (at gas d)) where
+  module _
+      (b : Bool) (H L c : ℕ) (hc : c < mesh .cells)
+      (inside : (d : ℕ) → d < mesh .cells → isNear mesh c d ≡ true → Inside b H L (at air d) (at gas d)) where
     self-inside : Inside b H L (at air c) (at gas c)
     self-inside = inside c hc (near-self mesh c)
 
     -- what comes in through a face on its low side, and on its high side
-    from-low : (f : ℕ) → f < mesh .faces → mesh .highCell f ≡ c → OnLowSide f (mesh .sides c) → Near b H L (flow .toHigh f) (pieces rule mesh flow air gas .toHigh f) (lost b)
+    from-low :
+        (f : ℕ) → f < mesh .faces → mesh .highCell f ≡ c → OnLowSide f (mesh .sides c) →
+        Near b H L (flow .toHigh f) (pieces rule mesh flow air gas .toHigh f) (lost b)
     unfolding pieces
     from-low f hf e on =
         let d = mesh .lowCell f in
         let hd : d < mesh .cells = regular .lowIn f hf in
         piece-near b H L (at air d) (at gas d) (has d hd) (inside d hd (near-low mesh c f on)) (cellMismatch rule mesh air gas d) (at air c) (at gas c) (flow .toHigh f) (has c hc) self-inside (cell-safe rule mesh air gas d limited) (rw e at (towards-high monotone mesh air gas d f (regular .lowHas f hf))) (omega (arith, gives d hd, high-leaves mesh d flow f (regular .lowHas f hf)))
 
-    from-high : (f : ℕ) → f < mesh .faces → mesh .lowCell f ≡ c → OnHighSide f (mesh .sides c) → Near b H L (flow .toLow f) (pieces rule mesh flow air gas .toLow f) (lost b)
+    from-high :
+        (f : ℕ) → f < mesh .faces → mesh .lowCell f ≡ c → OnHighSide f (mesh .sides c) →
+        Near b H L (flow .toLow f) (pieces rule mesh flow air gas .toLow f) (lost b)
     unfolding pieces
     from-high f hf e on =
         let d = mesh .highCell f in
         let hd : d < mesh .cells = regular .highIn f hf in
         piece-near b H L (at air d) (at gas d) (has d hd) (inside d hd (near-high mesh c f on)) (opposite (cellMismatch rule mesh air gas d)) (at air c) (at gas c) (flow .toLow f) (has c hc) self-inside (cell-safe rule mesh air gas d limited) (rw e at (towards-low monotone mesh air gas d f (regular .highHas f hf))) (omega (arith, gives d hd, low-leaves mesh d flow f (regular .highHas f hf)))
 
-    comes-in : (s : Sides) → mesh .sides c ≡ s → Meets mesh c s → Near b H L (entering mesh flow c) (entering mesh (pieces rule mesh flow air gas) c) (faceCount s * lost b)
+    comes-in :
+        (s : Sides) → mesh .sides c ≡ s → Meets mesh c s →
+        Near b H L (entering mesh flow c) (entering mesh (pieces rule mesh flow air gas) c) (faceCount s * lost b)
     unfolding leaving
     comes-in (between l h) e m =
         rw (e, leaving, two-mul) (near-add b H L _ _ _ _ _ _ (from-low l (m .0) (m .2) (rw e refl)) (from-high h (m .1) (m .3) (rw e refl)))
@@ -141,15 +160,21 @@ module _ {rule : Rule} (limited : Limited rule) (monotone : Monotone rule) (mesh
         (near-sum b H L (lost b) n _ _ (λ i h. from-low (k + i) (m i h .0) (m i h .1) (rw e (omega arith))))
 
     -- what it gives through a face
-    given-high : (f : ℕ) → mesh .lowCell f ≡ c → pieces rule mesh flow air gas .toHigh f ≡ highPiece (cellMismatch rule mesh air gas c) (at air c) (at gas c) (flow .toHigh f)
+    given-high :
+        (f : ℕ) → mesh .lowCell f ≡ c →
+        pieces rule mesh flow air gas .toHigh f ≡ highPiece (cellMismatch rule mesh air gas c) (at air c) (at gas c) (flow .toHigh f)
     unfolding pieces
     given-high f e = rw e
 
-    given-low : (f : ℕ) → mesh .highCell f ≡ c → pieces rule mesh flow air gas .toLow f ≡ lowPiece (cellMismatch rule mesh air gas c) (at air c) (at gas c) (flow .toLow f)
+    given-low :
+        (f : ℕ) → mesh .highCell f ≡ c →
+        pieces rule mesh flow air gas .toLow f ≡ lowPiece (cellMismatch rule mesh air gas c) (at air c) (at gas c) (flow .toLow f)
     unfolding pieces
     given-low f e = rw e
 
-    stays : (s : Sides) → mesh .sides c ≡ s → Meets mesh c s → Leaves b H L (at air c - leaving mesh flow c) (at gas c) (leaving mesh (pieces rule mesh flow air gas) c) (faceCount s * lost (not b))
+    stays :
+        (s : Sides) → mesh .sides c ≡ s → Meets mesh c s →
+        Leaves b H L (at air c - leaving mesh flow c) (at gas c) (leaving mesh (pieces rule mesh flow air gas) c) (faceCount s * lost (not b))
     unfolding leaving
     stays (between l h) e m =
         let hl : mesh .lowCell l < mesh .cells = regular .lowIn l (m .0) in
@@ -182,7 +207,9 @@ module _ {rule : Rule} (limited : Limited rule) (monotone : Monotone rule) (mesh
         (sym (at-tab (mesh .cells) (λ c. at gas c + entering mesh (pieces rule mesh flow air gas) c - leaving mesh (pieces rule mesh flow air gas) c) c hc))
 
   -- the range at every scale
-  pub substep-bounded : (c : ℕ) → c < mesh .cells → Bounded (mesh .cells) (isNear mesh c) air gas (faceCount (mesh .sides c)) (at (afterFlow mesh flow air) c) (at (afterFlow mesh (pieces rule mesh flow air gas) gas) c)
+  pub substep-bounded :
+      (c : ℕ) → c < mesh .cells →
+      Bounded (mesh .cells) (isNear mesh c) air gas (faceCount (mesh .sides c)) (at (afterFlow mesh flow air) c) (at (afterFlow mesh (pieces rule mesh flow air gas) gas) c)
   substep-bounded c hc b H L inside = near-after b H L c hc inside
 
 -- what `allowed` tests
@@ -200,7 +227,10 @@ module _ (mesh : Mesh) (flow : Flow) (air : List ℕ) (ok : allowed mesh flow ai
       (leb-true _ _ (p .0), leb-true _ _ (p .1))
 
 -- ---- every cell is in range after an allowed substep
-module _ {rule : Rule} (limited : Limited rule) (monotone : Monotone rule) (mesh : Mesh) (regular : Regular mesh) (flow : Flow) (air gas : List ℕ) (has : (c : ℕ) → c < mesh .cells → 1 ≤ at air c) (ok : allowed mesh flow air ≡ true) (c : ℕ) (hc : c < mesh .cells) where
+module _
+    {rule : Rule} (limited : Limited rule) (monotone : Monotone rule) (mesh : Mesh) (regular : Regular mesh) (flow : Flow)
+    (air gas : List ℕ) (has : (c : ℕ) → c < mesh .cells → 1 ≤ at air c) (ok : allowed mesh flow air ≡ true) (c : ℕ)
+    (hc : c < mesh .cells) where
   pub substep-in-range : inRange (mesh .cells) (isNear mesh c) air gas (faceCount (mesh .sides c) + 1) (at (afterFlow mesh flow air) c) (at (afterFlow mesh (pieces rule mesh flow air gas) gas) c) ≡ true
   substep-in-range =
       let fits = allowed-fits mesh flow air ok c hc in
@@ -208,7 +238,10 @@ module _ {rule : Rule} (limited : Limited rule) (monotone : Monotone rule) (mesh
       (substep-bounded limited monotone mesh regular flow air gas has (allowed-gives mesh flow air ok) c hc)
 
 -- ---- and so after every substep of a sweep in which all are allowed
-module _ {rule : Rule} (limited : Limited rule) (monotone : Monotone rule) (mesh : Mesh) (regular : Regular mesh) (fluxes : List ℤ) (n : ℕ) (air gas : List ℕ) (has : (c : ℕ) → c < mesh .cells → 1 ≤ at air c) (ok : serves mesh fluxes air n ≡ true) where
+module _
+    {rule : Rule} (limited : Limited rule) (monotone : Monotone rule) (mesh : Mesh) (regular : Regular mesh)
+    (fluxes : List ℤ) (n : ℕ) (air gas : List ℕ) (has : (c : ℕ) → c < mesh .cells → 1 ≤ at air c)
+    (ok : serves mesh fluxes air n ≡ true) where
   substep-allowed : (s : ℕ) → s < n → allowed mesh (parts fluxes n (suc s)) (airAfter mesh fluxes n air s) ≡ true
   unfolding serves
   substep-allowed s h = every-at n _ ok s h

@@ -74,7 +74,9 @@ module _ (g : Grid) (table air : List ℕ) (k c : ℕ) (hk : k < g .K) (hc : c <
   unfolding remappedAir
   remapped-air-at = at-over g (airAt g table air) k c hk hc
 
-  pub remapped-gas-at : (rule : Rule) (had : List ℕ) → at (remappedGas rule g table air had) (layerStart g k + c) ≡ newTracer table (columnAir g air c) (layers rule (isCap g c) (g .K) (column g air c) (column g had c)) k
+  pub remapped-gas-at :
+      (rule : Rule) (had : List ℕ) →
+      at (remappedGas rule g table air had) (layerStart g k + c) ≡ newTracer table (columnAir g air c) (layers rule (isCap g c) (g .K) (column g air c) (column g had c)) k
   unfolding remappedGas
   remapped-gas-at rule had = at-over g (gasAt rule g table air had) k c hk hc
 
@@ -83,7 +85,9 @@ length-remapped : (rule : Rule) (g : Grid) (table air had : List ℕ) → length
 unfolding remappedGas
 length-remapped rule g table air had = length-tab (worldCells g) _
 
-module _ (g : Grid) (table air : List ℕ) (airIn : AirIn (worldCells g) air) (edges : (c : ℕ) → c < layerCells g → Edges (g .K) table (columnAir g air c)) where
+module _
+    (g : Grid) (table air : List ℕ) (airIn : AirIn (worldCells g) air)
+    (edges : (c : ℕ) → c < layerCells g → Edges (g .K) table (columnAir g air c)) where
   column-has : (c : ℕ) → c < layerCells g → (k : ℕ) → k < g .K → 1 ≤ at (column g air c) k
   column-has c hc k hk = rw (at-column g air c k hk) (air-bounds _ (airIn _ (cell-in g k c hk hc)) .0)
 
@@ -111,7 +115,9 @@ module _ (g : Grid) (table air : List ℕ) (airIn : AirIn (worldCells g) air) (e
       }
 
   module _ {rule : Rule} (limited : Limited rule) where
-    even-kept : (had : List ℕ) (z : ℕ) → Even (worldCells g) z air had → Even (worldCells g) z (remappedAir g table air) (remappedGas rule g table air had)
+    even-kept :
+        (had : List ℕ) (z : ℕ) → Even (worldCells g) z air had →
+        Even (worldCells g) z (remappedAir g table air) (remappedGas rule g table air had)
     unfolding remappedAir remappedGas
     even-kept had z even i h =
         let c : ℕ = i % layerCells g in
@@ -142,18 +148,24 @@ module _ (g : Grid) (table air : List ℕ) (airIn : AirIn (worldCells g) air) (e
         new-layer-in-range limited (isCap g c) (g .K) table (column g air c) (column g had c) (column-has c hc) (edges c hc) monotone j hj
 
 -- what its own places tell, where they are passed
-own-edges : (table : List ℕ) (w : World) → firstOf (ownPlaces (remap table)) w ≡ 0 → (c : ℕ) → c < layerCells (w .grid) → Edges (w .grid .K) table (columnAir (w .grid) (w .air) c)
+own-edges :
+    (table : List ℕ) (w : World) → firstOf (ownPlaces (remap table)) w ≡ 0 → (c : ℕ) → c < layerCells (w .grid) →
+    Edges (w .grid .K) table (columnAir (w .grid) (w .air) c)
 unfolding ownPlaces remapServes
 own-edges table w e c h =
     let p = passed _ _ w (lit< tt) e in
     let q = passed _ _ w (lit< tt) (p .1) in
     edges-serve (w .grid .K) table _ (not-false _ (p .0)) (every-at _ _ (not-false _ (q .0)) c h)
 
-pub remap-edges : (table : List ℕ) (w : World) → refusal w (remap table) ≡ 0 → (c : ℕ) → c < layerCells (w .grid) → Edges (w .grid .K) table (columnAir (w .grid) (w .air) c)
+pub remap-edges :
+    (table : List ℕ) (w : World) → refusal w (remap table) ≡ 0 → (c : ℕ) → c < layerCells (w .grid) →
+    Edges (w .grid .K) table (columnAir (w .grid) (w .air) c)
 remap-edges table w e = own-edges table w (accepted-passed w (remap table) e .2)
 
 -- in two worlds alike
-remap-alike : (table : List ℕ) (own : ℕ → Bool) (w v : World) → Alike own w v → Alike own (remapped w table) (remapped v table) × (remapCount w table ≡ remapCount v table)
+remap-alike :
+    (table : List ℕ) (own : ℕ → Bool) (w v : World) → Alike own w v →
+    Alike own (remapped w table) (remapped v table) × (remapCount w table ≡ remapCount v table)
 unfolding remapped remapCount
 remap-alike table own w v a = (
   moved-alike own w v _ _ (λ t. gases w t) (λ t. gases v t) (λ t h. length-remapped _ _ _ _ _) (λ t h. length-remapped _ _ _ _ _) (a .sameGrid)
@@ -194,7 +206,9 @@ module _ (table : List ℕ) (w : World) (fits : Fits w) (e : refusal w (remap ta
   abbrev near : ℕ → Bool
   near = isNearLayer (w .grid .K) (shareAir table oldAir (columnAir (w .grid) (w .air) c) j)
 
-  pub remap-leaves-in-range : t < w .grid .N → c < layerCells (w .grid) → j < w .grid .K → inRange (w .grid .K) near oldAir (column (w .grid) (gas w t) c) 2 (at (accepted w (remap table) .next .air) (layerStart (w .grid) j + c)) (at (gas (accepted w (remap table) .next) t) (layerStart (w .grid) j + c)) ≡ true
+  pub remap-leaves-in-range :
+      t < w .grid .N → c < layerCells (w .grid) → j < w .grid .K →
+      inRange (w .grid .K) near oldAir (column (w .grid) (gas w t) c) 2 (at (accepted w (remap table) .next .air) (layerStart (w .grid) j + c)) (at (gas (accepted w (remap table) .next) t) (layerStart (w .grid) j + c)) ≡ true
   unfolding accepted remapped layerInRange
   remap-leaves-in-range ht hc hj =
       let g = w .grid in
@@ -203,7 +217,9 @@ module _ (table : List ℕ) (w : World) (fits : Fits w) (e : refusal w (remap ta
       (remap-in-range g table (w .air) (fits .air) (remap-edges table w e) (rule-limited w t) (rule-monotone w t) (gas w t) c j hc hj)
 
 -- "between K and 2K − 1 for each column, summed over columns"
-pub remap-count : (table : List ℕ) (w : World) → Fits w → refusal w (remap table) ≡ 0 → (layerCells (w .grid) * w .grid .K ≤ remapCount w table) × (remapCount w table ≤ layerCells (w .grid) * (2 * w .grid .K - 1))
+pub remap-count :
+    (table : List ℕ) (w : World) → Fits w → refusal w (remap table) ≡ 0 →
+    (layerCells (w .grid) * w .grid .K ≤ remapCount w table) × (remapCount w table ≤ layerCells (w .grid) * (2 * w .grid .K - 1))
 unfolding remapCount
 remap-count table w fits e =
     let places = layerCells (w .grid) in

@@ -110,12 +110,16 @@ numerator-none D M T m e = rw e (go (D .positive))
     go false = omega arith
 
 -- m of m + j + k units, and m + j of them
-tilted-rises : (b : Bool) (d T m j k : ℕ) → d * (m + j + k) ≤ 2 * scale * T → tilted b (2 * scale * m * T) (d * m * (j + k)) ≤ tilted b (2 * scale * (m + j) * T) (d * (m + j) * k)
+tilted-rises :
+    (b : Bool) (d T m j k : ℕ) → d * (m + j + k) ≤ 2 * scale * T →
+    tilted b (2 * scale * m * T) (d * m * (j + k)) ≤ tilted b (2 * scale * (m + j) * T) (d * (m + j) * k)
 tilted-rises true d T m j k s = omega (arith, mul-le-mul-right j s)
 tilted-rises false d T m j k s = omega (arith, mul-le-mul-right j s)
 
 -- m of m + k units from one end, and k of them from the other
-tilted-meet : (b : Bool) (d T m k : ℕ) → d * (m + k) ≤ 2 * scale * T → tilted b (2 * scale * m * T) (d * m * k) + tilted (not b) (2 * scale * k * T) (d * k * m) ≡ 2 * scale * (m + k) * T
+tilted-meet :
+    (b : Bool) (d T m k : ℕ) → d * (m + k) ≤ 2 * scale * T →
+    tilted b (2 * scale * m * T) (d * m * k) + tilted (not b) (2 * scale * k * T) (d * k * m) ≡ 2 * scale * (m + k) * T
 tilted-meet true d T m k s = omega (arith, mul-le-mul-right k s)
 tilted-meet false d T m k s = omega (arith, mul-le-mul-right m s)
 

@@ -38,7 +38,9 @@ found i many ps w e =
     (ltb-true _ _ (not-false _ (p .0)), p .1)
 
 -- two worlds get the same answer if each place that is reached applies in both or in neither
-pub firstOf-same : (p : Place) (ps : List Place) (w v : World) → p .applies w ≡ p .applies v → (p .applies w ≡ false → firstOf ps w ≡ firstOf ps v) → firstOf (p ∷ ps) w ≡ firstOf (p ∷ ps) v
+pub firstOf-same :
+    (p : Place) (ps : List Place) (w v : World) → p .applies w ≡ p .applies v →
+    (p .applies w ≡ false → firstOf ps w ≡ firstOf ps v) → firstOf (p ∷ ps) w ≡ firstOf (p ∷ ps) v
 firstOf-same p ps w v same rest = go (p .applies w) refl
   where
     go : (b : Bool) → p .applies w ≡ b → firstOf (p ∷ ps) w ≡ firstOf (p ∷ ps) v
@@ -100,7 +102,9 @@ unfolding ownPlaces firstOf
 fits-loaded w fits = answer-is w load ∙ own-refusal w load fits refl
 
 -- where none of the places 1 to 4 applies, the world fits and the list that the call lends; the places after them are left
-pub common-passed : (w : World) (call : Call) (ps : List Place) → firstOf (commonPlaces call ++ ps) w ≡ 0 → Fits w × (lentFits (w .grid) call ≡ true) × (firstOf ps w ≡ 0)
+pub common-passed :
+    (w : World) (call : Call) (ps : List Place) → firstOf (commonPlaces call ++ ps) w ≡ 0 →
+    Fits w × (lentFits (w .grid) call ≡ true) × (firstOf ps w ≡ 0)
 unfolding commonPlaces
 common-passed w call ps e =
     let p = passed _ _ w (lit< tt) e in

@@ -69,7 +69,9 @@ allowed-is mesh flow air e =
 
 -- ---- the mismatch of a cell
 module _ (rule : Rule) (mesh : Mesh) (air gas : List ℕ) (c : ℕ) where
-  pub mismatch-between : (l h : ℕ) → mesh .sides c ≡ between l h → cellMismatch rule mesh air gas c ≡ rule (cellRatio air gas (mesh .lowCell l)) (cellRatio air gas c) (cellRatio air gas (mesh .highCell h))
+  pub mismatch-between :
+      (l h : ℕ) → mesh .sides c ≡ between l h →
+      cellMismatch rule mesh air gas c ≡ rule (cellRatio air gas (mesh .lowCell l)) (cellRatio air gas c) (cellRatio air gas (mesh .highCell h))
   unfolding cellMismatch
   mismatch-between l h e = rw (e, cellMismatch)
 
@@ -96,15 +98,21 @@ module _ (rule : Rule) (mesh : Mesh) (air gas : List ℕ) (c : ℕ) where
 -- ---- the pieces of a substep
 module _ (rule : Rule) (mesh : Mesh) (flow : Flow) (air gas : List ℕ) where
   -- what cell c gives through a face on its high side, and on its low side
-  pub piece-up : (f c : ℕ) → mesh .lowCell f ≡ c → pieces rule mesh flow air gas .toHigh f ≡ highPiece (cellMismatch rule mesh air gas c) (at air c) (at gas c) (flow .toHigh f)
+  pub piece-up :
+      (f c : ℕ) → mesh .lowCell f ≡ c →
+      pieces rule mesh flow air gas .toHigh f ≡ highPiece (cellMismatch rule mesh air gas c) (at air c) (at gas c) (flow .toHigh f)
   unfolding pieces
   piece-up f c e = ap (λ (d : ℕ). highPiece (cellMismatch rule mesh air gas d) (at air d) (at gas d) (flow .toHigh f)) e
 
-  pub piece-down : (f c : ℕ) → mesh .highCell f ≡ c → pieces rule mesh flow air gas .toLow f ≡ lowPiece (cellMismatch rule mesh air gas c) (at air c) (at gas c) (flow .toLow f)
+  pub piece-down :
+      (f c : ℕ) → mesh .highCell f ≡ c →
+      pieces rule mesh flow air gas .toLow f ≡ lowPiece (cellMismatch rule mesh air gas c) (at air c) (at gas c) (flow .toLow f)
   unfolding pieces
   piece-down f c e = ap (λ (d : ℕ). lowPiece (cellMismatch rule mesh air gas d) (at air d) (at gas d) (flow .toLow f)) e
 
-module _ {rule : Rule} (limited : Limited rule) (mesh : Mesh) (regular : Regular mesh) (flow : Flow) (air gas : List ℕ) (fits : AirIn (mesh .cells) air) where
+module _
+    {rule : Rule} (limited : Limited rule) (mesh : Mesh) (regular : Regular mesh) (flow : Flow) (air gas : List ℕ)
+    (fits : AirIn (mesh .cells) air) where
   -- a cell gives at most the gas that it has
   pub pieces-covered : Covers mesh flow air → Covers mesh (pieces rule mesh flow air gas) gas
   pieces-covered covers c h =
@@ -176,7 +184,9 @@ module _ {rule : Rule} (limited : Limited rule) (mesh : Mesh) (regular : Regular
         piece-constant (opposite (cellMismatch rule mesh air gas c)) (at air c) (at gas c) (flow .toLow f) z (air-bounds (at air c) (fits c inside) .0) (even-mismatch c inside) (even c inside)
 
     -- and so has every cell afterwards
-    pub even-after : Covers mesh flow air → (c : ℕ) → c < mesh .cells → at (afterFlow mesh (pieces rule mesh flow air gas) gas) c ≡ z * at (afterFlow mesh flow air) c
+    pub even-after :
+        Covers mesh flow air → (c : ℕ) → c < mesh .cells →
+        at (afterFlow mesh (pieces rule mesh flow air gas) gas) c ≡ z * at (afterFlow mesh flow air) c
     even-after covers c h =
         omega (
           arith,

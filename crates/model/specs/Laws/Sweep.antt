@@ -69,11 +69,15 @@ module _ (mesh : Mesh) (a : ℕ) (fluxes : List ℤ) (n cells : ℕ) (inside : a
     pub gas-outside : (c : ℕ) → Outside a (mesh .cells) c → at (sweptGas rule mesh a fluxes n air had) c ≡ at had c
     gas-outside = at-written-outside had _ a (mesh .cells) cells whole length-new-gas inside
 
-    gas-at : (i : ℕ) → i < mesh .cells → at (sweptGas rule mesh a fluxes n air had) (a + i) ≡ at (gasAfter rule mesh fluxes n (part air a (mesh .cells)) (part had a (mesh .cells)) n) i
+    gas-at :
+        (i : ℕ) → i < mesh .cells →
+        at (sweptGas rule mesh a fluxes n air had) (a + i) ≡ at (gasAfter rule mesh fluxes n (part air a (mesh .cells)) (part had a (mesh .cells)) n) i
     gas-at = at-written-within had _ a (mesh .cells) cells whole length-new-gas inside
 
   -- ---- a sweep conserves
-  module _ (whole : length air ≡ cells) (fits : AirIn cells air) (regular : Regular mesh) (serving : serves mesh fluxes (part air a (mesh .cells)) n ≡ true) where
+  module _
+      (whole : length air ≡ cells) (fits : AirIn cells air) (regular : Regular mesh)
+      (serving : serves mesh fluxes (part air a (mesh .cells)) n ≡ true) where
     old-in : AirIn (mesh .cells) (part air a (mesh .cells))
     old-in = cells-in a (mesh .cells) cells inside air fits
 
@@ -114,7 +118,10 @@ module _ (mesh : Mesh) (a : ℕ) (fluxes : List ℤ) (n cells : ℕ) (inside : a
             gas-after-total mesh regular fluxes old n old-in serving limited some n (le-refl n),
           )
 
-      even-kept : (had : List ℕ) (z : ℕ) → length had ≡ cells → Even cells z air had → (c : ℕ) → c < cells → InPart a (mesh .cells) c ⊎ Outside a (mesh .cells) c → at (sweptGas rule mesh a fluxes n air had) c ≡ z * at (sweptAir mesh a fluxes n air) c
+      even-kept :
+          (had : List ℕ) (z : ℕ) → length had ≡ cells → Even cells z air had → (c : ℕ) → c < cells →
+          InPart a (mesh .cells) c ⊎ Outside a (mesh .cells) c →
+          at (sweptGas rule mesh a fluxes n air had) c ≡ z * at (sweptAir mesh a fluxes n air) c
       even-kept had z all even c h (inl (i, p, e)) =
           rw (← e, air-at whole i p, gas-at rule had all i p)
           (even-chain mesh regular fluxes _ n old-in serving limited _ z (even-part had z even) n (le-refl n) i p)
@@ -151,7 +158,9 @@ module _ (w : World) (fits : Fits w) (mesh : Mesh) (a : ℕ) (inside : a + mesh 
   swept-gas =
       gas-moved w (sweptAir mesh a fluxes n (w .air)) (λ t. sweptGas (ruleOf w t) mesh a fluxes n (w .air)) swept-as-many
 
-pub swept-kept : (w : World) → Reached w → (mesh : Mesh) (a : ℕ) (fluxes : List ℤ) (n : ℕ) → Sweeps w mesh a fluxes n → Kept w (swept w mesh a fluxes n) (λ t. noExchange)
+pub swept-kept :
+    (w : World) → Reached w → (mesh : Mesh) (a : ℕ) (fluxes : List ℤ) (n : ℕ) → Sweeps w mesh a fluxes n →
+    Kept w (swept w mesh a fluxes n) (λ t. noExchange)
 unfolding swept
 swept-kept w reached mesh a fluxes n s =
     let fits = reached .fits in
@@ -161,7 +170,9 @@ swept-kept w reached mesh a fluxes n s =
     (λ t. sweep-gas mesh a fluxes n cells (s .inside) (w .air) (fits .airLength) (fits .air) (s .regular) (s .serving) (rule-limited w t))
 
 -- each of the swept cells has air
-pub swept-cells-air : (w : World) → Fits w → (mesh : Mesh) (a : ℕ) (fluxes : List ℤ) (n : ℕ) → Sweeps w mesh a fluxes n → (c : ℕ) → c < mesh .cells → 1 ≤ at (part (w .air) a (mesh .cells)) c
+pub swept-cells-air :
+    (w : World) → Fits w → (mesh : Mesh) (a : ℕ) (fluxes : List ℤ) (n : ℕ) → Sweeps w mesh a fluxes n → (c : ℕ) →
+    c < mesh .cells → 1 ≤ at (part (w .air) a (mesh .cells)) c
 swept-cells-air w fits mesh a fluxes n s c h =
     air-bounds _ (cells-in a (mesh .cells) (worldCells (w .grid)) (s .inside) (w .air) (fits .air) c h) .0
 
@@ -173,7 +184,9 @@ pub record ChangesOnly (w next : World) (a m : ℕ) : Type 0 where
   pub airOutside : (c : ℕ) → Outside a m c → at (next .air) c ≡ at (w .air) c
   pub gasOutside : (t : ℕ) → t < w .grid .N → (c : ℕ) → Outside a m c → at (gas next t) c ≡ at (gas w t) c
 
-pub swept-changes-only : (w : World) → Fits w → (mesh : Mesh) (a : ℕ) (fluxes : List ℤ) (n : ℕ) → Sweeps w mesh a fluxes n → ChangesOnly w (swept w mesh a fluxes n) a (mesh .cells)
+pub swept-changes-only :
+    (w : World) → Fits w → (mesh : Mesh) (a : ℕ) (fluxes : List ℤ) (n : ℕ) → Sweeps w mesh a fluxes n →
+    ChangesOnly w (swept w mesh a fluxes n) a (mesh .cells)
 unfolding swept
 swept-changes-only w fits mesh a fluxes n s =
     let cells : ℕ = worldCells (w .grid) in
@@ -190,7 +203,9 @@ swept-changes-only w fits mesh a fluxes n s =
     }
 
 -- a call changes no more than it does where it is accepted: a refused one changes nothing
-pub step-changes-only : (w : World) (call : Call) (a m : ℕ) → (refusal w call ≡ 0 → ChangesOnly w (accepted w call .next) a m) → ChangesOnly w (step w call .next) a m
+pub step-changes-only :
+    (w : World) (call : Call) (a m : ℕ) → (refusal w call ≡ 0 → ChangesOnly w (accepted w call .next) a m) →
+    ChangesOnly w (step w call .next) a m
 unfolding refused
 step-changes-only w call a m when = go (refusal w call) refl
   where
@@ -218,7 +233,10 @@ module _ (meshOf : Grid → Mesh) (startOf : Grid → ℕ) (countOf : Grid → L
   sweptOf w = sweptBy w (w .grid) (cellsIn (w .grid) (w .air))
 
   -- worlds alike stay alike
-  pub swept-alike : (own : ℕ → Bool) (w v : World) → Fits w → Fits v → Alike own w v → startOf (w .grid) + meshOf (w .grid) .cells ≤ worldCells (w .grid) → Alike own (sweptOf w) (sweptOf v) × (countOf (w .grid) (cellsIn (w .grid) (w .air)) ≡ countOf (v .grid) (cellsIn (v .grid) (v .air)))
+  pub swept-alike :
+      (own : ℕ → Bool) (w v : World) → Fits w → Fits v → Alike own w v →
+      startOf (w .grid) + meshOf (w .grid) .cells ≤ worldCells (w .grid) →
+      Alike own (sweptOf w) (sweptOf v) × (countOf (w .grid) (cellsIn (w .grid) (w .air)) ≡ countOf (v .grid) (cellsIn (v .grid) (v .air)))
   unfolding swept
   swept-alike own w v fw fv alike inside =
       (rw (ap₂ (sweptBy v) (sym (alike .sameGrid)) (sym row)) same, ap₂ countOf (alike .sameGrid) row)
@@ -258,12 +276,16 @@ module _ (meshOf : Grid → Mesh) (startOf : Grid → ℕ) (countOf : Grid → L
     unfolding swept
     swept-row = air-within (meshOf (w .grid)) _ fluxes _ (worldCells (w .grid)) inside (w .air) (fits .airLength)
 
-    swept-row-gas : (t : ℕ) → t < w .grid .N → cellsIn (w .grid) (gas (sweptOf w) t) ≡ chainGas (ruleOf w t) (w .grid) (cellsIn (w .grid) (w .air)) (cellsIn (w .grid) (gas w t))
+    swept-row-gas :
+        (t : ℕ) → t < w .grid .N →
+        cellsIn (w .grid) (gas (sweptOf w) t) ≡ chainGas (ruleOf w t) (w .grid) (cellsIn (w .grid) (w .air)) (cellsIn (w .grid) (gas w t))
     swept-row-gas t h =
         rw (swept-gas w fits (meshOf (w .grid)) _ inside fluxes _ t h)
         (gas-within (meshOf (w .grid)) _ fluxes _ (worldCells (w .grid)) inside (w .air) (ruleOf w t) (gas w t) (length-gas w t (fits .tracersLength) h))
 
-  pub swept-same : (w v : World) → Fits w → Fits v → startOf (w .grid) + meshOf (w .grid) .cells ≤ worldCells (w .grid) → SameCells startOf (λ g. meshOf g .cells) w v → SameCells startOf (λ g. meshOf g .cells) (sweptOf w) (sweptOf v)
+  pub swept-same :
+      (w v : World) → Fits w → Fits v → startOf (w .grid) + meshOf (w .grid) .cells ≤ worldCells (w .grid) →
+      SameCells startOf (λ g. meshOf g .cells) w v → SameCells startOf (λ g. meshOf g .cells) (sweptOf w) (sweptOf v)
   unfolding swept
   swept-same w v fw fv inside s =
       record {
@@ -287,7 +309,9 @@ pub record ChainOf (w next : World) (mesh : Mesh) (a : ℕ) (fluxes : List ℤ) 
   pub gasStart : gasAfter (ruleOf w t) mesh fluxes n (part (w .air) a (mesh .cells)) (part (gas w t) a (mesh .cells)) 0 ≡ part (gas w t) a (mesh .cells)
   pub gasEnd : part (gas next t) a (mesh .cells) ≡ gasAfter (ruleOf w t) mesh fluxes n (part (w .air) a (mesh .cells)) (part (gas w t) a (mesh .cells)) n
 
-pub swept-chain : (w : World) → Fits w → (mesh : Mesh) (a : ℕ) (fluxes : List ℤ) (n : ℕ) → a + mesh .cells ≤ worldCells (w .grid) → (t : ℕ) → t < w .grid .N → ChainOf w (swept w mesh a fluxes n) mesh a fluxes n t
+pub swept-chain :
+    (w : World) → Fits w → (mesh : Mesh) (a : ℕ) (fluxes : List ℤ) (n : ℕ) → a + mesh .cells ≤ worldCells (w .grid) →
+    (t : ℕ) → t < w .grid .N → ChainOf w (swept w mesh a fluxes n) mesh a fluxes n t
 unfolding airAfter gasAfter
 swept-chain w fits mesh a fluxes n inside t h =
     record {
@@ -302,7 +326,10 @@ module _ (meshOf : Grid → Mesh) (startOf : Grid → ℕ) (countOf : Grid → L
   abbrev countIn : World → ℕ
   countIn w = countOf (w .grid) (part (w .air) (startOf (w .grid)) (meshOf (w .grid) .cells))
 
-  pub sweeps-keep : ((own : ℕ → Bool) (w v : World) → Alike own w v → firstOf ps w ≡ firstOf ps v) → ((w : World) → firstOf ps w ≡ 0 → Sweeps w (meshOf (w .grid)) (startOf (w .grid)) fluxes (countIn w)) → MeaningKeeps (sweeps meshOf startOf fluxes countIn lent ps)
+  pub sweeps-keep :
+      ((own : ℕ → Bool) (w v : World) → Alike own w v → firstOf ps w ≡ firstOf ps v) →
+      ((w : World) → firstOf ps w ≡ 0 → Sweeps w (meshOf (w .grid)) (startOf (w .grid)) fluxes (countIn w)) →
+      MeaningKeeps (sweeps meshOf startOf fluxes countIn lent ps)
   unfolding swept
   sweeps-keep places passed =
       record {

@@ -27,7 +27,9 @@ part-set-elsewhere l n t t' c x h other = go (ltb t' t) refl
         part-set-before l (t' * n) n (t * n + c) x (omega (arith, mul-le-mul-right n later))
 
 -- each tracer of the grid has an amount in each cell
-pub length-gas : (w : World) (t : ℕ) → length (w .tracers) ≡ w .grid .N * worldCells (w .grid) → t < w .grid .N → length (gas w t) ≡ worldCells (w .grid)
+pub length-gas :
+    (w : World) (t : ℕ) → length (w .tracers) ≡ w .grid .N * worldCells (w .grid) → t < w .grid .N →
+    length (gas w t) ≡ worldCells (w .grid)
 length-gas w t fits h =
     length-part (w .tracers) (tracerStart (w .grid) t) (worldCells (w .grid))
     (omega (arith, mul-le-mul-right (worldCells (w .grid)) h))
@@ -49,7 +51,9 @@ gas-absent w t fits h =
     take-nil (worldCells (w .grid))
 
 -- the world after a call that moves air: each tracer's amounts are the changed ones, if these are as many
-module _ (w : World) (air : List ℕ) (change : ℕ → List ℕ → List ℕ) (as-many : (t : ℕ) → t < w .grid .N → length (change t (gas w t)) ≡ worldCells (w .grid)) where
+module _
+    (w : World) (air : List ℕ) (change : ℕ → List ℕ → List ℕ)
+    (as-many : (t : ℕ) → t < w .grid .N → length (change t (gas w t)) ≡ worldCells (w .grid)) where
   changed : List (List ℕ)
   changed = tab (w .grid .N) (λ t. change t (gas w t))
 

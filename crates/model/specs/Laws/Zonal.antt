@@ -22,7 +22,9 @@ use Rattle.model.specs.Laws.Keeps.{air-alike, MeaningKeeps}
 use Rattle.model.specs.Laws.Sweep.{Sweeps, sweeps-keep, SameCells, swept-same, ChangesOnly, swept-changes-only, step-changes-only}
 
 -- what its own places tell, where they are passed
-own-sweeps : (k r : ℕ) (fluxes : List ℤ) (w : World) → firstOf (ownPlaces (zonal k r fluxes)) w ≡ 0 → Sweeps w (ring (w .grid .W)) (rowStart (w .grid) k r) fluxes (zonalCount w k r fluxes)
+own-sweeps :
+    (k r : ℕ) (fluxes : List ℤ) (w : World) → firstOf (ownPlaces (zonal k r fluxes)) w ≡ 0 →
+    Sweeps w (ring (w .grid .W)) (rowStart (w .grid) k r) fluxes (zonalCount w k r fluxes)
 unfolding ownPlaces ring
 own-sweeps k r fluxes w e =
     let p = found k (λ g. g .K) _ w e in
@@ -38,7 +40,9 @@ own-sweeps k r fluxes w e =
       serving = count .serving;
     }
 
-pub zonal-sweeps : (k r : ℕ) (fluxes : List ℤ) (w : World) → refusal w (zonal k r fluxes) ≡ 0 → Sweeps w (ring (w .grid .W)) (rowStart (w .grid) k r) fluxes (zonalCount w k r fluxes)
+pub zonal-sweeps :
+    (k r : ℕ) (fluxes : List ℤ) (w : World) → refusal w (zonal k r fluxes) ≡ 0 →
+    Sweeps w (ring (w .grid .W)) (rowStart (w .grid) k r) fluxes (zonalCount w k r fluxes)
 zonal-sweeps k r fluxes w e = own-sweeps k r fluxes w (accepted-passed w (zonal k r fluxes) e .2)
 
 pub zonal-keeps : (k r : ℕ) (fluxes : List ℤ) → MeaningKeeps (meaning (zonal k r fluxes))
@@ -49,7 +53,9 @@ zonal-keeps k r fluxes =
     (own-sweeps k r fluxes)
 
 -- ---- the frame: "The sweep writes only that row's cells inside its layer, in the air and in all tracers"; a refused one writes nothing
-pub zonal-changes-only : (k r : ℕ) (fluxes : List ℤ) (w : World) → ChangesOnly w (step w (zonal k r fluxes) .next) (rowStart (w .grid) k r) (w .grid .W)
+pub zonal-changes-only :
+    (k r : ℕ) (fluxes : List ℤ) (w : World) →
+    ChangesOnly w (step w (zonal k r fluxes) .next) (rowStart (w .grid) k r) (w .grid .W)
 unfolding accepted ring
 zonal-changes-only k r fluxes w =
     step-changes-only w (zonal k r fluxes) _ _ (λ e. swept-changes-only w (accepted-passed w (zonal k r fluxes) e .0) _ _ fluxes _ (zonal-sweeps k r fluxes w e))
@@ -72,7 +78,9 @@ module _ (k r : ℕ) (fluxes : List ℤ) (w v : World) (row : SameRow k r w v) w
       (λ small. firstOf-same _ [] w v (ap (λ (n : ℕ). eqb n 0) count-row)
       (λ some. unfold firstOf in refl))))
 
-  same-step : Fits w → Fits v → (n : ℕ) → refusal w (zonal k r fluxes) ≡ n → refusal v (zonal k r fluxes) ≡ n → (step w (zonal k r fluxes) .count ≡ step v (zonal k r fluxes) .count) × SameRow k r (step w (zonal k r fluxes) .next) (step v (zonal k r fluxes) .next)
+  same-step :
+      Fits w → Fits v → (n : ℕ) → refusal w (zonal k r fluxes) ≡ n → refusal v (zonal k r fluxes) ≡ n →
+      (step w (zonal k r fluxes) .count ≡ step v (zonal k r fluxes) .count) × SameRow k r (step w (zonal k r fluxes) .next) (step v (zonal k r fluxes) .next)
   unfolding accepted refused ring
   same-step fw fv zero e f =
       rw (step-accepted w (zonal k r fluxes) e, step-accepted v (zonal k r fluxes) f)
@@ -80,7 +88,9 @@ module _ (k r : ℕ) (fluxes : List ℤ) (w v : World) (row : SameRow k r w v) w
   same-step fw fv (suc n) e f =
       rw (step-refused w (zonal k r fluxes) n e, step-refused v (zonal k r fluxes) n f) (refl, row)
 
-  pub row-alone : firstOf (commonPlaces (zonal k r fluxes)) w ≡ 0 → firstOf (commonPlaces (zonal k r fluxes)) v ≡ 0 → SameReply w v (zonal k r fluxes) × SameRow k r (step w (zonal k r fluxes) .next) (step v (zonal k r fluxes) .next)
+  pub row-alone :
+      firstOf (commonPlaces (zonal k r fluxes)) w ≡ 0 → firstOf (commonPlaces (zonal k r fluxes)) v ≡ 0 →
+      SameReply w v (zonal k r fluxes) × SameRow k r (step w (zonal k r fluxes) .next) (step v (zonal k r fluxes) .next)
   unfolding commonPlaces
   row-alone cw cv =
       let pw = common-passed w (zonal k r fluxes) [] cw in

@@ -18,7 +18,9 @@ module _ (s : State) (byte : ℕ) (bytes : List ℕ) where
   unfolding entriesFrom
   entries-none e = rw (e, entriesFrom)
 
-  pub entries-onward : (l : Line) (next : State) → firstOutcome ≡ onward l next → entriesFrom 0 s (byte ∷ bytes) ≡ entry (found s (byte ∷ bytes)) l ∷ entriesFrom (needed s byte) next bytes
+  pub entries-onward :
+      (l : Line) (next : State) → firstOutcome ≡ onward l next →
+      entriesFrom 0 s (byte ∷ bytes) ≡ entry (found s (byte ∷ bytes)) l ∷ entriesFrom (needed s byte) next bytes
   unfolding entriesFrom
   entries-onward l next e = rw (e, entriesFrom)
 
@@ -42,7 +44,9 @@ module _ (turns : ℕ) (s : State) (byte : ℕ) (bytes : List ℕ) where
   unfolding run
   run-none e = rw (taken ∙ e, run)
 
-  run-onward : (l : Line) (next : State) → firstOutcome s byte bytes ≡ onward l next → run (suc turns) s (byte ∷ bytes) ≡ l ∷ run turns next (drop (needed s byte) bytes)
+  run-onward :
+      (l : Line) (next : State) → firstOutcome s byte bytes ≡ onward l next →
+      run (suc turns) s (byte ∷ bytes) ≡ l ∷ run turns next (drop (needed s byte) bytes)
   unfolding run
   run-onward l next e = rw (taken ∙ e, run)
 
@@ -60,7 +64,10 @@ run-lines (suc turns) s (byte ∷ bytes) h =
     go (firstOutcome s byte bytes) refl
     (λ next. run-lines turns next (drop (needed s byte) bytes) (omega (arith, length-drop (needed s byte) bytes)))
   where
-    go : (o : Outcome) → firstOutcome s byte bytes ≡ o → ((next : State) → run turns next (drop (needed s byte) bytes) ≡ linesOf (entriesFrom 0 next (drop (needed s byte) bytes))) → run (suc turns) s (byte ∷ bytes) ≡ linesOf (entriesFrom 0 s (byte ∷ bytes))
+    go :
+        (o : Outcome) → firstOutcome s byte bytes ≡ o →
+        ((next : State) → run turns next (drop (needed s byte) bytes) ≡ linesOf (entriesFrom 0 next (drop (needed s byte) bytes))) →
+        run (suc turns) s (byte ∷ bytes) ≡ linesOf (entriesFrom 0 s (byte ∷ bytes))
     go none e rest = run-none turns s byte bytes e ∙ sym (ap linesOf (entries-none s byte bytes e))
     go (onward l next) e rest =
         run-onward turns s byte bytes l next e ∙

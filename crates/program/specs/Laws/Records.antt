@@ -42,7 +42,9 @@ module _ (n : ℕ) (body : List ℕ) (whole : n ≤ length body) where
   byte-taken i h = getD-take n body i 0 h
 
 -- ---- a command is that of the bytes that its kind needs
-pub command-taken : (g : Grid) (kind : Kind) (body : List ℕ) → bodyLength g kind ≤ length body → commandOf g kind (take (bodyLength g kind) body) ≡ commandOf g kind body
+pub command-taken :
+    (g : Grid) (kind : Kind) (body : List ℕ) → bodyLength g kind ≤ length body →
+    commandOf g kind (take (bodyLength g kind) body) ≡ commandOf g kind body
 command-taken g unknown body h = refl
 command-taken g gridKind body h =
     rw (byte-taken 4 body h 0 (lit< tt), byte-taken 4 body h 1 (lit< tt), byte-taken 4 body h 2 (lit< tt), byte-taken 4 body h 3 (lit< tt))
@@ -70,7 +72,9 @@ module _ (s : State) (byte : ℕ) (body : List ℕ) where
   unfolding found
   found-short e h = rw (e, found, lt-leb _ _ h)
 
-  pub found-command : inPlace s (kindOf byte) ≡ true → bodyLength (gridOf s) (kindOf byte) ≤ length body → found s (byte ∷ body) ≡ command (commandOf (gridOf s) (kindOf byte) body)
+  pub found-command :
+      inPlace s (kindOf byte) ≡ true → bodyLength (gridOf s) (kindOf byte) ≤ length body →
+      found s (byte ∷ body) ≡ command (commandOf (gridOf s) (kindOf byte) body)
   unfolding found
   found-command e h = rw (e, found, le-leb _ _ h)
 

@@ -30,7 +30,9 @@ Sound (gridded g) s = Unit {0}
 Sound (loaded w) s = Behind w s
 
 -- ---- .. over a call
-make-sound : (w : World) (call : Call) (s : Since) (l : Line) → Behind w s → Sound (loaded (step w call .next)) (noted s (entry (command (make call)) l))
+make-sound :
+    (w : World) (call : Call) (s : Since) (l : Line) → Behind w s →
+    Sound (loaded (step w call .next)) (noted s (entry (command (make call)) l))
 unfolding after
 make-sound w call s l behind =
     record {
@@ -54,7 +56,9 @@ load-sound w s l same = go (step w load .answer) refl
 
 -- ---- .. over any record that does not end the program
 -- a call is found only in a loaded world
-call-in-place : (s : State) (g : Grid) (kind : Kind) (body : List ℕ) (call : Call) → inPlace s kind ≡ true → commandOf g kind body ≡ make call → isLoaded s ≡ true
+call-in-place :
+    (s : State) (g : Grid) (kind : Kind) (body : List ℕ) (call : Call) → inPlace s kind ≡ true →
+    commandOf g kind body ≡ make call → isLoaded s ≡ true
 call-in-place s g unknown body call p e = absurd (false≢true p)
 call-in-place s g gridKind body call p e = absurd (let z : _≡_ {A = ℕ} 0 1 = cc in omega arith)
 call-in-place s g loadKind body call p e = absurd (let z : _≡_ {A = ℕ} 0 1 = cc in omega arith)
@@ -69,7 +73,10 @@ call-in-place s g cellKind body call p e = p
 found-loaded : (s : State) (byte : ℕ) (bytes : List ℕ) (call : Call) → found s (byte ∷ bytes) ≡ command (make call) → isLoaded s ≡ true
 found-loaded s byte bytes call e = go (inPlace s (kindOf byte)) refl (below-or-not (length bytes) (bodyLength (gridOf s) (kindOf byte)))
   where
-    go : (b : Bool) → inPlace s (kindOf byte) ≡ b → (length bytes < bodyLength (gridOf s) (kindOf byte)) ⊎ (bodyLength (gridOf s) (kindOf byte) ≤ length bytes) → isLoaded s ≡ true
+    go :
+        (b : Bool) → inPlace s (kindOf byte) ≡ b →
+        (length bytes < bodyLength (gridOf s) (kindOf byte)) ⊎ (bodyLength (gridOf s) (kindOf byte) ≤ length bytes) →
+        isLoaded s ≡ true
     go false p h = absurd (let f = found-misplaced s byte bytes p in let z : _≡_ {A = ℕ} 0 1 = cc in omega arith)
     go true p (inl h) = absurd (let f = found-short s byte bytes p h in let z : _≡_ {A = ℕ} 0 1 = cc in omega arith)
     go true p (inr h) =
@@ -88,7 +95,9 @@ grid-outcome s byte g l next e = go (gridRefusal g) refl
         absurd (let z : _≡_ {A = ℕ} 0 1 = cc in omega arith)
 
 module _ (byte : ℕ) (s : Since) (l : Line) (next : State) where
-  command-sound : (state : State) (c : Command) → ((call : Call) → c ≡ make call → isLoaded state ≡ true) → Sound state s → carriedOut state byte c ≡ onward l next → Sound next (noted s (entry (command c) l))
+  command-sound :
+      (state : State) (c : Command) → ((call : Call) → c ≡ make call → isLoaded state ≡ true) → Sound state s →
+      carriedOut state byte c ≡ onward l next → Sound next (noted s (entry (command c) l))
   unfolding carriedOut
   command-sound state (setGrid g) p sound e = rw (grid-outcome state byte g l next e) tt
   command-sound state (setWorld w) p sound e =
@@ -123,7 +132,9 @@ abbrev Says : Since → Entry → Type 0
 Says s e = (call : Call) → e .finding ≡ command (make call) → Said s call e
 
 module _ (byte : ℕ) (bytes : List ℕ) (s : Since) where
-  said : (state : State) (call : Call) → isLoaded state ≡ true → Sound state s → (e : Entry) → e .printed ≡ line byte (step (worldOf state) call .answer) (step (worldOf state) call .count) → Said s call e
+  said :
+      (state : State) (call : Call) → isLoaded state ≡ true → Sound state s → (e : Entry) →
+      e .printed ≡ line byte (step (worldOf state) call .answer) (step (worldOf state) call .count) → Said s call e
   said start call p sound e same = absurd (false≢true p)
   said (gridded g) call p sound e same = absurd (false≢true p)
   said (loaded w) call p sound e same =
@@ -142,10 +153,14 @@ module _ (byte : ℕ) (bytes : List ℕ) (s : Since) where
     call-ends-not : (l : Line) → outcomeOf state byte (found state (byte ∷ bytes)) ≡ last l → ⊥
     call-ends-not l e = let o = call-outcome in let z : _≡_ {A = ℕ} 0 1 = cc in omega arith
 
-    call-printed : (l : Line) (next : State) → outcomeOf state byte (found state (byte ∷ bytes)) ≡ onward l next → l ≡ line byte (step (worldOf state) call .answer) (step (worldOf state) call .count)
+    call-printed :
+        (l : Line) (next : State) → outcomeOf state byte (found state (byte ∷ bytes)) ≡ onward l next →
+        l ≡ line byte (step (worldOf state) call .answer) (step (worldOf state) call .count)
     call-printed l next e = let o = call-outcome in cc
 
-  said-onward : (state : State) (l : Line) (next : State) → Sound state s → outcomeOf state byte (found state (byte ∷ bytes)) ≡ onward l next → Says s (entry (found state (byte ∷ bytes)) l)
+  said-onward :
+      (state : State) (l : Line) (next : State) → Sound state s →
+      outcomeOf state byte (found state (byte ∷ bytes)) ≡ onward l next → Says s (entry (found state (byte ∷ bytes)) l)
   said-onward state l next sound e call is =
       said state call (found-loaded state byte bytes call is) sound _ (call-printed state call is l next e)
 
@@ -175,7 +190,10 @@ all-say (suc skipped) state (byte ∷ bytes) s sound = all-say skipped state byt
 all-say zero state (byte ∷ bytes) s sound =
     go (firstOutcome state byte bytes) refl (λ next b later. all-say (needed state byte) next bytes b later)
   where
-    go : (o : Outcome) → firstOutcome state byte bytes ≡ o → ((next : State) (b : Since) → Sound next b → AllSay b (entriesFrom (needed state byte) next bytes)) → AllSay s (entriesFrom 0 state (byte ∷ bytes))
+    go :
+        (o : Outcome) → firstOutcome state byte bytes ≡ o →
+        ((next : State) (b : Since) → Sound next b → AllSay b (entriesFrom (needed state byte) next bytes)) →
+        AllSay s (entriesFrom 0 state (byte ∷ bytes))
     go none q later = rw (entries-none state byte bytes q) (say-none s)
     go (last l) q later =
         rw (entries-last state byte bytes l q)
@@ -193,7 +211,9 @@ total-count w t fits e =
       ap (λ (r : Result). r .count) (step-accepted w (total t) none-applies),
     )
 
-pub total-said : (t : ℕ) (s : Since) (e : Entry) → Said s (total t) e → e .printed .answer ≡ 0 → e .printed .count + history (s .first) t (s .calls) .withdrawn ≡ gasTotal (s .first) t + history (s .first) t (s .calls) .emitted
+pub total-said :
+    (t : ℕ) (s : Since) (e : Entry) → Said s (total t) e → e .printed .answer ≡ 0 →
+    e .printed .count + history (s .first) t (s .calls) .withdrawn ≡ gasTotal (s .first) t + history (s .first) t (s .calls) .emitted
 total-said t s e said zeroed =
     let kept = calls-keep (s .first) (s .calls) (said .reached) in
     let c = total-count (worldNow s) t (kept .reached .fits) (sym (said .answered) ∙ zeroed) in
