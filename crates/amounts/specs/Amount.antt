@@ -6,6 +6,8 @@ use native.Mathlib.Nat.{mul-le-mul-right}
 use native.Mathlib.Omega.{arith}
 use borrow.Author.Tests.{lt-ltb, le-ltb}
 use lib.Dec.{ltb}
+use mir.Syntax.{w32}
+use mir.Val.{Fits as Fits32}
 use lib.ListN.{length, set}
 use Rattle.model.specs.Limits.{totalLimit, mostAmounts}
 use Rattle.model.specs.Basic.{at}
@@ -21,7 +23,7 @@ use Rattle.places.specs.declared.Lent.the-variants.{Nothing}
 use Rattle.places.specs.declared.Tested.{Tested}
 use Rattle.places.specs.declared.Placed.{Placed}
 use Rattle.places.specs.Walk.{Left, IsPlaced, Like, next, resume, none, refuse, accept}
-use Rattle.places.specs.Tested.{IsTested, own-left, common-refused}
+use Rattle.places.specs.Tested.{Passed, IsTested, own-left, common-refused}
 
 -- ---- what `amount_place` finds: where the amount stands among all tracers' amounts, and the tracer's total
 pub record CellFound (w : World) (t c : ℕ) (p : Placed) : Type 0 where
@@ -59,6 +61,12 @@ module _ {w : World} (fits : Fits w) {t c cells : ℕ} (tracerIn : t < w .grid .
         limit = rw total (fits .totals t tracerIn);
         share = rw (amount, total) (term-le-sum (worldCells (w .grid)) (at (gas w t)) c here);
       }
+
+-- ---- a total that passed place 4 fits a count
+pub total-fits : {w : World} {tested : Tested} → Passed w Nothing tested → {t : ℕ} → t < w .grid .N → Fits32 w32 (at (tested .totals) t)
+total-fits {w} passed {t} h =
+    let small : gasTotal w t ≤ totalLimit = passed .fits .totals t h in
+    omega (arith, passed .total t h)
 
 -- ---- load
 pub load-agrees : {w : World} {tested : Tested} → IsTested w Nothing tested → (n : ℕ) → numberOf (tested .answer) ≡ n → Agrees w load (tested .answer) w

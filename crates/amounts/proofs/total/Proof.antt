@@ -6,6 +6,7 @@ use Rattle.units.specs.Grid.{worldOf, in-range}
 use Rattle.places.specs.declared.Lent.the-variants.{Nothing}
 use Rattle.places.specs.Walk.{next, there, missing, none, refuse, accept}
 use Rattle.places.specs.Tested.{Passed, own-left, common-refused}
+use Rattle.amounts.specs.Amount.{total-fits}
 use borrow.Author.Needs.{needs}
 use Rattle.amounts.proofs.total.Statement.{statement}
 use Rattle.amounts.proofs.total.Tie as tie
@@ -49,9 +50,7 @@ cast-sum : tie.Need-cast-sum
 cast-sum c =
     let start : tie.Start = search needs in
     let common : tie.Then1 = search needs in
-    let named : tie.Then2 = search needs in
-    let tracer = start .args .tracer in
-    omega (arith, passed common .total tracer (named .if2 .taken), passed common .fits .totals tracer (named .if2 .taken))
+    total-fits (passed common) (omega (arith, in-range (start .args .g) (passed common .fits .grid) .lowN))
 
 returns-3 : tie.Need-returns-3
 returns-3 c =

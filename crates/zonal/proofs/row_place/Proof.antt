@@ -102,9 +102,9 @@ past-fluxes c =
 row-start-requires : tie.Need-row-start-requires
 row-start-requires c κs =
     let common : tie.Then1 = search needs in
-    let layer : tie.Then2 = search needs in
-    let row : tie.Then3 = search needs in
-    record { range = in-range _ (passed common .fits .grid); layer = layer .if2 .taken; row = row .if3 .taken }
+    let s : tie.Start = search needs in
+    let range = in-range (s .args .g) (passed common .fits .grid) in
+    record { range = range; layer = omega (arith, range .lowK); row = search needs }
 
 row-at : (c : tie.After-row-start) → let s : tie.Start = search needs in RowAt (world s) (s .args .layer) (s .args .row) (s .args .fluxes .now) (c .row-start .result)
 row-at c =
