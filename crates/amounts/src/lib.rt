@@ -1,14 +1,16 @@
 // The calls that move no air: load, emission, withdrawal, and the readings of a total and of a cell.
-ghost use mathlib.Core.Path.{_≡_};
 ghost use Rattle.model.specs.Step.{load as load-call, emission as emission-call, withdrawal as withdrawal-call, total as total-call, cell as cell-call};
 ghost use Rattle.units.specs.Grid.{worldOf};
 ghost use Rattle.units.specs.Answer.{Agrees};
-ghost use Rattle.amounts.specs.Calls.{IsNamed};
+ghost use Rattle.amounts.specs.Amount.{IsCellPlace};
 use places::Lent;
+use places::Placed;
 use places::common_places;
+use places::not_placed;
 use units::Answer;
 use units::Grid;
 use units::Refusal;
+use units::TOTAL_LIMIT;
 use units::number;
 use units::world_cells;
 
@@ -38,44 +40,30 @@ pub fn total(g: Grid, air: &[u32], tracers: &[u32], tracer: u32) -> Answer
     Answer::Accepted(sum)
 }
 
-// The answer of places 1 to 5 to a call that names a tracer and a cell; where the cell's amount stands, and the tracer's total.
-pub struct Named {
-    pub answer: Answer,
-    pub at: usize,
-    pub total: u64,
-}
-
-fn not_named(answer: Answer) -> Named
-    ensures { λ r. ⌜ r .answer ≡ answer ⌝ }
-{
-    Named {
-        answer,
-        at: 0,
-        total: 0,
-    }
-}
-
-fn amount_place(g: Grid, air: &[u32], tracers: &[u32], tracer: u32, cell: u32) -> Named
-    ensures { λ r. ⌜ IsNamed (worldOf g (now (air .entry)) (now (tracers .entry))) tracer cell (r .answer) (r .at) (r .total) ⌝ }
+// Places 1 to 5 of a call that names a tracer and a cell: where the cell's amount stands, and the tracer's total.
+fn amount_place(g: Grid, air: &[u32], tracers: &[u32], tracer: u32, cell: u32) -> Placed
+    ensures { λ p. ⌜ IsCellPlace (worldOf g (now (air .entry)) (now (tracers .entry))) tracer cell p ⌝ }
 {
     let tested = common_places(g, air, tracers, Lent::Nothing);
     let answer = tested.answer;
     if number(answer) == 0 {} else {
-        return not_named(answer);
+        return not_placed(answer);
     }
     if tracer < g.n {} else {
-        return not_named(Answer::Refused(Refusal::Index));
+        return not_placed(Answer::Refused(Refusal::Index));
     }
     let cells = world_cells(g);
     if cell < cells {} else {
-        return not_named(Answer::Refused(Refusal::Index));
+        return not_placed(Answer::Refused(Refusal::Index));
     }
     let t = tracer as usize;
+    let first = t * (cells as usize) + (cell as usize);
     let sums = tested.totals;
-    Named {
+    let total = sums[t];
+    Placed {
         answer: Answer::Accepted(0),
-        at: t * (cells as usize) + (cell as usize),
-        total: sums[t],
+        first,
+        found: total,
     }
 }
 
@@ -83,13 +71,14 @@ fn amount_place(g: Grid, air: &[u32], tracers: &[u32], tracer: u32, cell: u32) -
 pub fn cell(g: Grid, air: &[u32], tracers: &[u32], tracer: u32, cell: u32) -> Answer
     ensures { λ r. ⌜ Agrees (worldOf g (now (air .entry)) (now (tracers .entry))) (cell-call tracer cell) r (worldOf g (now (air .entry)) (now (tracers .entry))) ⌝ }
 {
-    let named = amount_place(g, air, tracers, tracer, cell);
-    let answer = named.answer;
+    let place = amount_place(g, air, tracers, tracer, cell);
+    let answer = place.answer;
     if number(answer) == 0 {} else {
         return answer;
     }
-    let i = named.at;
-    Answer::Accepted(tracers[i])
+    let i = place.first;
+    let amount = tracers[i];
+    Answer::Accepted(amount)
 }
 
 // Adds an amount of a tracer in one cell.
@@ -103,15 +92,15 @@ pub fn emission(
 ) -> Answer
     ensures { λ r. ⌜ Agrees (worldOf g (now (air .entry)) (now (tracers .entry))) (emission-call tracer cell amount) r (worldOf g (now (air .entry)) (now (tracers .exit))) ⌝ }
 {
-    let named = amount_place(g, air, tracers, tracer, cell);
-    let answer = named.answer;
+    let place = amount_place(g, air, tracers, tracer, cell);
+    let answer = place.answer;
     if number(answer) == 0 {} else {
         return answer;
     }
-    if named.total + (amount as u64) <= 268435455 {} else {
+    if place.found + (amount as u64) <= TOTAL_LIMIT {} else {
         return Answer::Refused(Refusal::Emission);
     }
-    let i = named.at;
+    let i = place.first;
     tracers[i] = tracers[i] + amount;
     Answer::Accepted(0) // counts not named are 0
 }
@@ -127,12 +116,12 @@ pub fn withdrawal(
 ) -> Answer
     ensures { λ r. ⌜ Agrees (worldOf g (now (air .entry)) (now (tracers .entry))) (withdrawal-call tracer cell amount) r (worldOf g (now (air .entry)) (now (tracers .exit))) ⌝ }
 {
-    let named = amount_place(g, air, tracers, tracer, cell);
-    let answer = named.answer;
+    let place = amount_place(g, air, tracers, tracer, cell);
+    let answer = place.answer;
     if number(answer) == 0 {} else {
         return answer;
     }
-    let i = named.at;
+    let i = place.first;
     let had = tracers[i];
     if amount <= had {} else {
         return Answer::Refused(Refusal::Withdrawal);

@@ -1,3 +1,3 @@
-pub mod Calls
-pub mod Tracers
-pub mod World
+pub mod LayerPlace
+pub mod LayerTracers
+pub mod LayerSwept

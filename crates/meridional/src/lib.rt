@@ -2,37 +2,30 @@
 ghost use mathlib.Core.Path.{_≡_};
 ghost use Rattle.model.specs.Step.{meridional as meridional-call};
 ghost use Rattle.units.specs.Answer.{Agrees};
-ghost use Rattle.units.specs.Grid.{worldOf};
+ghost use Rattle.units.specs.Grid.{gridOf, worldOf};
 ghost use Rattle.substep.specs.Faces.{flowOf};
-ghost use Rattle.meridional.specs.Calls.{Rooms, Layer, IsPermit, IsLayerPlace};
-ghost use Rattle.meridional.specs.Tracers.{TracersNeed, sweptTracers};
+ghost use Rattle.meridional.specs.LayerPlace.{Rooms, LayerNeed, IsPermit, IsLayerPlace};
+ghost use Rattle.meridional.specs.LayerTracers.{LayerTracersNeed, sweptTracers};
 use layer::layer_allowed;
 use layer::pass_layer;
 use layer::step_layer_gas;
 use places::Lent;
+use places::Placed;
 use places::common_places;
 use places::fluxes_fit;
+use places::not_placed;
 use substep::fill_parts;
 use units::Air;
 use units::Answer;
 use units::Grid;
+use units::MERIDIONAL_LIMIT;
+use units::MOST_FACES;
+use units::MOST_LAYER_CELLS;
 use units::Refusal;
 use units::layer_cells;
 use units::layer_start;
 use units::number;
 use units::world_cells;
-
-// The answer of places 1 to 10, and where the layer starts.
-pub struct LayerPlace {
-    pub answer: Answer,
-    pub first: usize,
-}
-
-fn no_layer(answer: Answer) -> LayerPlace
-    ensures { λ p. ⌜ p .answer ≡ answer ⌝ }
-{
-    LayerPlace { answer, first: 0 }
-}
 
 // Fills up and down with what passes each face, and says whether the substep is allowed.
 fn layer_permits(
@@ -43,15 +36,15 @@ fn layer_permits(
     up: &mut [u32],
     down: &mut [u32],
 ) -> bool
-    requires { ⌜ Layer g (now air) first (now fluxes) (now up) (now down) ⌝ }
-    ensures { λ r. ⌜ IsPermit g (now (air .entry)) first (now (fluxes .entry)) (now (up .exit)) (now (down .exit)) r ⌝ }
+    requires { ⌜ LayerNeed (gridOf g) (now air) first (now fluxes) (now up) (now down) ⌝ }
+    ensures { λ r. ⌜ IsPermit (gridOf g) (now (air .entry)) first (now (fluxes .entry)) (now (up .exit)) (now (down .exit)) r ⌝ }
 {
     let end = first + (layer_cells(g) as usize);
     fill_parts(fluxes, 1, 1, up, down);
     layer_allowed(&air[first..end], up, down, g.w as usize, g.r as usize)
 }
 
-// Where the call is accepted, up and down have what passes each face.
+// Places 1 to 10: where the layer starts. Where the call is accepted, up and down have what passes each face.
 fn layer_place(
     g: Grid,
     air: &[u32],
@@ -60,42 +53,43 @@ fn layer_place(
     fluxes: &[i32],
     up: &mut [u32],
     down: &mut [u32],
-) -> LayerPlace
+) -> Placed
     requires { ⌜ Rooms (now up) (now down) ⌝ }
-    ensures { λ p. ⌜ IsLayerPlace (worldOf g (now (air .entry)) (now (tracers .entry))) layer (now (fluxes .entry)) (now (up .exit)) (now (down .exit)) (p .answer) (p .first) ⌝ }
+    ensures { λ p. ⌜ IsLayerPlace (worldOf g (now (air .entry)) (now (tracers .entry))) layer (now (fluxes .entry)) (now (up .exit)) (now (down .exit)) p ⌝ }
 {
     let tested = common_places(g, air, tracers, Lent::LayerFluxes(fluxes.len()));
     let answer = tested.answer;
     if number(answer) == 0 {} else {
-        return no_layer(answer);
+        return not_placed(answer);
     }
     if layer < g.k {} else {
-        return no_layer(Answer::Refused(Refusal::Index));
+        return not_placed(Answer::Refused(Refusal::Index));
     }
-    if fluxes_fit(fluxes, Air(65535)) {} else {
-        return no_layer(Answer::Refused(Refusal::Fluxes));
+    if fluxes_fit(fluxes, Air(MERIDIONAL_LIMIT)) {} else {
+        return not_placed(Answer::Refused(Refusal::Fluxes));
     }
     let first = layer_start(g, layer) as usize;
     if layer_permits(g, air, first, fluxes, up, down) {} else {
-        return no_layer(Answer::Refused(Refusal::Meridional));
+        return not_placed(Answer::Refused(Refusal::Meridional));
     }
-    LayerPlace {
+    Placed {
         answer: Answer::Accepted(1),
         first,
+        found: 0,
     }
 }
 
 // The layer of every tracer, swept where it is lent; `air` is the layer's.
 fn sweep_tracers(g: Grid, tracers: &mut [u32], air: &[u32], up: &[u32], down: &[u32], first: usize)
-    requires { ⌜ Rooms (now up) (now down) × TracersNeed g (now tracers) (now air) (flowOf (now up) (now down)) first ⌝ }
-    ensures { λ x. ⌜ now (tracers .exit) ≡ sweptTracers g (now (tracers .entry)) (now (air .entry)) (flowOf (now (up .entry)) (now (down .entry))) first ⌝ }
+    requires { ⌜ Rooms (now up) (now down) × LayerTracersNeed (gridOf g) (now tracers) (now air) (flowOf (now up) (now down)) first ⌝ }
+    ensures { λ x. ⌜ now (tracers .exit) ≡ sweptTracers (gridOf g) (now (tracers .entry)) (now (air .entry)) (flowOf (now (up .entry)) (now (down .entry))) first ⌝ }
 {
     let n = g.n as usize;
     let wide = layer_cells(g) as usize;
     let cells = world_cells(g) as usize;
-    let mut q = [0u64; 3170];
-    let mut high = [0u32; 3240];
-    let mut low = [0u32; 3240];
+    let mut q = [0u64; MOST_LAYER_CELLS];
+    let mut high = [0u32; MOST_FACES];
+    let mut low = [0u32; MOST_FACES];
     let mut t = 0;
     while t < n {
         let a = t * cells + first;
@@ -125,8 +119,8 @@ pub fn meridional(
 ) -> Answer
     ensures { λ x. ⌜ Agrees (worldOf g (now (air .entry)) (now (tracers .entry))) (meridional-call layer (now (fluxes .entry))) x (worldOf g (now (air .exit)) (now (tracers .exit))) ⌝ }
 {
-    let mut up = [0u32; 3240];
-    let mut down = [0u32; 3240];
+    let mut up = [0u32; MOST_FACES];
+    let mut down = [0u32; MOST_FACES];
     let place = layer_place(g, air, tracers, layer, fluxes, &mut up, &mut down);
     let answer = place.answer;
     if number(answer) == 0 {} else {

@@ -1,27 +1,23 @@
 -- What `common_places` gives: the first of places 1 to 4 that applies, and, where none does, what they tell of the world.
--- Assumes nothing.
 use Prim.Native.Nat.{ℕ, _+_, _*_, _≤_, _<_}
-use mathlib.Core.List.{List}
+use mathlib.Core.List.{List, [], _∷_, _++_}
 use mathlib.Core.Bool.{Bool, true, false, not, _&&_, and-eq-true-iff}
-use mathlib.Core.Path.{_≡_, sym, ap, _∙_}
+use mathlib.Core.Path.{_≡_, refl, sym, ap, _∙_}
 use native.Mathlib.Nat.{le-of-eq}
-use native.Mathlib.Omega.{arith}
 use borrow.Author.Tests.{eqb-true, leb-true}
 use lib.Dec.{leb, eqb}
 use lib.ListN.{length}
-use Rattle.model.specs.Limits.{totalLimit}
+use Rattle.model.specs.Limits.{totalLimit, mostCells, mostTracers}
 use Rattle.model.specs.Basic.{at, every}
 use Rattle.model.specs.World.{Grid, World, worldCells, gasTotal, airFits}
-use Rattle.model.specs.Step.{Call, Place, commonPlaces, refusal, gridFits, lengthsFit, lentFits}
+use Rattle.model.specs.Step.{Call, Place, place, meaning, firstOf, commonPlaces, ownPlaces, refusal, gridFits, lengthsFit, lentFits}
 use Rattle.model.specs.Laws.Basic.{every-at, every-ext}
-use Rattle.model.specs.Laws.Step.{Fits, passes, stops}
+use Rattle.model.specs.Laws.Step.{Fits}
 use Rattle.units.specs.declared.Answer.{Answer}
-use Rattle.units.specs.declared.Answer.the-variants.{Accepted, Refused}
-use Rattle.units.specs.declared.Refusal.{Refusal}
-use Rattle.units.specs.declared.Refusal.the-variants.{GridRange, Lengths, AirRange, Totals}
-use Rattle.units.specs.Answer.{refusalNumber, numberOf, countOf}
-use Rattle.units.specs.Agrees.{Placed, refused-agrees}
+use Rattle.units.specs.Answer.{numberOf, countOf, Agrees}
 use Rattle.places.specs.Totals.{TracersFit, AreTotals}
+use Rattle.places.specs.Walk.{Left, IsPlaced, Like}
+use Rattle.places.specs.declared.Tested as declared
 use Rattle.places.specs.declared.Lent.{Lent}
 use Rattle.places.specs.declared.Lent.the-variants.{Nothing, RowFluxes, LayerFluxes, Table}
 
@@ -42,32 +38,77 @@ airTest w = every (length (w .air)) (λ i. airFits (at (w .air) i))
 abbrev pub totalsTest : World → Bool
 totalsTest w = every (w .grid .N) (λ t. leb (gasTotal w t) totalLimit)
 
+-- ---- the walk through places 1 to 4, of every call that is lent a list of the length `lent`
+pub record Lends (w : World) (lent : Lent) (call : Call) (rest : List Place) : Type 0 where
+  pub fit : lentFits (w .grid) call ≡ lentServes (w .grid) lent
+  pub own : rest ≡ ownPlaces call
+
+abbrev pub fromTotals : List Place
+fromTotals = place 4 (λ w. not (totalsTest w)) ∷ []
+
+abbrev pub fromAir : List Place
+fromAir = place 3 (λ w. not (airTest w)) ∷ fromTotals
+
+abbrev pub fromLengths : Lent → List Place
+fromLengths lent =
+    place 2 (λ w. not (lengthsServe (w .grid) (length (w .air)) (length (w .tracers)) lent)) ∷ fromAir
+
+abbrev pub fromGrid : Lent → List Place
+fromGrid lent = place 1 (λ w. not (gridFits (w .grid))) ∷ fromLengths lent
+
+-- place 2 is the same for each of them
+pub all-left : (w : World) (lent : Lent) → Left w (Lends w lent) (fromGrid lent)
+unfolding refusal commonPlaces firstOf
+all-left w lent =
+    record {
+      is =
+          λ call rest lends.
+          ap
+          (λ (b : Bool).
+          elim (not (gridFits (w .grid))) [
+            | true ↦ 1
+            | false ↦ elim (not (eqb (length (w .air)) (worldCells (w .grid)) && eqb (length (w .tracers)) (w .grid .N * worldCells (w .grid)) && b)) [ true ↦ 2 | false ↦ firstOf (fromAir ++ ownPlaces call) w ]
+          ])
+          (lends .fit) ∙
+          ap (λ (l : List Place). firstOf (fromGrid lent ++ l) w) (sym (lends .own));
+    }
+
 -- what places 1 to 4 tell of a world, with its totals
-pub record Passed (w : World) (lent : Lent) (sums : List ℕ) : Type 0 where
+pub record Passed (w : World) (lent : Lent) (tested : declared.Tested) : Type 0 where
+  pub left : Left w (Lends w lent) []
   pub fits : Fits w
   pub lentFit : lentServes (w .grid) lent ≡ true
-  pub total : (t : ℕ) → t < w .grid .N → at sums t ≡ gasTotal w t
+  pub count : countOf (tested .answer) ≡ 0
+  pub total : (t : ℕ) → t < w .grid .N → at (tested .totals) t ≡ gasTotal w t
 
--- the answer of places 1 to 4 to every call that is lent a list of the length `lent`
-pub record IsTested (w : World) (lent : Lent) (answer : Answer) (sums : List ℕ) : Type 0 where
-  pub refused : (numberOf answer ≡ 0 → ⊥) → (call : Call) → lentFits (w .grid) call ≡ lentServes (w .grid) lent → refusal w call ≡ numberOf answer
-  pub count : countOf answer ≡ 0
-  pub passed : numberOf answer ≡ 0 → Passed w lent sums
+abbrev pub IsTested : World → Lent → declared.Tested → Type 0
+IsTested w lent tested = IsPlaced w (Lends w lent) (tested .answer) (Passed w lent tested)
 
 -- what the passed lengths tell
 module _ (w : World) (lent : Lent) (b : lengthsServe (w .grid) (length (w .air)) (length (w .tracers)) lent ≡ true) where
-  lengths-true : (length (w .air) ≡ worldCells (w .grid)) × (length (w .tracers) ≡ w .grid .N * worldCells (w .grid)) × (lentServes (w .grid) lent ≡ true)
+  pub lengths-true : (length (w .air) ≡ worldCells (w .grid)) × (length (w .tracers) ≡ w .grid .N * worldCells (w .grid)) × (lentServes (w .grid) lent ≡ true)
   lengths-true =
       let p = and-eq-true-iff _ (lentServes (w .grid) lent) .0 b in
       let q = and-eq-true-iff (eqb (length (w .air)) (worldCells (w .grid))) _ .0 (p .0) in
       (eqb-true _ _ (q .0), eqb-true _ _ (q .1), p .1)
 
-  pub tracers-fit : (cells : ℕ) → cells ≡ worldCells (w .grid) → cells ≤ 101440 → w .grid .N ≤ 8 → TracersFit (w .tracers) cells (w .grid .N)
+  pub tracers-fit : (cells : ℕ) → cells ≡ worldCells (w .grid) → cells ≤ mostCells → w .grid .N ≤ mostTracers → TracersFit (w .tracers) cells (w .grid .N)
   tracers-fit cells e few n =
       record {
         fewCells = few;
         fewTracers = n;
         long = le-of-eq (ap (λ (k : ℕ). w .grid .N * k) e ∙ sym (lengths-true .1));
+      }
+
+  -- .. with the other tests
+  pub passed-fits : gridFits (w .grid) ≡ true → airTest w ≡ true → totalsTest w ≡ true → Fits w
+  passed-fits a c d =
+      record {
+        grid = a;
+        airLength = lengths-true .0;
+        tracersLength = lengths-true .1;
+        air = λ i h. every-at _ _ c i (rw (lengths-true .0) h);
+        totals = λ t h. leb-true _ _ (every-at _ _ d t h);
       }
 
 -- the totals are the gas totals, and their test is place 4's
@@ -80,73 +121,26 @@ module _ (w : World) (cells : ℕ) (e : cells ≡ worldCells (w .grid)) (sums : 
       every-ext (w .grid .N) (λ t. leb (at sums t) totalLimit) (λ t. leb (gasTotal w t) totalLimit)
       (λ t h. ap (λ (x : ℕ). leb x totalLimit) (gas-totals t h))
 
--- ---- the answers of `common_places`, from the tests that led there
-module _ (w : World) (lent : Lent) (answer : Answer) (sums : List ℕ) where
-  refused-by : (r : Refusal) → answer ≡ Refused r → (refusalNumber r ≡ 0 → ⊥) → ((call : Call) → lentFits (w .grid) call ≡ lentServes (w .grid) lent → refusal w call ≡ refusalNumber r) → IsTested w lent answer sums
-  refused-by r e nonzero first =
+-- ---- a call that is lent such a list: its own places are left, or it is refused by places 1 to 4
+module _ {w : World} {lent : Lent} {tested : declared.Tested} {call : Call} where
+  pub own-left : Passed w lent tested → lentFits (w .grid) call ≡ lentServes (w .grid) lent → Left w (Like w call) (meaning call .places)
+  unfolding ownPlaces
+  own-left passed e =
       record {
-        refused = λ _ call fit. first call fit ∙ sym (ap numberOf e);
-        count = ap countOf e;
-        passed = λ z. absurd (nonzero (sym (ap numberOf e) ∙ z));
+        is =
+            λ other rest like.
+            passed .left .is other (ownPlaces other) (record { fit = like .lent ∙ e; own = refl }) ∙
+            ap (λ (l : List Place). firstOf l w) (like .places);
       }
 
-  -- place 2 is the same for every call that is lent a list of that length
-  lengths-same : (call : Call) → lentFits (w .grid) call ≡ lentServes (w .grid) lent → lengthsFit w call ≡ lengthsServe (w .grid) (length (w .air)) (length (w .tracers)) lent
-  lengths-same call fit =
-      ap
-      (λ (b : Bool). eqb (length (w .air)) (worldCells (w .grid)) && eqb (length (w .tracers)) (w .grid .N * worldCells (w .grid)) && b)
-      fit
+  pub common-refused : IsTested w lent tested → (numberOf (tested .answer) ≡ 0 → ⊥) → lentFits (w .grid) call ≡ lentServes (w .grid) lent → Agrees w call (tested .answer) w
+  common-refused is refused e = is .refused refused call (ownPlaces call) (record { fit = e; own = refl })
 
-  pub tested-1 : gridFits (w .grid) ≡ false → answer ≡ Refused GridRange → IsTested w lent answer sums
-  unfolding refusal commonPlaces
-  tested-1 a e = refused-by GridRange e (λ z. omega arith) (λ call fit. stops _ _ w (ap not a))
-
-  module _ (a : gridFits (w .grid) ≡ true) where
-    pub tested-2 : lengthsServe (w .grid) (length (w .air)) (length (w .tracers)) lent ≡ false → answer ≡ Refused Lengths → IsTested w lent answer sums
-    unfolding refusal commonPlaces
-    tested-2 b e =
-        refused-by Lengths e (λ z. omega arith)
-        (λ call fit. passes _ _ w (ap not a) ∙ stops _ _ w (ap not (lengths-same call fit ∙ b)))
-
-    module _ (b : lengthsServe (w .grid) (length (w .air)) (length (w .tracers)) lent ≡ true) where
-      pub tested-3 : airTest w ≡ false → answer ≡ Refused AirRange → IsTested w lent answer sums
-      unfolding refusal commonPlaces
-      tested-3 c e =
-          refused-by AirRange e (λ z. omega arith)
-          (λ call fit. passes _ _ w (ap not a) ∙ passes _ _ w (ap not (lengths-same call fit ∙ b)) ∙ stops _ _ w (ap not c))
-
-      pub tested-4 : airTest w ≡ true → totalsTest w ≡ false → answer ≡ Refused Totals → IsTested w lent answer sums
-      unfolding refusal commonPlaces
-      tested-4 c d e =
-          refused-by Totals e (λ z. omega arith)
-          (λ call fit.
-          passes _ _ w (ap not a) ∙ passes _ _ w (ap not (lengths-same call fit ∙ b)) ∙ passes _ _ w (ap not c) ∙
-          stops _ _ w (ap not d))
-
-      passed-fits : airTest w ≡ true → totalsTest w ≡ true → Fits w
-      passed-fits c d =
-          let lengths = lengths-true w lent b in
-          record {
-            grid = a;
-            airLength = lengths .0;
-            tracersLength = lengths .1;
-            air = λ i h. every-at _ _ c i (rw (lengths .0) h);
-            totals = λ t h. leb-true _ _ (every-at _ _ d t h);
-          }
-
-      pub tested-5 : airTest w ≡ true → totalsTest w ≡ true → answer ≡ Accepted 0 → ((t : ℕ) → t < w .grid .N → at sums t ≡ gasTotal w t) → IsTested w lent answer sums
-      tested-5 c d e each =
-          record {
-            refused = λ nonzero. absurd (nonzero (ap numberOf e));
-            count = ap countOf e;
-            passed = λ z. record { fits = passed-fits c d; lentFit = lengths-true w lent b .2; total = each };
-          }
-
--- refused by places 1 to 4, whatever is tested after them
-pub placed-common : {w : World} {lent : Lent} {tested : Answer} {sums : List ℕ} {ps : List Place} {answer : Answer} {Found : Type 0} → IsTested w lent tested sums → (numberOf tested ≡ 0 → ⊥) → answer ≡ tested → Placed w (lentServes (w .grid) lent) ps answer Found
-placed-common {w} {lent} {tested} is nonzero e =
-    record {
-      refused = λ _ call rest asks. rw e (refused-agrees w call tested (is .refused nonzero call (asks .0)) nonzero (is .count));
-      found = λ z. absurd (nonzero (rw e at z));
-      left = λ z. absurd (nonzero (rw e at z));
-    }
+  pub common-placed : {answer : Answer} {Found : Type 0} → IsTested w lent tested → (numberOf (tested .answer) ≡ 0 → ⊥) → lentFits (w .grid) call ≡ lentServes (w .grid) lent → answer ≡ tested .answer → IsPlaced w (Like w call) answer Found
+  common-placed is refused e same =
+      record {
+        refused =
+            λ _ other rest like.
+            rw same (is .refused refused other (ownPlaces other) (record { fit = like .lent ∙ e; own = refl }));
+        found = λ z. absurd (refused (rw same at z));
+      }

@@ -189,7 +189,7 @@ pub fn lengths_fit(g: Grid, air: usize, tracers: usize, lent: Lent) -> bool
 
 // Places 1 to 4, in this order.
 pub fn common_places(g: Grid, air: &[u32], tracers: &[u32], lent: Lent) -> Tested
-    ensures { λ r. ⌜ IsTested (worldOf g (now (air .entry)) (now (tracers .entry))) lent (r .answer) (r .totals) ⌝ }
+    ensures { λ r. ⌜ IsTested (worldOf g (now (air .entry)) (now (tracers .entry))) lent r ⌝ }
 {
     if grid_fits(g) {} else {
         return refused(Refusal::GridRange);
@@ -208,6 +208,24 @@ pub fn common_places(g: Grid, air: &[u32], tracers: &[u32], lent: Lent) -> Teste
     Tested {
         answer: Answer::Accepted(0),
         totals: sums,
+    }
+}
+
+// What the places of a call give: their answer; where the cells that the call names start, and a number found on the way, such as a total or a count.
+pub struct Placed {
+    pub answer: Answer,
+    pub first: usize,
+    pub found: u64,
+}
+
+// A call that was refused.
+pub fn not_placed(answer: Answer) -> Placed
+    ensures { λ p. ⌜ p .answer ≡ answer ⌝ }
+{
+    Placed {
+        answer,
+        first: 0,
+        found: 0,
     }
 }
 

@@ -1,5 +1,4 @@
--- A column in the lent amounts: loaded, and written back.
--- Assumes nothing.
+-- A column in the lent amounts: copied, and written back.
 use Prim.Native.Nat.{ℕ, zero, suc, _+_, _*_, _≤_, _<_}
 use mathlib.Core.List.{List}
 use mathlib.Core.Logic.{⊎-elim}
@@ -9,12 +8,13 @@ use native.Mathlib.Numerals.{add-one}
 use native.Mathlib.Omega.{arith}
 use lib.ListN.{length, set, length-set}
 use lib.Seq.{getD-set-same, getD-set-other}
+use Rattle.model.specs.Limits.{mostLayers, mostLayerCells, mostCells}
 use Rattle.model.specs.Basic.{at, tab}
 
 -- the column at place c of k layers of `cells` places each
 pub record ColumnNeed (l : List ℕ) (c cells k : ℕ) : Type 0 where
-  pub fit : k ≤ 32
-  pub few : cells ≤ 3170
+  pub fit : k ≤ mostLayers
+  pub few : cells ≤ mostLayerCells
   pub place : c < cells
   pub long : length l ≡ k * cells
 
@@ -22,10 +22,10 @@ abbrev pub columnOf : ℕ → ℕ → List ℕ → ℕ → List ℕ
 columnOf k cells l c = tab k (λ i. at l (i * cells + c))
 
 -- where its cell in layer i lies
-pub cell-room : {l : List ℕ} {c cells k : ℕ} → ColumnNeed l c cells k → (i : ℕ) → i < k → (i * cells + c < length l) × (i * cells + c < 101440)
-cell-room {l} {c} {cells} {k} need i h =
+pub cell-room : {l : List ℕ} {c cells k : ℕ} → ColumnNeed l c cells k → {i : ℕ} → i < k → (i * cells + c < length l) × (i * cells + c < mostCells)
+cell-room {l} {c} {cells} {k} need {i} h =
     let below : suc i * cells ≤ k * cells = mul-le-mul-right cells h in
-    let most : k * cells ≤ 32 * 3170 = mul-le-mul (need .fit) (need .few) in
+    let most : k * cells ≤ mostCells = mul-le-mul {n₂ = mostLayers} {m₂ = mostLayerCells} (need .fit) (need .few) in
     let place : c < cells = need .place in
     let long : length l ≡ k * cells = need .long in
     (omega arith, omega arith)

@@ -1,12 +1,11 @@
 -- A column with its edges, place 12 for all columns, and the count of pairs.
--- Assumes nothing.
 use Prim.Native.Nat.{ℕ, suc, _+_, _*_, _≤_, _<_}
 use mathlib.Core.List.{List}
 use mathlib.Core.Bool.{Bool, true, false, _&&_, true≢false}
 use mathlib.Core.Path.{_≡_, sym, ap, ap₂, _∙_}
 use native.Mathlib.Omega.{arith}
 use lib.ListN.{length}
-use Rattle.model.specs.Limits.{airLimit}
+use Rattle.model.specs.Limits.{airLimit, mostLayers, mostLayerCells}
 use Rattle.model.specs.Basic.{at, sum, every}
 use Rattle.model.specs.World.{airFits}
 use Rattle.model.specs.Remap.{airAbove, edgesServe, columnCount}
@@ -19,7 +18,7 @@ use Rattle.column.specs.Gas.{Spans, IsPairs}
 use Rattle.remap.specs.Columns.{ColumnNeed, columnOf, cell-room}
 
 -- the column at place c has air in range, and the table has k + 1 pairs
-pub record LoadNeed (air table : List ℕ) (c cells k : ℕ) : Type 0 where
+pub record ReadNeed (air table : List ℕ) (c cells k : ℕ) : Type 0 where
   pub column : ColumnNeed air c cells k
   pub some : 1 ≤ k
   pub pairs : length table ≡ 2 * (k + 1)
@@ -38,7 +37,7 @@ pub record IsColumn (air table : List ℕ) (c cells k : ℕ) (a e : List ℕ) : 
   pub most : (i : ℕ) → i < k → at a i ≤ airLimit
   pub edgesAre : AreEdges table (columnSum k cells air c) k e
 
-module _ {air table : List ℕ} {c cells k : ℕ} (need : LoadNeed air table c cells k) (a : List ℕ) (is : firsts k a ≡ columnOf k cells air c) where
+module _ {air table : List ℕ} {c cells k : ℕ} (need : ReadNeed air table c cells k) (a : List ℕ) (is : firsts k a ≡ columnOf k cells air c) where
   loaded-at : (i : ℕ) → i < k → at a i ≡ at air (i * cells + c)
   loaded-at i h =
       sym (at-tab k (at a) i h) ∙ ap (λ (l : List ℕ). at l i) is ∙ at-tab k (λ i. at air (i * cells + c)) i h
@@ -61,7 +60,7 @@ module _ {air table : List ℕ} {c cells k : ℕ} (need : LoadNeed air table c c
       }
 
 -- edges that serve, as the functions of one column need them
-module _ {air table : List ℕ} {c cells k : ℕ} {a e : List ℕ} (fit : k ≤ 32) (some : 1 ≤ k) (is : IsColumn air table c cells k a e) (edges : Edges k table (columnSum k cells air c)) where
+module _ {air table : List ℕ} {c cells k : ℕ} {a e : List ℕ} (fit : k ≤ mostLayers) (some : 1 ≤ k) (is : IsColumn air table c cells k a e) (edges : Edges k table (columnSum k cells air c)) where
   pub column-spans : Spans k a e
   column-spans =
       record {
@@ -92,20 +91,20 @@ module _ {air table : List ℕ} {c cells k : ℕ} {a e : List ℕ} (fit : k ≤ 
 -- ---- all columns
 pub record ColumnsNeed (air table : List ℕ) (cells k : ℕ) : Type 0 where
   pub some : 1 ≤ k
-  pub fit : k ≤ 32
-  pub few : cells ≤ 3170
+  pub fit : k ≤ mostLayers
+  pub few : cells ≤ mostLayerCells
   pub long : length air ≡ k * cells
   pub pairs : length table ≡ 2 * (k + 1)
   pub fits : tableFits k table ≡ true
   pub airIn : (i : ℕ) → i < k * cells → airFits (at air i) ≡ true
 
-pub load-need : {air table : List ℕ} {cells k : ℕ} → ColumnsNeed air table cells k → (c : ℕ) → c < cells → LoadNeed air table c cells k
-load-need {air} {table} {cells} {k} need c h =
+pub read-need : {air table : List ℕ} {cells k : ℕ} → ColumnsNeed air table cells k → {c : ℕ} → c < cells → ReadNeed air table c cells k
+read-need {air} {table} {cells} {k} need {c} h =
     record {
       column = column;
       some = need .some;
       pairs = need .pairs;
-      airIn = λ i p. need .airIn _ (omega (arith, cell-room column i p .0, need .long));
+      airIn = λ i p. need .airIn _ (omega (arith, cell-room column p .0, need .long));
     }
   where
     column : ColumnNeed air c cells k
@@ -129,27 +128,27 @@ pub record ServedUpto (air table : List ℕ) (cells k c count : ℕ) : Type 0 wh
   pub counted : count ≡ sum c (countAt k cells table air)
   pub few : count ≤ 64 * c
 
-module _ (air table : List ℕ) (cells k : ℕ) (need : ColumnsNeed air table cells k) where
+module _ {air table : List ℕ} {cells k : ℕ} (need : ColumnsNeed air table cells k) where
   pub upto-start : ServedUpto air table cells k 0 0
   upto-start = record { inside = omega arith; serve = every-none _; counted = sym (sum-none _); few = omega arith }
 
-  module _ (c : ℕ) (h : c < cells) (a e : List ℕ) (is : IsColumn air table c cells k a e) where
-    pub not-served : (r : Bool) → IsServing k e r → r ≡ false → AreServed air table cells k false 0
-    not-served r serving fails =
+  module _ {c : ℕ} (h : c < cells) {a e : List ℕ} (is : IsColumn air table c cells k a e) where
+    pub not-served : {r : Bool} → IsServing k e r → r ≡ false → AreServed air table cells k false 0
+    not-served serving fails =
         record {
           is = sym (every-false cells (servesAt k cells table air) c h (sym (serving .is table _ (is .edgesAre)) ∙ fails));
           counted = λ q. absurd (true≢false (sym q));
         }
 
-    module _ (r : Bool) (serving : IsServing k e r) (served : r ≡ true) where
+    module _ {r : Bool} (serving : IsServing k e r) (served : r ≡ true) where
       serves-here : servesAt k cells table air c ≡ true
       serves-here = sym (serving .is table _ (is .edgesAre)) ∙ served
 
       pub spans-here : Spans k a e
       spans-here = column-spans (need .fit) (need .some) is (edges-serve k table _ (need .fits) serves-here)
 
-      pub one-more : (count n : ℕ) → ServedUpto air table cells k c count → IsPairs k a e n → ServedUpto air table cells k (c + 1) (count + n)
-      one-more count n upto pairs =
+      pub one-more : {count n : ℕ} → ServedUpto air table cells k c count → IsPairs k a e n → ServedUpto air table cells k (c + 1) (count + n)
+      one-more upto pairs =
           record {
             inside = omega arith;
             serve = every-more c (servesAt k cells table air) ∙ ap₂ _&&_ (upto .serve) serves-here;
@@ -159,8 +158,8 @@ module _ (air table : List ℕ) (cells k : ℕ) (need : ColumnsNeed air table ce
             few = omega (arith, upto .few, pairs .most, need .fit);
           }
 
-  pub all-served : (c count : ℕ) → ServedUpto air table cells k c count → cells ≤ c → AreServed air table cells k true count
-  all-served c count upto done =
+  pub all-served : {c count : ℕ} → ServedUpto air table cells k c count → cells ≤ c → AreServed air table cells k true count
+  all-served {c} upto done =
       let e : c ≡ cells = omega (arith, upto .inside) in
       record {
         is = sym (upto .serve) ∙ ap (λ (n : ℕ). every n (servesAt k cells table air)) e;

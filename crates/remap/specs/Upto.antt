@@ -1,5 +1,4 @@
 -- A loop over the columns: those passed are as they shall be, the others as they were.
--- Assumes nothing.
 use Prim.Native.Nat.{ℕ, suc, _+_, _*_, _/_, _%_, _≤_, _<_}
 use mathlib.Core.List.{List}
 use mathlib.Core.Logic.{⊎-elim}
@@ -18,12 +17,12 @@ pub record Upto (k cells : ℕ) (new : ℕ → ℕ → ℕ) (old : List ℕ) (c 
   pub done : (i p : ℕ) → i < k → p < c → at now (i * cells + p) ≡ new i p
   pub left : (i p : ℕ) → i < k → c ≤ p → p < cells → at now (i * cells + p) ≡ at old (i * cells + p)
 
-module _ (k cells : ℕ) (new : ℕ → ℕ → ℕ) (old : List ℕ) (long : length old ≡ k * cells) where
+module _ {k cells : ℕ} {new : ℕ → ℕ → ℕ} {old : List ℕ} (long : length old ≡ k * cells) where
   pub upto-none : Upto k cells new old 0 old
   upto-none =
       record { inside = omega arith; long = refl; done = λ i p hi hp. absurd (omega arith); left = λ i p hi hc hp. refl }
 
-  module _ (c : ℕ) (h : c < cells) (now : List ℕ) (upto : Upto k cells new old c now) where
+  module _ {c : ℕ} (h : c < cells) {now : List ℕ} (upto : Upto k cells new old c now) where
     pub column-left : columnOf k cells now c ≡ columnOf k cells old c
     column-left = tab-ext k _ _ (λ i hi. upto .left i c hi (omega arith) h)
 
@@ -42,8 +41,8 @@ module _ (k cells : ℕ) (new : ℕ → ℕ → ℕ) (old : List ℕ) (long : le
         step : (a b : ℕ) → a < b → suc a ≤ b
         step a b s = s
 
-    pub upto-more : (f : ℕ → ℕ) (next : List ℕ) → next ≡ columnSet cells now c f k → ((i : ℕ) → i < k → f i ≡ new i c) → Upto k cells new old (c + 1) next
-    upto-more f next e is =
+    pub upto-more : (f : ℕ → ℕ) {next : List ℕ} → next ≡ columnSet cells now c f k → ((i : ℕ) → i < k → f i ≡ new i c) → Upto k cells new old (c + 1) next
+    upto-more f {next} e is =
         record {
           inside = omega arith;
           long = ap length e ∙ set-length cells now c f k ∙ upto .long;
@@ -62,8 +61,8 @@ module _ (k cells : ℕ) (new : ℕ → ℕ → ℕ) (old : List ℕ) (long : le
         }
 
   -- all columns
-  pub upto-all : 0 < cells → (c : ℕ) (now : List ℕ) → cells ≤ c → Upto k cells new old c now → now ≡ tab (k * cells) (λ i. new (i / cells) (i % cells))
-  upto-all some c now all upto =
+  pub upto-all : 0 < cells → {c : ℕ} {now : List ℕ} → cells ≤ c → Upto k cells new old c now → now ≡ tab (k * cells) (λ i. new (i / cells) (i % cells))
+  upto-all some {c} {now} all upto =
       sym (tab-at (k * cells) now (upto .long ∙ long)) ∙
       tab-ext (k * cells) (at now) (λ i. new (i / cells) (i % cells))
       (λ i h.

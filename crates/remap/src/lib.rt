@@ -7,10 +7,10 @@ ghost use lib.ListN.{length};
 ghost use Rattle.model.specs.Basic.{at};
 ghost use Rattle.column.specs.Column.{firsts};
 ghost use Rattle.remap.specs.Columns.{ColumnNeed, columnOf, columnSet};
-ghost use Rattle.remap.specs.Served.{LoadNeed, IsColumn, ColumnsNeed, AreServed};
-ghost use Rattle.remap.specs.Moved.{AirNeed, TracerNeed, airMoved, gasMoved};
-ghost use Rattle.remap.specs.Tracers.{TracersNeed, allMoved};
-ghost use Rattle.remap.specs.Calls.{IsPlace};
+ghost use Rattle.remap.specs.Served.{ReadNeed, IsColumn, ColumnsNeed, AreServed};
+ghost use Rattle.remap.specs.Moved.{ColumnsAirNeed, ColumnsGasNeed, airMoved, gasMoved};
+ghost use Rattle.remap.specs.Tracers.{ColumnsTracersNeed, allMoved};
+ghost use Rattle.remap.specs.RemapPlace.{IsRemapPlace};
 ghost use Rattle.model.specs.Step.{remap as remap-call};
 ghost use Rattle.units.specs.Answer.{Agrees};
 ghost use Rattle.units.specs.Grid.{worldOf};
@@ -22,15 +22,19 @@ use column::pairs;
 use column::remap_gas;
 use column::table_fits;
 use places::Lent;
+use places::Placed;
 use places::common_places;
+use places::not_placed;
 use units::Answer;
 use units::Grid;
+use units::MOST_EDGES;
+use units::MOST_LAYERS;
 use units::Refusal;
 use units::layer_cells;
 use units::number;
 
 // Copies the column at place c of lent amounts, k layers of `cells` places each, to the first k entries of `column`.
-fn load(list: &[u32], c: usize, cells: usize, k: usize, column: &mut [u32])
+fn read_column(list: &[u32], c: usize, cells: usize, k: usize, column: &mut [u32])
     requires { ⌜ ColumnNeed (now list) c cells k × (k ≤ length (now column)) ⌝ }
     ensures { λ r. ⌜ firsts k (now (column .exit)) ≡ columnOf k cells (now (list .entry)) c ⌝ }
 {
@@ -42,7 +46,7 @@ fn load(list: &[u32], c: usize, cells: usize, k: usize, column: &mut [u32])
 }
 
 // Writes a column back.
-fn store(column: &[u32], list: &mut [u32], c: usize, cells: usize, k: usize)
+fn write_column(column: &[u32], list: &mut [u32], c: usize, cells: usize, k: usize)
     requires { ⌜ ColumnNeed (now list) c cells k × (k ≤ length (now column)) ⌝ }
     ensures { λ r. ⌜ now (list .exit) ≡ columnSet cells (now (list .entry)) c (at (now (column .entry))) k ⌝ }
 {
@@ -53,8 +57,8 @@ fn store(column: &[u32], list: &mut [u32], c: usize, cells: usize, k: usize)
     }
 }
 
-// Loads a column's air, and fills the table's edges in it.
-fn load_column(
+// Copies a column's air, and fills the table's edges in it.
+fn read_edges(
     air: &[u32],
     table: &[u32],
     c: usize,
@@ -63,10 +67,10 @@ fn load_column(
     a: &mut [u32],
     e: &mut [u64],
 )
-    requires { ⌜ LoadNeed (now air) (now table) c cells k × (k ≤ length (now a)) × (k < length (now e)) ⌝ }
+    requires { ⌜ ReadNeed (now air) (now table) c cells k × (k ≤ length (now a)) × (k < length (now e)) ⌝ }
     ensures { λ r. ⌜ IsColumn (now (air .entry)) (now (table .entry)) c cells k (now (a .exit)) (now (e .exit)) ⌝ }
 {
-    load(air, c, cells, k, a);
+    read_column(air, c, cells, k, a);
     let p = air_sum(a, k);
     fill_edges(table, p, k, e);
 }
@@ -82,12 +86,12 @@ fn columns_serve(air: &[u32], table: &[u32], cells: usize, k: usize) -> Serving
     requires { ⌜ ColumnsNeed (now air) (now table) cells k ⌝ }
     ensures { λ r. ⌜ AreServed (now (air .entry)) (now (table .entry)) cells k (r .ok) (r .count) ⌝ }
 {
-    let mut a = [0u32; 32];
-    let mut e = [0u64; 33];
+    let mut a = [0u32; MOST_LAYERS];
+    let mut e = [0u64; MOST_EDGES];
     let mut count: u32 = 0;
     let mut c = 0;
     while c < cells {
-        load_column(air, table, c, cells, k, &mut a, &mut e);
+        read_edges(air, table, c, cells, k, &mut a, &mut e);
         if edges_serve(&e, k) {} else {
             return Serving {
                 ok: false,
@@ -110,44 +114,44 @@ fn is_cap(c: usize, cells: usize) -> bool
 
 // Remaps one tracer in all columns.
 fn move_tracer(gas: &mut [u32], air: &[u32], table: &[u32], cells: usize, k: usize)
-    requires { ⌜ TracerNeed (now gas) (now air) (now table) cells k ⌝ }
+    requires { ⌜ ColumnsGasNeed (now gas) (now air) (now table) cells k ⌝ }
     ensures { λ r. ⌜ now (gas .exit) ≡ gasMoved k cells (now (table .entry)) (now (air .entry)) (now (gas .entry)) ⌝ }
 {
-    let mut a = [0u32; 32];
-    let mut e = [0u64; 33];
-    let mut old = [0u32; 32];
-    let mut q = [0u64; 32];
-    let mut new = [0u32; 32];
+    let mut a = [0u32; MOST_LAYERS];
+    let mut e = [0u64; MOST_EDGES];
+    let mut old = [0u32; MOST_LAYERS];
+    let mut q = [0u64; MOST_LAYERS];
+    let mut new = [0u32; MOST_LAYERS];
     let mut c = 0;
     while c < cells {
-        load_column(air, table, c, cells, k, &mut a, &mut e);
-        load(gas, c, cells, k, &mut old);
+        read_edges(air, table, c, cells, k, &mut a, &mut e);
+        read_column(gas, c, cells, k, &mut old);
         let cap = is_cap(c, cells);
         remap_gas(&a, &old, cap, &e, k, &mut q, &mut new);
-        store(&new, gas, c, cells, k);
+        write_column(&new, gas, c, cells, k);
         c += 1;
     }
 }
 
 // Remaps the air in all columns.
 fn move_air(air: &mut [u32], table: &[u32], cells: usize, k: usize)
-    requires { ⌜ AirNeed (now air) (now table) cells k ⌝ }
+    requires { ⌜ ColumnsAirNeed (now air) (now table) cells k ⌝ }
     ensures { λ r. ⌜ now (air .exit) ≡ airMoved k cells (now (table .entry)) (now (air .entry)) ⌝ }
 {
-    let mut a = [0u32; 32];
-    let mut e = [0u64; 33];
+    let mut a = [0u32; MOST_LAYERS];
+    let mut e = [0u64; MOST_EDGES];
     let mut c = 0;
     while c < cells {
-        load_column(air, table, c, cells, k, &mut a, &mut e);
+        read_edges(air, table, c, cells, k, &mut a, &mut e);
         new_air(&e, k, &mut a);
-        store(&a, air, c, cells, k);
+        write_column(&a, air, c, cells, k);
         c += 1;
     }
 }
 
 // Remaps the n tracers, one after the other.
 fn move_tracers(tracers: &mut [u32], air: &[u32], table: &[u32], cells: usize, k: usize, n: usize)
-    requires { ⌜ TracersNeed (now tracers) (now air) (now table) cells k n ⌝ }
+    requires { ⌜ ColumnsTracersNeed (now tracers) (now air) (now table) cells k n ⌝ }
     ensures { λ r. ⌜ now (tracers .exit) ≡ allMoved n k cells (now (table .entry)) (now (air .entry)) (now (tracers .entry)) ⌝ }
 {
     let mut t = 0;
@@ -159,32 +163,38 @@ fn move_tracers(tracers: &mut [u32], air: &[u32], table: &[u32], cells: usize, k
     }
 }
 
-// The answer of places 1 to 4, 11 and 12.
-fn remap_place(g: Grid, air: &[u32], tracers: &[u32], table: &[u32]) -> Answer
-    ensures { λ p. ⌜ IsPlace (worldOf g (now (air .entry)) (now (tracers .entry))) (now (table .entry)) p ⌝ }
+// Places 1 to 4, 11 and 12; the columns start at cell 0.
+fn remap_place(g: Grid, air: &[u32], tracers: &[u32], table: &[u32]) -> Placed
+    ensures { λ p. ⌜ IsRemapPlace (worldOf g (now (air .entry)) (now (tracers .entry))) (now (table .entry)) p ⌝ }
 {
     let tested = common_places(g, air, tracers, Lent::Table(table.len()));
     let answer = tested.answer;
     if number(answer) == 0 {} else {
-        return answer;
+        return not_placed(answer);
     }
     let k = g.k as usize;
     if table_fits(table, k) {} else {
-        return Answer::Refused(Refusal::Table);
+        return not_placed(Answer::Refused(Refusal::Table));
     }
     let cells = layer_cells(g) as usize;
     let serving = columns_serve(air, table, cells, k);
     if serving.ok {} else {
-        return Answer::Refused(Refusal::Remap);
+        return not_placed(Answer::Refused(Refusal::Remap));
     }
-    Answer::Accepted(serving.count)
+    let count = serving.count;
+    Placed {
+        answer: Answer::Accepted(count),
+        first: 0,
+        found: 0,
+    }
 }
 
 // Remaps all columns, in the air and in all tracers.
 pub fn remap(g: Grid, air: &mut [u32], tracers: &mut [u32], table: &[u32]) -> Answer
     ensures { λ x. ⌜ Agrees (worldOf g (now (air .entry)) (now (tracers .entry))) (remap-call (now (table .entry))) x (worldOf g (now (air .exit)) (now (tracers .exit))) ⌝ }
 {
-    let answer = remap_place(g, air, tracers, table);
+    let place = remap_place(g, air, tracers, table);
+    let answer = place.answer;
     if number(answer) == 0 {} else {
         return answer;
     }

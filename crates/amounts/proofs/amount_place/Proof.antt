@@ -1,12 +1,26 @@
 -- `amounts::amount_place` meets its contract: each answer from the tests that led there.
--- Assumes nothing.
+use Prim.Native.Nat.{_+_, _*_, _<_}
+use mathlib.Core.List.{[], _∷_}
 use mathlib.Core.Path.{refl, sym, _∙_}
 use native.Mathlib.Omega.{arith}
-use Rattle.units.specs.Grid.{in-range}
-use Rattle.amounts.specs.Calls.{named-common, named-no-tracer, named-no-cell, named-found, found-there}
+use lib.ListN.{length}
+use Rattle.model.specs.Limits.{mostAmounts}
+use Rattle.model.specs.World.{World}
+use Rattle.model.specs.Step.{Call, cell, cellAbsent}
+use Rattle.units.specs.Grid.{worldOf, in-range}
+use Rattle.places.specs.declared.Lent.the-variants.{Nothing}
+use Rattle.places.specs.Walk.{Left, Like, next, stop, placed, there, missing}
+use Rattle.places.specs.Tested.{Passed, own-left, common-placed}
+use Rattle.amounts.specs.Amount.{amount-room, cell-found}
 use borrow.Author.Needs.{needs}
 use Rattle.amounts.proofs.amount_place.Statement.{statement}
 use Rattle.amounts.proofs.amount_place.Tie as tie
+
+abbrev world : tie.Start → World
+world s = worldOf (s .args .g) (s .args .air .now) (s .args .tracers .now)
+
+abbrev call : tie.Start → Call
+call s = cell (s .args .tracer) (s .args .cell)
 
 common-places-requires : tie.Need-common-places-requires
 common-places-requires c κs = search needs
@@ -14,69 +28,92 @@ common-places-requires c κs = search needs
 number-requires : tie.Need-number-requires
 number-requires c κs = search needs
 
-not-named-requires : tie.Need-not-named-requires
-not-named-requires c κs = search needs
+not-placed-requires : tie.Need-not-placed-requires
+not-placed-requires c κs = search needs
 
 returns : tie.Need-returns
 returns c =
-    named-common _ _ _ _ _ _ _ _ (c .before .before .before .common-places .ensures) (λ z. omega (arith, c .before .before .number .ensures)) (c .not-named .ensures)
+    let tested : tie.After-common-places = search needs in
+    let no : tie.Else1 = search needs in
+    common-placed (tested .common-places .ensures) (λ z. no .if1 .left (no .before .number .ensures ∙ z)) refl (c .not-placed .ensures)
 
-not-named-requires-2 : tie.Need-not-named-requires-2
-not-named-requires-2 c κs = search needs
+-- places 1 to 4 are passed
+passed : (c : tie.Then1) → let s : tie.Start = search needs in let tested : tie.After-common-places = search needs in Passed (world s) Nothing (tested .common-places .result)
+passed c =
+    let tested : tie.After-common-places = search needs in
+    tested .common-places .ensures .found (sym (c .before .number .ensures) ∙ c .if1 .taken)
+
+not-placed-requires-2 : tie.Need-not-placed-requires-2
+not-placed-requires-2 c κs = search needs
 
 returns-2 : tie.Need-returns-2
 returns-2 c =
-    named-no-tracer _ _ _ _ _ _ (c .before .before .before .before .before .common-places .ensures .passed (sym (c .before .before .before .before .number .ensures) ∙ c .before .before .before .if1 .taken) .fits) (search needs) (c .not-named2 .ensures)
+    let common : tie.Then1 = search needs in
+    let no : tie.Else2 = search needs in
+    stop (own-left (passed common) refl) (missing (no .if2 .left)) (c .not-placed2 .ensures) refl
+
+-- the tracer is there
+past-tracer : (c : tie.Then2) → let s : tie.Start = search needs in Left (world s) (Like (world s) (call s)) (cellAbsent (s .args .cell) ∷ [])
+past-tracer c =
+    let common : tie.Then1 = search needs in
+    next (own-left (passed common) refl) (there (c .if2 .taken))
 
 world-cells-requires : tie.Need-world-cells-requires
 world-cells-requires c κs =
-    let common-places = c .before .before .before .before .common-places in
-    in-range _ (common-places .ensures .passed (sym (c .before .before .before .number .ensures) ∙ c .before .before .if1 .taken) .fits .grid)
+    let common : tie.Then1 = search needs in
+    in-range _ (passed common .fits .grid)
 
-not-named-requires-3 : tie.Need-not-named-requires-3
-not-named-requires-3 c κs = search needs
+not-placed-requires-3 : tie.Need-not-placed-requires-3
+not-placed-requires-3 c κs = search needs
 
 returns-3 : tie.Need-returns-3
 returns-3 c =
-    named-no-cell _ _ _ _ _ _ (c .before .before .before .before .before .before .before .common-places .ensures .passed (sym (c .before .before .before .before .before .before .number .ensures) ∙ c .before .before .before .before .before .if1 .taken) .fits) (search needs) (search needs) (c .not-named3 .ensures)
+    let tracer : tie.Then2 = search needs in
+    let no : tie.Else3 = search needs in
+    let cells : tie.After-world-cells = search needs in
+    stop (past-tracer tracer) (missing (rw (cells .world-cells .ensures .0) at (no .if3 .left))) (c .not-placed3 .ensures) refl
 
-cast-t19 : tie.Need-cast-t19
-cast-t19 c = search needs
+-- and so is the cell
+room : (c : tie.Then3) → let s : tie.Start = search needs in let cells : tie.After-world-cells = search needs in (s .args .tracer * cells .world-cells .result + s .args .cell < length (s .args .tracers .now)) × (s .args .tracer * cells .world-cells .result + s .args .cell < mostAmounts)
+room c =
+    let common : tie.Then1 = search needs in
+    let tracer : tie.Then2 = search needs in
+    let cells : tie.After-world-cells = search needs in
+    amount-room (passed common .fits) (tracer .if2 .taken) (c .if3 .taken) (cells .world-cells .ensures .0)
 
-mul-t20 : tie.Need-mul-t20
-mul-t20 c =
-    let args = c .before .before .before .before .before .before .before .before .before .before .args in
-    let passed = c .before .before .before .before .before .before .before .common-places .ensures .passed (sym (c .before .before .before .before .before .before .number .ensures) ∙ c .before .before .before .before .before .if1 .taken) in
-    let cells = c .before .before .world-cells .ensures in
-    let found = found-there _ (passed .fits) (args .tracer) (args .cell) _ _ (search needs) (search needs) (cells .0) (cells .1) (in-range (args .g) (passed .fits .grid) .highN) (passed .total (args .tracer) (search needs)) in
-    omega (arith, found .near)
+cast-first : tie.Need-cast-first
+cast-first c = search needs
 
-add-t22 : tie.Need-add-t22
-add-t22 c =
-    let args = c .before .before .before .before .before .before .before .before .before .before .args in
-    let passed = c .before .before .before .before .before .before .before .common-places .ensures .passed (sym (c .before .before .before .before .before .before .number .ensures) ∙ c .before .before .before .before .before .if1 .taken) in
-    let cells = c .before .before .world-cells .ensures in
-    let found = found-there _ (passed .fits) (args .tracer) (args .cell) _ _ (search needs) (search needs) (cells .0) (cells .1) (in-range (args .g) (passed .fits .grid) .highN) (passed .total (args .tracer) (search needs)) in
-    omega (arith, found .near)
+mul-first : tie.Need-mul-first
+mul-first c =
+    let cell : tie.Then3 = search needs in
+    omega (arith, room cell .1)
 
-mul-t23 : tie.Need-mul-t23
-mul-t23 c = search needs
+add-first : tie.Need-add-first
+add-first c =
+    let cell : tie.Then3 = search needs in
+    omega (arith, room cell .1)
 
-array-read-t26 : tie.Need-array-read-t26
-array-read-t26 c =
-    let start = c .before .before .before .before .before .before .before .before .before .before in
-    let common-places = c .before .before .before .before .before .before .before .common-places in
-    let number = c .before .before .before .before .before .before .number in
-    let passed = common-places .ensures .passed (sym (number .ensures) ∙ c .before .before .before .before .before .if1 .taken) in
-    omega (arith, in-range (start .args .g) (passed .fits .grid) .highN)
+mul-total : tie.Need-mul-total
+mul-total c = search needs
+
+array-read-total : tie.Need-array-read-total
+array-read-total c =
+    let start : tie.Start = search needs in
+    let common : tie.Then1 = search needs in
+    omega (arith, in-range (start .args .g) (passed common .fits .grid) .highN)
 
 returns-4 : tie.Need-returns-4
 returns-4 c =
-    let args = c .before .before .before .before .before .before .before .before .before .before .args in
-    let passed = c .before .before .before .before .before .before .before .common-places .ensures .passed (sym (c .before .before .before .before .before .before .number .ensures) ∙ c .before .before .before .before .before .if1 .taken) in
-    let cells = c .before .before .world-cells .ensures in
-    let found = found-there _ (passed .fits) (args .tracer) (args .cell) _ _ (search needs) (search needs) (cells .0) (cells .1) (in-range (args .g) (passed .fits .grid) .highN) (passed .total (args .tracer) (search needs)) in
-    named-found _ _ _ _ _ _ found refl
+    let start : tie.Start = search needs in
+    let common : tie.Then1 = search needs in
+    let tracer : tie.Then2 = search needs in
+    let cell : tie.Then3 = search needs in
+    let cells : tie.After-world-cells = search needs in
+    let same = cells .world-cells .ensures .0 in
+    let left = next (past-tracer tracer) (there (rw same at (cell .if3 .taken))) in
+    placed refl
+    (cell-found (passed common .fits) (tracer .if2 .taken) (cell .if3 .taken) same left refl (passed common .total (start .args .tracer) (tracer .if2 .taken)))
 
 pub amount-place-spec : {M : Type 1} → statement M
 amount-place-spec =
@@ -84,16 +121,16 @@ amount-place-spec =
     (tie.spec
     common-places-requires
     number-requires
-    not-named-requires
+    not-placed-requires
     returns
-    not-named-requires-2
+    not-placed-requires-2
     returns-2
     world-cells-requires
-    not-named-requires-3
+    not-placed-requires-3
     returns-3
-    cast-t19
-    mul-t20
-    add-t22
-    mul-t23
-    array-read-t26
+    cast-first
+    mul-first
+    add-first
+    mul-total
+    array-read-total
     returns-4)

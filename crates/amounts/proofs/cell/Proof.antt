@@ -1,10 +1,9 @@
 -- `amounts::cell` meets its contract: the amount where `amount_place` found it.
--- Assumes nothing.
-use mathlib.Core.Path.{refl, sym, _∙_}
+use mathlib.Core.Path.{sym, _∙_}
 use native.Mathlib.Omega.{arith}
-use mathlib.Core.List.{[]}
-use Rattle.model.specs.Step.{cell}
-use Rattle.amounts.specs.Calls.{cell-places, cell-agrees}
+use Rattle.units.specs.Grid.{worldOf}
+use Rattle.places.specs.Walk.{itself, refuses}
+use Rattle.amounts.specs.Amount.{CellFound, cell-agrees}
 use borrow.Author.Needs.{needs}
 use Rattle.amounts.proofs.cell.Statement.{statement}
 use Rattle.amounts.proofs.cell.Tie as tie
@@ -17,19 +16,33 @@ number-requires c κs = search needs
 
 returns : tie.Need-returns
 returns c =
-    let start = c .before .before .before .before .before in
-    c .before .before .amount-place .ensures .refused (λ z. omega (arith, c .before .number .ensures)) (cell (start .args .tracer) (start .args .cell)) [] refl (cell-places _ _)
+    let place : tie.After-amount-place = search needs in
+    refuses (place .amount-place .ensures) (λ z. c .if1 .left (c .before .number .ensures ∙ z)) itself
 
-mul-t11 : tie.Need-mul-t11
-mul-t11 c = omega (arith, c .before .before .amount-place .ensures .found (sym (c .before .number .ensures) ∙ c .if1 .taken) .near)
+found : (c : tie.Then1) →
+    let start : tie.Start = search needs in
+    let place : tie.After-amount-place = search needs in
+    CellFound (worldOf (start .args .g) (start .args .air .now) (start .args .tracers .now)) (start .args .tracer) (start .args .cell) (place .amount-place .result)
+found c =
+    let place : tie.After-amount-place = search needs in
+    place .amount-place .ensures .found (sym (c .before .number .ensures) ∙ c .if1 .taken)
 
-shared-slice-read-t9 : tie.Need-shared-slice-read-t9
-shared-slice-read-t9 c = c .before .before .before .amount-place .ensures .found (sym (c .before .before .number .ensures) ∙ c .before .if1 .taken) .inside
+mul-amount : tie.Need-mul-amount
+mul-amount c =
+    let accepted : tie.Then1 = search needs in
+    omega (arith, found accepted .near)
+
+shared-slice-read-amount : tie.Need-shared-slice-read-amount
+shared-slice-read-amount c =
+    let accepted : tie.Then1 = search needs in
+    found accepted .inside
 
 returns-2 : tie.Need-returns-2
-returns-2 c = cell-agrees _ _ _ _ _ (c .before .before .before .amount-place .ensures .found (sym (c .before .before .number .ensures) ∙ c .before .if1 .taken))
+returns-2 c =
+    let accepted : tie.Then1 = search needs in
+    cell-agrees (found accepted)
 
 pub cell-spec : {M : Type 1} → statement M
 cell-spec =
     tie.close
-    (tie.spec amount-place-requires number-requires returns mul-t11 shared-slice-read-t9 returns-2)
+    (tie.spec amount-place-requires number-requires returns mul-amount shared-slice-read-amount returns-2)

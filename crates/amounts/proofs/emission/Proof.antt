@@ -1,9 +1,9 @@
 -- `amounts::emission` meets its contract: the cell's amount is at most the total, so the sum is below the limit.
--- Assumes nothing.
-use mathlib.Core.Path.{refl, sym, _∙_}
+use mathlib.Core.Path.{sym, _∙_}
 use native.Mathlib.Omega.{arith}
-use Rattle.model.specs.Step.{emission}
-use Rattle.amounts.specs.Calls.{emission-places, emission-refused, emission-agrees}
+use Rattle.units.specs.Grid.{worldOf}
+use Rattle.places.specs.Walk.{refuses}
+use Rattle.amounts.specs.Amount.{CellFound, emission-like, emission-refused, emission-agrees}
 use borrow.Author.Needs.{needs}
 use Rattle.amounts.proofs.emission.Statement.{statement}
 use Rattle.amounts.proofs.emission.Tie as tie
@@ -19,52 +19,62 @@ same-length c = search needs
 
 returns : tie.Need-returns
 returns c =
-    let start = c .before .before .before .before .before .before in
-    c .before .before .amount-place .ensures .refused (λ z. omega (arith, c .before .number .ensures)) (emission (start .args .tracer) (start .args .cell) (start .args .amount)) _ refl (emission-places _ _ _)
+    let place : tie.After-amount-place = search needs in
+    refuses (place .amount-place .ensures) (λ z. c .if1 .left (c .before .number .ensures ∙ z)) emission-like
+
+found : (c : tie.Then1) →
+    let start : tie.Start = search needs in
+    let place : tie.After-amount-place = search needs in
+    CellFound (worldOf (start .args .g) (start .args .air .now) (start .args .tracers .now)) (start .args .tracer) (start .args .cell) (place .amount-place .result)
+found c =
+    let place : tie.After-amount-place = search needs in
+    place .amount-place .ensures .found (sym (c .before .number .ensures) ∙ c .if1 .taken)
 
 add-if2 : tie.Need-add-if2
-add-if2 c = omega (arith, c .before .before .before .amount-place .ensures .found (sym (c .before .before .number .ensures) ∙ c .before .if1 .taken) .totalIn)
+add-if2 c =
+    let accepted : tie.Then1 = search needs in
+    omega (arith, found accepted .limit)
 
 same-length-2 : tie.Need-same-length-2
 same-length-2 c = search needs
 
 returns-2 : tie.Need-returns-2
-returns-2 c = emission-refused _ _ _ _ _ _ (c .before .before .before .before .amount-place .ensures .found (sym (c .before .before .before .number .ensures) ∙ c .before .before .if1 .taken)) (search needs)
+returns-2 c =
+    let accepted : tie.Then1 = search needs in
+    emission-refused (found accepted) (search needs)
 
 mul-tracers : tie.Need-mul-tracers
 mul-tracers c =
-    let amount-place = c .before .before .before .before .amount-place in
-    omega (arith, amount-place .ensures .found (sym (c .before .before .before .number .ensures) ∙ c .before .before .if1 .taken) .near)
+    let accepted : tie.Then1 = search needs in
+    omega (arith, found accepted .near)
 
 slice-read-tracers : tie.Need-slice-read-tracers
 slice-read-tracers c =
-    let amount-place = c .before .before .before .before .before .amount-place in
-    let number = c .before .before .before .before .number in
-    amount-place .ensures .found (sym (number .ensures) ∙ c .before .before .before .if1 .taken) .inside
+    let accepted : tie.Then1 = search needs in
+    found accepted .inside
 
 add-tracers : tie.Need-add-tracers
 add-tracers c =
-    let amount-place = c .before .before .before .before .before .amount-place in
-    let number = c .before .before .before .before .number in
-    omega (arith, amount-place .ensures .found (sym (number .ensures) ∙ c .before .before .before .if1 .taken) .amountIn)
+    let accepted : tie.Then1 = search needs in
+    omega (arith, found accepted .share)
 
 mul-tracers-2 : tie.Need-mul-tracers-2
 mul-tracers-2 c =
-    let amount-place = c .before .before .before .before .before .amount-place in
-    let number = c .before .before .before .before .number in
-    omega (arith, amount-place .ensures .found (sym (number .ensures) ∙ c .before .before .before .if1 .taken) .near)
+    let accepted : tie.Then1 = search needs in
+    omega (arith, found accepted .near)
 
 slice-write-tracers : tie.Need-slice-write-tracers
 slice-write-tracers c =
-    let amount-place = c .before .before .before .before .before .amount-place in
-    let number = c .before .before .before .before .number in
-    amount-place .ensures .found (sym (number .ensures) ∙ c .before .before .before .if1 .taken) .inside
+    let accepted : tie.Then1 = search needs in
+    found accepted .inside
 
 same-length-3 : tie.Need-same-length-3
 same-length-3 c = search needs
 
 returns-3 : tie.Need-returns-3
-returns-3 c = emission-agrees _ _ _ _ _ _ (c .before .before .before .before .before .amount-place .ensures .found (sym (c .before .before .before .before .number .ensures) ∙ c .before .before .before .if1 .taken)) (search needs)
+returns-3 c =
+    let accepted : tie.Then1 = search needs in
+    emission-agrees (found accepted) (search needs)
 
 pub emission-spec : {M : Type 1} → statement M
 emission-spec =

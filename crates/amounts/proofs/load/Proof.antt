@@ -1,7 +1,6 @@
 -- `amounts::load` meets its contract: places 1 to 4 are all that a load tests.
--- Assumes nothing.
 use mathlib.Core.Path.{refl}
-use Rattle.amounts.specs.Calls.{load-agrees}
+use Rattle.amounts.specs.Amount.{load-agrees}
 use borrow.Author.Needs.{needs}
 use Rattle.amounts.proofs.load.Statement.{statement}
 use Rattle.amounts.proofs.load.Tie as tie
@@ -10,7 +9,7 @@ common-places-requires : tie.Need-common-places-requires
 common-places-requires c κs = search needs
 
 returns : tie.Need-returns
-returns c = load-agrees _ _ _ (c .common-places .ensures) _ refl
+returns c = load-agrees (c .common-places .ensures) _ refl
 
 pub load-spec : {M : Type 1} → statement M
 load-spec = tie.close (tie.spec common-places-requires returns)

@@ -1,9 +1,9 @@
 -- `amounts::withdrawal` meets its contract: what is taken is at most the cell's amount.
--- Assumes nothing.
-use mathlib.Core.Path.{refl, sym, _∙_}
+use mathlib.Core.Path.{sym, _∙_}
 use native.Mathlib.Omega.{arith}
-use Rattle.model.specs.Step.{withdrawal}
-use Rattle.amounts.specs.Calls.{withdrawal-places, withdrawal-refused, withdrawal-agrees}
+use Rattle.units.specs.Grid.{worldOf}
+use Rattle.places.specs.Walk.{refuses}
+use Rattle.amounts.specs.Amount.{CellFound, withdrawal-like, withdrawal-refused, withdrawal-agrees}
 use borrow.Author.Needs.{needs}
 use Rattle.amounts.proofs.withdrawal.Statement.{statement}
 use Rattle.amounts.proofs.withdrawal.Tie as tie
@@ -19,36 +19,52 @@ same-length c = search needs
 
 returns : tie.Need-returns
 returns c =
-    let start = c .before .before .before .before .before .before in
-    c .before .before .amount-place .ensures .refused (λ z. omega (arith, c .before .number .ensures)) (withdrawal (start .args .tracer) (start .args .cell) (start .args .amount)) _ refl (withdrawal-places _ _ _)
+    let place : tie.After-amount-place = search needs in
+    refuses (place .amount-place .ensures) (λ z. c .if1 .left (c .before .number .ensures ∙ z)) withdrawal-like
+
+found : (c : tie.Then1) →
+    let start : tie.Start = search needs in
+    let place : tie.After-amount-place = search needs in
+    CellFound (worldOf (start .args .g) (start .args .air .now) (start .args .tracers .now)) (start .args .tracer) (start .args .cell) (place .amount-place .result)
+found c =
+    let place : tie.After-amount-place = search needs in
+    place .amount-place .ensures .found (sym (c .before .number .ensures) ∙ c .if1 .taken)
 
 mul-had : tie.Need-mul-had
-mul-had c = omega (arith, c .before .before .amount-place .ensures .found (sym (c .before .number .ensures) ∙ c .if1 .taken) .near)
+mul-had c =
+    let accepted : tie.Then1 = search needs in
+    omega (arith, found accepted .near)
 
 slice-read-had : tie.Need-slice-read-had
-slice-read-had c = c .before .before .before .amount-place .ensures .found (sym (c .before .before .number .ensures) ∙ c .before .if1 .taken) .inside
+slice-read-had c =
+    let accepted : tie.Then1 = search needs in
+    found accepted .inside
 
 same-length-2 : tie.Need-same-length-2
 same-length-2 c = search needs
 
 returns-2 : tie.Need-returns-2
-returns-2 c = withdrawal-refused _ _ _ _ _ _ (c .before .before .before .before .amount-place .ensures .found (sym (c .before .before .before .number .ensures) ∙ c .before .before .if1 .taken)) (search needs)
+returns-2 c =
+    let accepted : tie.Then1 = search needs in
+    withdrawal-refused (found accepted) (search needs)
 
 mul-tracers : tie.Need-mul-tracers
 mul-tracers c =
-    let amount-place = c .before .before .before .before .amount-place in
-    omega (arith, amount-place .ensures .found (sym (c .before .before .before .number .ensures) ∙ c .before .before .if1 .taken) .near)
+    let accepted : tie.Then1 = search needs in
+    omega (arith, found accepted .near)
 
 slice-write-tracers : tie.Need-slice-write-tracers
 slice-write-tracers c =
-    let amount-place = c .before .before .before .before .amount-place in
-    amount-place .ensures .found (sym (c .before .before .before .number .ensures) ∙ c .before .before .if1 .taken) .inside
+    let accepted : tie.Then1 = search needs in
+    found accepted .inside
 
 same-length-3 : tie.Need-same-length-3
 same-length-3 c = search needs
 
 returns-3 : tie.Need-returns-3
-returns-3 c = withdrawal-agrees _ _ _ _ _ _ (c .before .before .before .before .amount-place .ensures .found (sym (c .before .before .before .number .ensures) ∙ c .before .before .if1 .taken)) (search needs)
+returns-3 c =
+    let accepted : tie.Then1 = search needs in
+    withdrawal-agrees (found accepted) (search needs)
 
 pub withdrawal-spec : {M : Type 1} → statement M
 withdrawal-spec =

@@ -1,28 +1,32 @@
 -- `meridional::layer_permits` meets its contract: the lists are filled, and the layer's air is lent with them.
--- Assumes nothing.
-use Prim.Native.Nat.{_+_, _≤_}
 use native.Mathlib.Omega.{arith}
-use lib.ListN.{length}
-use Rattle.meridional.specs.Calls.{faces-few, part-fit, tested-serves}
+use Rattle.model.specs.Laws.Grid.{faces-most}
+use Rattle.meridional.specs.LayerPlace.{layer-fit, permit}
 use borrow.Author.Needs.{needs}
 use Rattle.meridional.proofs.layer_permits.Statement.{statement}
 use Rattle.meridional.proofs.layer_permits.Tie as tie
 
 layer-cells-requires : tie.Need-layer-cells-requires
-layer-cells-requires c κs = c .before .before .before .pre .range
+layer-cells-requires c κs =
+    let start : tie.Start = search in
+    start .pre .range
 
 cast-end : tie.Need-cast-end
 cast-end c = search needs
 
 add-end : tie.Need-add-end
-add-end c = omega (arith, c .layer-cells .ensures .0, c .before .before .before .before .pre .inside)
+add-end c =
+    let start : tie.Start = search in
+    omega (arith, c .layer-cells .ensures .0, start .pre .inside)
 
 fill-parts-requires : tie.Need-fill-parts-requires
 fill-parts-requires c κs =
-    let few = faces-few (c .before .before .before .before .before .before .args .g) (c .before .before .before .before .before .before .pre .range) in
+    let start : tie.Start = search in
+    let few = faces-most (start .pre .range) in
+    let long = start .pre .long in
     record {
-      roomHigh = omega (arith, c .before .before .before .before .before .before .pre .rooms);
-      roomLow = omega (arith, c .before .before .before .before .before .before .pre .rooms);
+      roomHigh = omega (arith, start .pre .rooms);
+      roomLow = omega (arith, start .pre .rooms);
       first = omega arith;
       last = omega arith;
     }
@@ -38,12 +42,9 @@ part-layer-allowed-start c = search needs
 
 part-layer-allowed-end : tie.Need-part-layer-allowed-end
 part-layer-allowed-end c =
-    let start = c .before .before .before .before .before .before .before .before .before .before .before in
-    let layer-cells-call = c .before .before .before .before .before .before .before .layer-cells in
-    let args = start .args in
-    let wide = layer-cells-call .ensures .0 in
-    let inside : args .first + layer-cells-call .result ≤ length (args .air .now) = omega (arith, wide, start .pre .inside) in
-    inside
+    let wide : tie.After-layer-cells = search in
+    let start : tie.Start = search in
+    omega (arith, wide .layer-cells .ensures .0, start .pre .inside)
 
 cast-layer-allowed : tie.Need-cast-layer-allowed
 cast-layer-allowed c = search needs
@@ -53,12 +54,12 @@ cast-layer-allowed-2 c = search needs
 
 layer-allowed-requires : tie.Need-layer-allowed-requires
 layer-allowed-requires c κs =
-    let start = c .before .before .before .before .before .before .before .before .before .before .before .before .before .before .before .before in
-    let layer-cells-call = c .before .before .before .before .before .before .before .before .before .before .before .before .layer-cells in
-    let args = start .args in
-    let wide = layer-cells-call .ensures .0 in
-    let inside : args .first + layer-cells-call .result ≤ length (args .air .now) = omega (arith, wide, start .pre .inside) in
-    part-fit (args .g) (start .pre .range) (record { high = omega (arith, start .pre .rooms); low = omega (arith, start .pre .rooms) }) (args .air .now) _ _ wide inside
+    let filled : tie.After-fill-parts = search in
+    let wide : tie.After-layer-cells = search in
+    let start : tie.Start = search in
+    let same = wide .layer-cells .ensures .0 in
+    let rooms = start .pre .rooms in
+    layer-fit _ same _ _ (start .pre .range) (record { high = omega arith; low = omega arith }) (omega (arith, start .pre .inside))
 
 same-length : tie.Need-same-length
 same-length c = search needs
@@ -68,14 +69,10 @@ same-length-2 c = search needs
 
 returns : tie.Need-returns
 returns c =
-    let start = c .before .before .before .before .before .before .before .before .before .before .before .before .before .before .before .before .before in
-    let layer-cells-call = c .before .before .before .before .before .before .before .before .before .before .before .before .before .layer-cells in
-    let fill-parts-call = c .before .before .before .before .before .before .before .before .before .before .fill-parts in
-    let args = start .args in
-    record {
-      passes = fill-parts-call .ensures;
-      serving = tested-serves (args .g) (args .air .now) (args .first) _ (args .fluxes .now) _ (layer-cells-call .ensures .0) (start .pre .long) (fill-parts-call .ensures) (c .layer-allowed .ensures);
-    }
+    let filled : tie.After-fill-parts = search in
+    let wide : tie.After-layer-cells = search in
+    let start : tie.Start = search in
+    permit (start .pre) (wide .layer-cells .ensures .0) (filled .fill-parts .ensures) (c .layer-allowed .ensures)
 
 pub layer-permits-spec : {M : Type 1} → statement M
 layer-permits-spec =

@@ -1,15 +1,31 @@
 -- `meridional::layer_place` meets its contract: each answer from the tests that led there.
--- Assumes nothing.
-use mathlib.Core.Path.{refl, sym, _∙_}
+use Prim.Native.Nat.{ℕ, _+_, _*_}
+use mathlib.Core.List.{List}
+use mathlib.Core.Path.{_≡_, refl, sym, _∙_}
 use native.Mathlib.Omega.{arith}
 use borrow.Author.Tests.{eqb-true}
+use lib.IntN.{ℤ}
 use lib.ListN.{length}
+use Rattle.model.specs.World.{World}
+use Rattle.model.specs.Sweep.{layer, serves}
+use Rattle.model.specs.Step.{Call, Place, meridional, layerAir}
 use Rattle.units.specs.Grid.{worldOf, in-range}
-use Rattle.units.specs.declared.Refusal.the-variants.{Index, Fluxes, Meridional}
-use Rattle.meridional.specs.Calls.{place-common, place-refused, place-found, no-layer, flux-too-large, substep-refused, sweep-accepted}
+use Rattle.places.specs.declared.Lent.the-variants.{LayerFluxes}
+use Rattle.places.specs.Walk.{Left, Like, next, stop, placed, there, missing, fits, fails}
+use Rattle.places.specs.Tested.{Passed, own-left, common-placed}
+use Rattle.meridional.specs.LayerPlace.{fromFluxes, fromSubstep}
 use borrow.Author.Needs.{needs}
 use Rattle.meridional.proofs.layer_place.Statement.{statement}
 use Rattle.meridional.proofs.layer_place.Tie as tie
+
+abbrev world : tie.Start → World
+world s = worldOf (s .args .g) (s .args .air .now) (s .args .tracers .now)
+
+abbrev call : tie.Start → Call
+call s = meridional (s .args .layer) (s .args .fluxes .now)
+
+abbrev LeftAt : tie.Start → (ℕ → List ℤ → List Place) → Type 0
+LeftAt s from = Left (world s) (Like (world s) (call s)) (from (s .args .layer) (s .args .fluxes .now))
 
 common-places-requires : tie.Need-common-places-requires
 common-places-requires c κs = search needs
@@ -17,59 +33,89 @@ common-places-requires c κs = search needs
 number-requires : tie.Need-number-requires
 number-requires c κs = search needs
 
-no-layer-requires : tie.Need-no-layer-requires
-no-layer-requires c κs = search needs
+not-placed-requires : tie.Need-not-placed-requires
+not-placed-requires c κs = search needs
 
 returns : tie.Need-returns
-returns c = place-common _ _ _ _ _ _ _ _ _ (c .before .before .before .common-places .ensures) (λ z. omega (arith, c .before .before .number .ensures)) (c .no-layer .ensures)
+returns c =
+    let no : tie.Else1 = search in
+    let tested : tie.After-common-places = search in
+    common-placed (tested .common-places .ensures) (λ z. no .if1 .left (no .before .number .ensures ∙ z)) refl (c .not-placed .ensures)
 
-no-layer-requires-2 : tie.Need-no-layer-requires-2
-no-layer-requires-2 c κs = search needs
+-- places 1 to 4 are passed
+passed : (c : tie.Then1) →
+    let tested : tie.After-common-places = search in
+    let s : tie.Start = search in
+    Passed (world s) (LayerFluxes (length (s .args .fluxes .now))) (tested .common-places .result)
+passed c =
+    let tested : tie.After-common-places = search in
+    tested .common-places .ensures .found (sym (c .before .number .ensures) ∙ c .if1 .taken)
+
+not-placed-requires-2 : tie.Need-not-placed-requires-2
+not-placed-requires-2 c κs = search needs
 
 returns-2 : tie.Need-returns-2
 returns-2 c =
-    let args = c .before .before .before .before .before .before .before .before .before .before .args in
-    let passed = c .before .before .before .before .before .common-places .ensures .passed (sym (c .before .before .before .before .number .ensures) ∙ c .before .before .before .if1 .taken) in
-    let w = worldOf (args .g) (args .air .now) (args .tracers .now) in
-    place-refused w (args .layer) (args .fluxes .now) _ _ _ _ Index (λ z. omega arith) (c .no-layer2 .ensures)
-    (no-layer w (passed .fits) (args .layer) (args .fluxes .now) (passed .lentFit) (search needs))
+    let no : tie.Else2 = search in
+    let common : tie.Then1 = search in
+    stop (own-left (passed common) refl) (missing (no .if2 .left)) (c .not-placed2 .ensures) refl
+
+-- the layer is there
+past-layer : (c : tie.Then2) → let s : tie.Start = search in LeftAt s fromFluxes
+past-layer c =
+    let common : tie.Then1 = search in
+    next (own-left (passed common) refl) (there (c .if2 .taken))
 
 fluxes-fit-requires : tie.Need-fluxes-fit-requires
 fluxes-fit-requires c κs = search needs
 
-no-layer-requires-3 : tie.Need-no-layer-requires-3
-no-layer-requires-3 c κs = search needs
+not-placed-requires-3 : tie.Need-not-placed-requires-3
+not-placed-requires-3 c κs = search needs
 
 returns-3 : tie.Need-returns-3
 returns-3 c =
-    let args = c .before .before .before .before .before .before .before .before .before .before .before .before .args in
-    let passed = c .before .before .before .before .before .before .before .common-places .ensures .passed (sym (c .before .before .before .before .before .before .number .ensures) ∙ c .before .before .before .before .before .if1 .taken) in
-    let w = worldOf (args .g) (args .air .now) (args .tracers .now) in
-    place-refused w (args .layer) (args .fluxes .now) _ _ _ _ Fluxes (λ z. omega arith) (c .no-layer3 .ensures)
-    (flux-too-large w (passed .fits) (args .layer) (args .fluxes .now) (passed .lentFit) (search needs) (sym (c .before .before .fluxes-fit .ensures) ∙ c .before .if3 .left))
+    let no : tie.Else3 = search in
+    let layer : tie.Then2 = search in
+    stop (past-layer layer) (fails (no .before .fluxes-fit .ensures) (no .if3 .left)) (c .not-placed3 .ensures) refl
+
+-- the fluxes fit
+past-fluxes : (c : tie.Then3) → let s : tie.Start = search in LeftAt s fromSubstep
+past-fluxes c =
+    let layer : tie.Then2 = search in
+    next (past-layer layer) (fits (c .before .fluxes-fit .ensures) (c .if3 .taken))
 
 layer-start-requires : tie.Need-layer-start-requires
 layer-start-requires c κs =
-    let args = c .before .before .before .before .before .before .before .before .before .before .before .args in
-    let passed = c .before .before .before .before .before .before .common-places .ensures .passed (sym (c .before .before .before .before .before .number .ensures) ∙ c .before .before .before .before .if1 .taken) in
-    record { range = in-range (args .g) (passed .fits .grid); layer = search needs }
+    let layer : tie.Then2 = search in
+    let common : tie.Then1 = search in
+    record { range = in-range _ (passed common .fits .grid); layer = layer .if2 .taken }
 
 cast-first : tie.Need-cast-first
 cast-first c = search needs
 
+fluxes-long : (c : tie.Then1) → let s : tie.Start = search in length (s .args .fluxes .now) ≡ world s .grid .W * (world s .grid .R + 1)
+fluxes-long c = eqb-true _ _ (passed c .lentFit)
+
 layer-permits-requires : tie.Need-layer-permits-requires
 layer-permits-requires c κs =
-    let args = c .before .before .before .before .before .before .before .before .before .before .before .before .before .before .args in
-    let passed = c .before .before .before .before .before .before .before .before .before .common-places .ensures .passed (sym (c .before .before .before .before .before .before .before .before .number .ensures) ∙ c .before .before .before .before .before .before .before .if1 .taken) in
+    let at : tie.After-layer-start = search in
+    let common : tie.Then1 = search in
+    let s : tie.Start = search in
     record {
-      range = in-range (args .g) (passed .fits .grid);
-      inside = omega (arith, c .before .before .layer-start .ensures .1, passed .fits .airLength);
-      long = eqb-true (length (args .fluxes .now)) _ (passed .lentFit);
-      rooms = c .before .before .before .before .before .before .before .before .before .before .before .before .before .before .pre;
+      range = in-range _ (passed common .fits .grid);
+      inside = omega (arith, at .layer-start .ensures .1, passed common .fits .airLength);
+      long = fluxes-long common;
+      rooms = s .pre;
     }
 
-no-layer-requires-4 : tie.Need-no-layer-requires-4
-no-layer-requires-4 c κs = search needs
+-- what is tested is the layer's air
+serving : (c : tie.After-layer-permits) → let s : tie.Start = search in c .layer-permits .result ≡ serves (layer (world s .grid .W) (world s .grid .R)) (s .args .fluxes .now) (layerAir (world s) (s .args .layer)) 1
+serving c =
+    let at : tie.After-layer-start = search in
+    sym (rw (at .layer-start .ensures .0) at (c .layer-permits .ensures .serving))
+
+not-placed-requires-4 : tie.Need-not-placed-requires-4
+not-placed-requires-4 c κs = search needs
 
 same-length : tie.Need-same-length
 same-length c = search needs
@@ -79,14 +125,10 @@ same-length-2 c = search needs
 
 returns-4 : tie.Need-returns-4
 returns-4 c =
-    let args = c .before .before .before .before .before .before .before .before .before .before .before .before .before .before .before .before .before .before .before .before .before .args in
-    let passed = c .before .before .before .before .before .before .before .before .before .before .before .before .before .before .before .before .common-places .ensures .passed (sym (c .before .before .before .before .before .before .before .before .before .before .before .before .before .before .before .number .ensures) ∙ c .before .before .before .before .before .before .before .before .before .before .before .before .before .before .if1 .taken) in
-    let w = worldOf (args .g) (args .air .now) (args .tracers .now) in
-    let start = c .before .before .before .before .before .before .before .before .before .layer-start .ensures in
-    let permit = c .before .before .before .before .before .before .layer-permits .ensures in
-    let serving = rw (start .0) at (permit .serving) in
-    place-refused w (args .layer) (args .fluxes .now) _ _ _ _ Meridional (λ z. omega arith) (c .no-layer4 .ensures)
-    (substep-refused w (passed .fits) (args .layer) (args .fluxes .now) (passed .lentFit) (search needs) (sym (c .before .before .before .before .before .before .before .before .before .before .before .fluxes-fit .ensures) ∙ c .before .before .before .before .before .before .before .before .before .before .if3 .taken) (serving ∙ c .before .if4 .left))
+    let no : tie.Else4 = search in
+    let permit : tie.After-layer-permits = search in
+    let fluxes : tie.Then3 = search in
+    stop (past-fluxes fluxes) (fails (serving permit) (no .if4 .left)) (c .not-placed4 .ensures) refl
 
 same-length-3 : tie.Need-same-length-3
 same-length-3 c = search needs
@@ -96,20 +138,17 @@ same-length-4 c = search needs
 
 returns-5 : tie.Need-returns-5
 returns-5 c =
-    let args = c .before .before .before .before .before .before .before .before .before .before .before .before .before .before .before .before .before .before .before .before .args in
-    let passed = c .before .before .before .before .before .before .before .before .before .before .before .before .before .before .before .common-places .ensures .passed (sym (c .before .before .before .before .before .before .before .before .before .before .before .before .before .before .number .ensures) ∙ c .before .before .before .before .before .before .before .before .before .before .before .before .before .if1 .taken) in
-    let w = worldOf (args .g) (args .air .now) (args .tracers .now) in
-    let start = c .before .before .before .before .before .before .before .before .layer-start .ensures in
-    let permit = c .before .before .before .before .before .layer-permits .ensures in
-    let serving = rw (start .0) at (permit .serving) in
-    place-found w (args .layer) (args .fluxes .now) _ _ _ _ refl
+    let permit : tie.After-layer-permits = search in
+    let at : tie.After-layer-start = search in
+    let fluxes : tie.Then3 = search in
+    let common : tie.Then1 = search in
+    placed refl
     record {
-      fits = passed .fits;
-      long = eqb-true (length (args .fluxes .now)) _ (passed .lentFit);
-      start = start .0;
-      passes = permit .passes;
-      accepting =
-          sweep-accepted w (passed .fits) (args .layer) (args .fluxes .now) (passed .lentFit) (search needs) (sym (c .before .before .before .before .before .before .before .before .before .before .fluxes-fit .ensures) ∙ c .before .before .before .before .before .before .before .before .before .if3 .taken) (serving ∙ c .if4 .taken);
+      left = next (past-fluxes fluxes) (fits (serving permit) (c .if4 .taken));
+      fits = passed common .fits;
+      long = fluxes-long common;
+      start = at .layer-start .ensures .0;
+      passes = permit .layer-permits .ensures .passes;
     }
 
 pub layer-place-spec : {M : Type 1} → statement M
@@ -118,17 +157,17 @@ layer-place-spec =
     (tie.spec
     common-places-requires
     number-requires
-    no-layer-requires
+    not-placed-requires
     returns
-    no-layer-requires-2
+    not-placed-requires-2
     returns-2
     fluxes-fit-requires
-    no-layer-requires-3
+    not-placed-requires-3
     returns-3
     layer-start-requires
     cast-first
     layer-permits-requires
-    no-layer-requires-4
+    not-placed-requires-4
     same-length
     same-length-2
     returns-4

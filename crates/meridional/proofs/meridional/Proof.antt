@@ -1,9 +1,10 @@
 -- `meridional::meridional` meets its contract: the layer found by `layer_place`, swept in all tracers and in the air.
--- Assumes nothing.
-use mathlib.Core.Path.{refl, sym, _∙_}
+use mathlib.Core.Path.{sym, _∙_}
 use native.Mathlib.Omega.{arith}
-use Rattle.units.specs.Grid.{in-range}
-use Rattle.meridional.specs.World.{layer-near, layer-in-air, tracers-need, air-need, meridional-agrees}
+use Rattle.units.specs.Grid.{worldOf, in-range}
+use Rattle.places.specs.Walk.{itself, refuses}
+use Rattle.meridional.specs.LayerPlace.{LayerFound}
+use Rattle.meridional.specs.LayerSwept.{layer-near, layer-in-air, tracers-need, air-need, meridional-agrees}
 use borrow.Author.Needs.{needs}
 use Rattle.meridional.proofs.meridional.Statement.{statement}
 use Rattle.meridional.proofs.meridional.Tie as tie
@@ -27,28 +28,35 @@ same-length-2 : tie.Need-same-length-2
 same-length-2 c = search needs
 
 returns : tie.Need-returns
-returns c = c .before .before .before .before .layer-place .ensures .refused (λ z. omega (arith, c .before .number .ensures))
+returns c =
+    let place : tie.After-layer-place = search in
+    refuses (place .layer-place .ensures) (λ z. c .if1 .left (c .before .number .ensures ∙ z)) itself
+
+found : (c : tie.Then1) →
+    let place : tie.After-layer-place = search in
+    let s : tie.Start = search in
+    let parts = place .layer-place .last .1 .1 .1 .1 .1 in
+    LayerFound (worldOf (s .args .g) (s .args .air .now) (s .args .tracers .now)) (s .args .layer) (s .args .fluxes .now) (parts .0) (parts .1 .0) (place .layer-place .result)
+found c =
+    let place : tie.After-layer-place = search in
+    place .layer-place .ensures .found (sym (c .before .number .ensures) ∙ c .if1 .taken)
 
 layer-cells-requires : tie.Need-layer-cells-requires
-layer-cells-requires c κs =
-    let args = c .before .before .before .before .before .before .before .before .before .before .before .args in
-    let found = c .before .before .before .before .layer-place .ensures .found (sym (c .before .number .ensures) ∙ c .if1 .taken) in
-    in-range (args .g) (found .fits .grid)
+layer-cells-requires c κs = in-range _ (found c .fits .grid)
 
 cast-end : tie.Need-cast-end
 cast-end c = search needs
 
 add-end : tie.Need-add-end
 add-end c =
-    let args = c .before .before .before .before .before .before .before .before .before .before .before .before .args in
-    let found = c .before .before .before .before .before .layer-place .ensures .found (sym (c .before .before .number .ensures) ∙ c .before .if1 .taken) in
-    omega (arith, layer-near (args .g) (args .air .now) (args .tracers .now) (args .layer) (args .fluxes .now) _ _ _ found _ (c .layer-cells .ensures .0))
+    let accepted : tie.Then1 = search in
+    omega (arith, layer-near (found accepted) (c .layer-cells .ensures .0))
 
 mul-sweep-tracers : tie.Need-mul-sweep-tracers
 mul-sweep-tracers c =
-    let args = c .before .before .before .before .before .before .before .before .before .before .before .before .before .args in
-    let found = c .before .before .before .before .before .before .layer-place .ensures .found (sym (c .before .before .before .number .ensures) ∙ c .before .before .if1 .taken) in
-    omega (arith, layer-near (args .g) (args .air .now) (args .tracers .now) (args .layer) (args .fluxes .now) _ _ _ found _ (c .before .layer-cells .ensures .0))
+    let wide : tie.After-layer-cells = search in
+    let accepted : tie.Then1 = search in
+    omega (arith, layer-near (found accepted) (wide .layer-cells .ensures .0))
 
 sub-sweep-tracers : tie.Need-sub-sweep-tracers
 sub-sweep-tracers c = search needs
@@ -58,9 +66,9 @@ part-sweep-tracers-start c = search needs
 
 part-sweep-tracers-end : tie.Need-part-sweep-tracers-end
 part-sweep-tracers-end c =
-    let args = c .before .before .before .before .before .before .before .before .before .before .before .before .before .before .args in
-    let found = c .before .before .before .before .before .before .before .layer-place .ensures .found (sym (c .before .before .before .before .number .ensures) ∙ c .before .before .before .if1 .taken) in
-    layer-in-air (args .g) (args .air .now) (args .tracers .now) (args .layer) (args .fluxes .now) _ _ _ found _ (c .before .before .layer-cells .ensures .0)
+    let wide : tie.After-layer-cells = search in
+    let accepted : tie.Then1 = search in
+    layer-in-air (found accepted) (wide .layer-cells .ensures .0)
 
 slice-aggregate-sweep-tracers : tie.Need-slice-aggregate-sweep-tracers
 slice-aggregate-sweep-tracers c = search needs
@@ -70,21 +78,15 @@ slice-aggregate-sweep-tracers-2 c = search needs
 
 sweep-tracers-requires : tie.Need-sweep-tracers-requires
 sweep-tracers-requires c κs =
-    let start = c .before .before .before .before .before .before .before .before .before .before .before .before .before .before .before .before .before in
-    let layer-place-call = c .before .before .before .before .before .before .before .before .before .before .layer-place in
-    let args = start .args in
-    let found = layer-place-call .ensures .found (sym (c .before .before .before .before .before .before .before .number .ensures) ∙ c .before .before .before .before .before .before .if1 .taken) in
-    (record { high = search needs; low = search needs }, tracers-need (args .g) (args .air .now) (args .tracers .now) (args .layer) (args .fluxes .now) _ _ _ found _ (c .before .before .before .before .before .layer-cells .ensures .0))
+    let wide : tie.After-layer-cells = search in
+    let accepted : tie.Then1 = search in
+    (record { high = search needs; low = search needs }, tracers-need (found accepted) (wide .layer-cells .ensures .0))
 
 mul-pass-layer : tie.Need-mul-pass-layer
 mul-pass-layer c =
-    let start = c .before .before .before .before .before .before .before .before .before .before .before .before .before .before .before .before .before .before .before .before in
-    let layer-place-call = c .before .before .before .before .before .before .before .before .before .before .before .before .before .layer-place in
-    let number-call = c .before .before .before .before .before .before .before .before .before .before .number in
-    let layer-cells-call = c .before .before .before .before .before .before .before .before .layer-cells in
-    let args = start .args in
-    let found = layer-place-call .ensures .found (sym (number-call .ensures) ∙ c .before .before .before .before .before .before .before .before .before .if1 .taken) in
-    omega (arith, layer-near (args .g) (args .air .now) (args .tracers .now) (args .layer) (args .fluxes .now) _ _ _ found _ (layer-cells-call .ensures .0))
+    let wide : tie.After-layer-cells = search in
+    let accepted : tie.Then1 = search in
+    omega (arith, layer-near (found accepted) (wide .layer-cells .ensures .0))
 
 sub-pass-layer : tie.Need-sub-pass-layer
 sub-pass-layer c = search needs
@@ -94,13 +96,9 @@ part-pass-layer-start c = search needs
 
 part-pass-layer-end : tie.Need-part-pass-layer-end
 part-pass-layer-end c =
-    let start = c .before .before .before .before .before .before .before .before .before .before .before .before .before .before .before .before .before .before .before .before in
-    let layer-place-call = c .before .before .before .before .before .before .before .before .before .before .before .before .before .layer-place in
-    let number-call = c .before .before .before .before .before .before .before .before .before .before .number in
-    let layer-cells-call = c .before .before .before .before .before .before .before .before .layer-cells in
-    let args = start .args in
-    let found = layer-place-call .ensures .found (sym (number-call .ensures) ∙ c .before .before .before .before .before .before .before .before .before .if1 .taken) in
-    layer-in-air (args .g) (args .air .now) (args .tracers .now) (args .layer) (args .fluxes .now) _ _ _ found _ (layer-cells-call .ensures .0)
+    let wide : tie.After-layer-cells = search in
+    let accepted : tie.Then1 = search in
+    layer-in-air (found accepted) (wide .layer-cells .ensures .0)
 
 slice-aggregate-pass-layer : tie.Need-slice-aggregate-pass-layer
 slice-aggregate-pass-layer c = search needs
@@ -116,13 +114,9 @@ cast-pass-layer-2 c = search needs
 
 pass-layer-requires : tie.Need-pass-layer-requires
 pass-layer-requires c κs =
-    let start = c .before .before .before .before .before .before .before .before .before .before .before .before .before .before .before .before .before .before .before .before .before .before .before .before .before in
-    let layer-place-call = c .before .before .before .before .before .before .before .before .before .before .before .before .before .before .before .before .before .before .layer-place in
-    let number-call = c .before .before .before .before .before .before .before .before .before .before .before .before .before .before .before .number in
-    let layer-cells-call = c .before .before .before .before .before .before .before .before .before .before .before .before .before .layer-cells in
-    let args = start .args in
-    let found = layer-place-call .ensures .found (sym (number-call .ensures) ∙ c .before .before .before .before .before .before .before .before .before .before .before .before .before .before .if1 .taken) in
-    air-need (args .g) (args .air .now) (args .tracers .now) (args .layer) (args .fluxes .now) _ _ _ found _ (layer-cells-call .ensures .0) (record { high = search needs; low = search needs })
+    let wide : tie.After-layer-cells = search in
+    let accepted : tie.Then1 = search in
+    air-need (found accepted) (wide .layer-cells .ensures .0) (record { high = search needs; low = search needs })
 
 same-length-3 : tie.Need-same-length-3
 same-length-3 c = search needs
@@ -132,15 +126,11 @@ same-length-4 c = search needs
 
 returns-2 : tie.Need-returns-2
 returns-2 c =
-    let start = c .before .before .before .before .before .before .before .before .before .before .before .before .before .before .before .before .before .before .before .before .before .before .before .before .before .before .before .before in
-    let layer-place-call = c .before .before .before .before .before .before .before .before .before .before .before .before .before .before .before .before .before .before .before .before .before .layer-place in
-    let number-call = c .before .before .before .before .before .before .before .before .before .before .before .before .before .before .before .before .before .before .number in
-    let layer-cells-call = c .before .before .before .before .before .before .before .before .before .before .before .before .before .before .before .before .layer-cells in
-    let sweep-tracers-call = c .before .before .before .before .before .before .before .before .before .before .sweep-tracers in
-    let args = start .args in
-    let found = layer-place-call .ensures .found (sym (number-call .ensures) ∙ c .before .before .before .before .before .before .before .before .before .before .before .before .before .before .before .before .before .if1 .taken) in
-    rw (sweep-tracers-call .ensures)
-    (meridional-agrees (args .g) (args .air .now) (args .tracers .now) (args .layer) (args .fluxes .now) _ _ _ found _ (layer-cells-call .ensures .0) _ _ refl refl (c .before .before .pass-layer .ensures))
+    let passed : tie.After-pass-layer = search in
+    let swept : tie.After-sweep-tracers = search in
+    let wide : tie.After-layer-cells = search in
+    let accepted : tie.Then1 = search in
+    meridional-agrees (found accepted) (wide .layer-cells .ensures .0) (passed .pass-layer .ensures) (swept .sweep-tracers .ensures)
 
 pub meridional-spec : {M : Type 1} → statement M
 meridional-spec =

@@ -1,12 +1,18 @@
 -- `places::common_places` meets its contract: each answer from the tests that led there.
--- Assumes nothing.
-use mathlib.Core.Path.{refl, sym, _∙_}
-use Rattle.units.specs.Grid.{worldOf, in-range}
-use Rattle.places.specs.Tested.{tested-1, tested-2, tested-3, tested-4, tested-5, tracers-fit, gas-totals, totals-test}
-use Rattle.units.specs.The.{the}
+use mathlib.Core.Path.{_≡_, refl, sym, _∙_}
+use mathlib.Core.Bool.{true}
+use lib.ListN.{length}
+use Rattle.model.specs.World.{World}
+use Rattle.model.specs.Step.{gridFits}
+use Rattle.units.specs.Grid.{gridOf, worldOf, InRange, in-range}
+use Rattle.places.specs.Walk.{Left, next, stop, placed, fits, fails}
+use Rattle.places.specs.Tested.{Lends, lengthsServe, airTest, fromLengths, fromAir, fromTotals, all-left, lengths-true, passed-fits, tracers-fit, gas-totals, totals-test}
 use borrow.Author.Needs.{needs}
 use Rattle.places.proofs.common_places.Statement.{statement}
 use Rattle.places.proofs.common_places.Tie as tie
+
+abbrev world : tie.Start → World
+world s = worldOf (s .args .g) (s .args .air .now) (s .args .tracers .now)
 
 grid-fits-requires : tie.Need-grid-fits-requires
 grid-fits-requires c κs = search needs
@@ -16,19 +22,36 @@ refused-requires c κs = search needs
 
 returns : tie.Need-returns
 returns c =
-    tested-1 _ _ _ _ (sym (c .before .before .grid-fits .ensures) ∙ c .before .if1 .left) (c .refused .ensures)
+    let no : tie.Else1 = search needs in
+    stop (all-left _ _) (fails (no .before .grid-fits .ensures) (no .if1 .left)) (c .refused .ensures) refl
+
+-- place 1 is passed
+in-ranges : (c : tie.Then1) → let s : tie.Start = search needs in InRange (s .args .g)
+in-ranges c = in-range _ (sym (c .before .grid-fits .ensures) ∙ c .if1 .taken)
+
+past-grid : (c : tie.Then1) → let s : tie.Start = search needs in Left (world s) (Lends (world s) (s .args .lent)) (fromLengths (s .args .lent))
+past-grid c = next (all-left _ _) (fits (c .before .grid-fits .ensures) (c .if1 .taken))
 
 lengths-fit-requires : tie.Need-lengths-fit-requires
-lengths-fit-requires c κs =
-    in-range _ (sym (c .before .grid-fits .ensures) ∙ c .if1 .taken)
+lengths-fit-requires c κs = in-ranges c
 
 refused-requires-2 : tie.Need-refused-requires-2
 refused-requires-2 c κs = search needs
 
 returns-2 : tie.Need-returns-2
 returns-2 c =
-    let grid-is = the tie.After-grid-fits (search) .grid-fits .ensures in
-    tested-2 _ _ _ _ (sym grid-is ∙ c .before .before .before .if1 .taken) (sym (c .before .before .lengths-fit .ensures) ∙ c .before .if2 .left) (c .refused2 .ensures)
+    let no : tie.Else2 = search needs in
+    let grid : tie.Then1 = search needs in
+    stop (past-grid grid) (fails (no .before .lengths-fit .ensures) (no .if2 .left)) (c .refused2 .ensures) refl
+
+-- place 2
+lengths-served : (c : tie.Then2) → let s : tie.Start = search needs in lengthsServe (gridOf (s .args .g)) (length (s .args .air .now)) (length (s .args .tracers .now)) (s .args .lent) ≡ true
+lengths-served c = sym (c .before .lengths-fit .ensures) ∙ c .if2 .taken
+
+past-lengths : (c : tie.Then2) → let s : tie.Start = search needs in Left (world s) (Lends (world s) (s .args .lent)) fromAir
+past-lengths c =
+    let grid : tie.Then1 = search needs in
+    next (past-grid grid) (fits (c .before .lengths-fit .ensures) (c .if2 .taken))
 
 air-fits-requires : tie.Need-air-fits-requires
 air-fits-requires c κs = search needs
@@ -38,76 +61,70 @@ refused-requires-3 c κs = search needs
 
 returns-3 : tie.Need-returns-3
 returns-3 c =
-    let grid-is = the tie.After-grid-fits (search) .grid-fits .ensures in
-    let grid-fits = the tie.Then1 (search) .if1 .taken in
-    let lengths-is = the tie.After-lengths-fit (search) .lengths-fit .ensures in
-    tested-3 _ _ _ _ (sym grid-is ∙ grid-fits) (sym lengths-is ∙ c .before .before .before .if2 .taken) (sym (c .before .before .air-fits .ensures) ∙ c .before .if3 .left) (c .refused3 .ensures)
+    let no : tie.Else3 = search needs in
+    let lengths : tie.Then2 = search needs in
+    stop (past-lengths lengths) (fails (no .before .air-fits .ensures) (no .if3 .left)) (c .refused3 .ensures) refl
+
+-- place 3
+past-air : (c : tie.Then3) → let s : tie.Start = search needs in Left (world s) (Lends (world s) (s .args .lent)) fromTotals
+past-air c =
+    let lengths : tie.Then2 = search needs in
+    next (past-lengths lengths) (fits (c .before .air-fits .ensures) (c .if3 .taken))
 
 cast-n : tie.Need-cast-n
 cast-n c = search needs
 
 world-cells-requires : tie.Need-world-cells-requires
 world-cells-requires c κs =
-    let grid-is = the tie.After-grid-fits (search) .grid-fits .ensures in
-    let grid-fits = the tie.Then1 (search) .if1 .taken in
-    in-range _ (sym grid-is ∙ grid-fits)
+    let grid : tie.Then1 = search needs in
+    in-ranges grid
 
 cast-totals : tie.Need-cast-totals
 cast-totals c = search needs
 
 totals-requires : tie.Need-totals-requires
 totals-requires c κs =
-    let start : tie.Start = search in
-    let grid-is = the tie.After-grid-fits (search) .grid-fits .ensures in
-    let grid-fits = the tie.Then1 (search) .if1 .taken in
-    let lengths-is = the tie.After-lengths-fit (search) .lengths-fit .ensures in
-    let lengths-fit = the tie.Then2 (search) .if2 .taken in
-    let args = start .args in
-    tracers-fit (worldOf (args .g) (args .air .now) (args .tracers .now)) (args .lent)
-    (sym lengths-is ∙ lengths-fit) _ (c .world-cells .ensures .0) (c .world-cells .ensures .1)
-    (in-range (args .g) (sym grid-is ∙ grid-fits) .highN)
+    let start : tie.Start = search needs in
+    let grid : tie.Then1 = search needs in
+    let lengths : tie.Then2 = search needs in
+    tracers-fit (world start) (start .args .lent) (lengths-served lengths) _ (c .world-cells .ensures .0) (c .world-cells .ensures .1) (in-ranges grid .highN)
 
 totals-fit-requires : tie.Need-totals-fit-requires
 totals-fit-requires c κs =
-    let start : tie.Start = search in
-    let grid-is = the tie.After-grid-fits (search) .grid-fits .ensures in
-    let grid-fits = the tie.Then1 (search) .if1 .taken in
-    in-range (start .args .g) (sym grid-is ∙ grid-fits) .highN
+    let grid : tie.Then1 = search needs in
+    in-ranges grid .highN
 
 refused-requires-4 : tie.Need-refused-requires-4
 refused-requires-4 c κs = search needs
 
 returns-4 : tie.Need-returns-4
 returns-4 c =
-    let start : tie.Start = search in
-    let grid-is = the tie.After-grid-fits (search) .grid-fits .ensures in
-    let grid-fits = the tie.Then1 (search) .if1 .taken in
-    let lengths-is = the tie.After-lengths-fit (search) .lengths-fit .ensures in
-    let lengths-fit = the tie.Then2 (search) .if2 .taken in
-    let air-is = the tie.After-air-fits (search) .air-fits .ensures in
-    let air-fits = the tie.Then3 (search) .if3 .taken in
-    let cells = the tie.After-world-cells (search) .world-cells .ensures .0 in
-    let args = start .args in
-    let w = worldOf (args .g) (args .air .now) (args .tracers .now) in
-    let sums = c .before .before .before .totals .ensures in
-    tested-4 w _ _ _ (sym grid-is ∙ grid-fits) (sym lengths-is ∙ lengths-fit) (sym air-is ∙ air-fits)
-    (sym (totals-test w _ cells _ sums) ∙ sym (c .before .before .totals-fit .ensures) ∙ c .before .if4 .left) (c .refused4 .ensures)
+    let start : tie.Start = search needs in
+    let no : tie.Else4 = search needs in
+    let air : tie.Then3 = search needs in
+    let cells : tie.After-world-cells = search needs in
+    let sums : tie.After-totals = search needs in
+    let test = totals-test (world start) _ (cells .world-cells .ensures .0) _ (sums .totals .ensures) in
+    stop (past-air air) (fails (no .before .totals-fit .ensures ∙ test) (no .if4 .left)) (c .refused4 .ensures) refl
 
 returns-5 : tie.Need-returns-5
 returns-5 c =
-    let start : tie.Start = search in
-    let grid-is = the tie.After-grid-fits (search) .grid-fits .ensures in
-    let grid-fits = the tie.Then1 (search) .if1 .taken in
-    let lengths-is = the tie.After-lengths-fit (search) .lengths-fit .ensures in
-    let lengths-fit = the tie.Then2 (search) .if2 .taken in
-    let air-is = the tie.After-air-fits (search) .air-fits .ensures in
-    let air-fits = the tie.Then3 (search) .if3 .taken in
-    let args = start .args in
-    let w = worldOf (args .g) (args .air .now) (args .tracers .now) in
-    let cells = c .before .before .before .world-cells .ensures .0 in
-    let sums = c .before .before .totals .ensures in
-    tested-5 w _ _ _ (sym grid-is ∙ grid-fits) (sym lengths-is ∙ lengths-fit) (sym air-is ∙ air-fits)
-    (sym (totals-test w _ cells _ sums) ∙ sym (c .before .totals-fit .ensures) ∙ c .if4 .taken) refl (gas-totals w _ cells _ sums)
+    let start : tie.Start = search needs in
+    let grid : tie.Then1 = search needs in
+    let lengths : tie.Then2 = search needs in
+    let air : tie.Then3 = search needs in
+    let cells : tie.After-world-cells = search needs in
+    let sums : tie.After-totals = search needs in
+    let test = c .before .totals-fit .ensures ∙ totals-test (world start) _ (cells .world-cells .ensures .0) _ (sums .totals .ensures) in
+    placed refl
+    record {
+      left = next (past-air air) (fits test (c .if4 .taken));
+      fits =
+          passed-fits (world start) (start .args .lent) (lengths-served lengths) (sym (grid .before .grid-fits .ensures) ∙ grid .if1 .taken) (sym (air .before .air-fits .ensures) ∙ air .if3 .taken) (sym test ∙ c .if4 .taken);
+      lentFit = lengths-true (world start) (start .args .lent) (lengths-served lengths) .2;
+      count = refl;
+      total = gas-totals (world start) _ (cells .world-cells .ensures .0) _ (sums .totals .ensures);
+    }
 
 pub common-places-spec : {M : Type 1} → statement M
 common-places-spec =

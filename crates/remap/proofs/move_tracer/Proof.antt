@@ -1,10 +1,10 @@
 -- `remap::move_tracer` meets its contract. The loop's invariant: the columns passed are remapped, the others as lent.
--- Assumes nothing.
-use Prim.Native.Nat.{_-_}
+use Prim.Native.Nat.{_+_, _-_}
 use mathlib.Core.Path.{_≡_, _∙_}
 use native.Mathlib.Omega.{arith}
 use lib.ListN.{length}
-use Rattle.remap.specs.Served.{load-need}
+use Rattle.model.specs.Limits.{mostLayers}
+use Rattle.remap.specs.Served.{read-need}
 use Rattle.remap.specs.Moved.{gasNew, gas-room, gas-need, gas-more}
 use Rattle.remap.specs.Upto.{Upto, upto-none, upto-all}
 use borrow.Author.Needs.{needs}
@@ -14,49 +14,47 @@ use Rattle.remap.proofs.move_tracer.Tie as tie
 abbrev Inv-loop : tie.InvT-loop
 Inv-loop gas₀ air table cells k a₀ e₀ old₀ q₀ new₀ c₀ gas a e old q new c =
     Upto k cells (gasNew k cells table air gas₀) gas₀ c gas
-    × (length a ≡ 32)
-    × (length e ≡ 33)
-    × (length old ≡ 32)
-    × (length q ≡ 32)
-    × (length new ≡ 32)
+    × (length a ≡ mostLayers)
+    × (length e ≡ mostLayers + 1)
+    × (length old ≡ mostLayers)
+    × (length q ≡ mostLayers)
+    × (length new ≡ mostLayers)
 
 abbrev μ-loop : tie.MeasureT-loop
 μ-loop gas₀ air table cells k a₀ e₀ old₀ q₀ new₀ c₀ gas a e old q new c = cells - c
 
 loop-holds : tie.Need-loop-holds Inv-loop μ-loop
 loop-holds c =
-    let lent = c .before .before .before .args in (
-      upto-none (lent .k) (lent .cells) (gasNew (lent .k) (lent .cells) (lent .table .now) (lent .air .now) (lent .gas .now)) (lent .gas .now) (c .before .before .before .pre .long),
-      search needs,
-      search needs,
-      search needs,
-      search needs,
-      search needs,
+    let start : tie.Start Inv-loop μ-loop = search in
+    (upto-none (start .pre .long), search needs, search needs, search needs, search needs, search needs)
+
+slice-aggregate-read-edges : tie.Need-slice-aggregate-read-edges Inv-loop μ-loop
+slice-aggregate-read-edges c = search needs
+
+slice-aggregate-read-edges-2 : tie.Need-slice-aggregate-read-edges-2 Inv-loop μ-loop
+slice-aggregate-read-edges-2 c = search needs
+
+read-edges-requires : tie.Need-read-edges-requires Inv-loop μ-loop
+read-edges-requires c κs =
+    let turn : tie.In-loop Inv-loop μ-loop = search in
+    let at : tie.At-loop Inv-loop μ-loop = search in
+    let start : tie.Start Inv-loop μ-loop = search in
+    let columns = start .pre .moves .columns in (
+      read-need columns (turn .loop-test .taken),
+      omega (arith, columns .fit, at .loop .inv .1),
+      omega (arith, columns .fit, at .loop .inv .2),
     )
 
-slice-aggregate-load-column : tie.Need-slice-aggregate-load-column Inv-loop μ-loop
-slice-aggregate-load-column c = search needs
+slice-aggregate-read-column : tie.Need-slice-aggregate-read-column Inv-loop μ-loop
+slice-aggregate-read-column c = search needs
 
-slice-aggregate-load-column-2 : tie.Need-slice-aggregate-load-column-2 Inv-loop μ-loop
-slice-aggregate-load-column-2 c = search needs
-
-load-column-requires : tie.Need-load-column-requires Inv-loop μ-loop
-load-column-requires c κs =
-    let columns = c .before .before .before .before .before .before .before .pre .moves .columns in
-    let l = c .before .before .before .loop in
-    (load-need columns (l .c) (omega arith), omega (arith, columns .fit, l .inv .1), omega (arith, columns .fit, l .inv .2))
-
-slice-aggregate-load : tie.Need-slice-aggregate-load Inv-loop μ-loop
-slice-aggregate-load c = search needs
-
-load-requires : tie.Need-load-requires Inv-loop μ-loop
-load-requires c κs =
-    let start = c .before .before .before .before .before .before .before .before .before .before .before .before in
-    let lent = start .args in
-    let l = c .before .before .before .before .before .before .before .before .loop in (
-      gas-room (lent .gas .now) (lent .air .now) (lent .table .now) (lent .cells) (lent .k) (start .pre) (l .c) (c .before .before .before .before .before .before .before .loop-test .taken) (l .gas) (l .inv .0),
-      omega (arith, start .pre .moves .columns .fit, l .inv .3),
-    )
+read-column-requires : tie.Need-read-column-requires Inv-loop μ-loop
+read-column-requires c κs =
+    let turn : tie.In-loop Inv-loop μ-loop = search in
+    let at : tie.At-loop Inv-loop μ-loop = search in
+    let start : tie.Start Inv-loop μ-loop = search in
+    let fit = start .pre .moves .columns .fit in
+    (gas-room (start .pre) (turn .loop-test .taken) (at .loop .inv .0), omega (arith, fit, at .loop .inv .3))
 
 is-cap-requires : tie.Need-is-cap-requires Inv-loop μ-loop
 is-cap-requires c κs = search needs
@@ -78,55 +76,60 @@ slice-aggregate-remap-gas-5 c = search needs
 
 remap-gas-requires : tie.Need-remap-gas-requires Inv-loop μ-loop
 remap-gas-requires c κs =
-    let before-call = c .before .before .before .before .before .before .before .before .before .before .before .before .before .before .before .before .before .before .before .before in
-    let l-call = c .before .before .before .before .before .before .before .before .before .before .before .before .before .before .before .before .loop in
-    let load-column-call = c .before .before .before .before .before .before .before .before .before .before .before .before .load-column in
-    let load-call = c .before .before .before .before .before .before .before .load in
-    let start = before-call in
+    let copied : tie.After-read-column Inv-loop μ-loop = search in
+    let edges : tie.After-read-edges Inv-loop μ-loop = search in
+    let turn : tie.In-loop Inv-loop μ-loop = search in
+    let at : tie.At-loop Inv-loop μ-loop = search in
+    let start : tie.Start Inv-loop μ-loop = search in
     let fit = start .pre .moves .columns .fit in
-    let lent = start .args in
-    let l = l-call in
-    gas-need (lent .gas .now) (lent .air .now) (lent .table .now) (lent .cells) (lent .k) (start .pre) (l .c) (c .before .before .before .before .before .before .before .before .before .before .before .before .before .before .before .loop-test .taken) (l .gas) (l .inv .0) _ _ (load-column-call .ensures) _ (load-call .ensures) _ _ (omega (arith, fit, load-call .kept .1 .1 .1 .1 .0, l .inv .3)) (omega (arith, fit, l .inv .4)) (omega (arith, fit, l .inv .5))
+    let inv = at .loop .inv in
+    let long = copied .read-column .kept .1 .1 .1 .1 .0 in
+    gas-need (start .pre) (turn .loop-test .taken) (inv .0) (edges .read-edges .ensures) _ (copied .read-column .ensures) (omega (arith, fit, long, inv .3)) (omega (arith, fit, inv .4)) (omega (arith, fit, inv .5))
 
-slice-aggregate-store : tie.Need-slice-aggregate-store Inv-loop μ-loop
-slice-aggregate-store c = search needs
+slice-aggregate-write-column : tie.Need-slice-aggregate-write-column Inv-loop μ-loop
+slice-aggregate-write-column c = search needs
 
-store-requires : tie.Need-store-requires Inv-loop μ-loop
-store-requires c κs =
-    let before-call = c .before .before .before .before .before .before .before .before .before .before .before .before .before .before .before .before .before .before .before .before .before .before .before .before .before in
-    let l-call = c .before .before .before .before .before .before .before .before .before .before .before .before .before .before .before .before .before .before .before .before .before .loop in
-    let start = before-call in
-    let lent = start .args in
-    let l = l-call in (
-      gas-room (lent .gas .now) (lent .air .now) (lent .table .now) (lent .cells) (lent .k) (start .pre) (l .c) (c .before .before .before .before .before .before .before .before .before .before .before .before .before .before .before .before .before .before .before .before .loop-test .taken) (l .gas) (l .inv .0),
-      omega (arith, start .pre .moves .columns .fit, c .before .before .before .before .remap-gas .kept .1 .1 .1 .1 .1 .1 .0, l .inv .5),
-    )
+write-column-requires : tie.Need-write-column-requires Inv-loop μ-loop
+write-column-requires c κs =
+    let made : tie.After-remap-gas Inv-loop μ-loop = search in
+    let copied : tie.After-read-column Inv-loop μ-loop = search in
+    let edges : tie.After-read-edges Inv-loop μ-loop = search in
+    let turn : tie.In-loop Inv-loop μ-loop = search in
+    let at : tie.At-loop Inv-loop μ-loop = search in
+    let start : tie.Start Inv-loop μ-loop = search in
+    let fit = start .pre .moves .columns .fit in
+    let long = made .remap-gas .kept .1 .1 .1 .1 .1 .1 .0 in
+    (gas-room (start .pre) (turn .loop-test .taken) (at .loop .inv .0), omega (arith, fit, long, at .loop .inv .5))
 
 add-c : tie.Need-add-c Inv-loop μ-loop
 add-c c =
-    let start = c .before .before .before .before .before .before .before .before .before .before .before .before .before .before .before .before .before .before .before .before .before .before .before .before .before .before .before .before in
-    omega (arith, c .before .before .before .before .before .before .before .before .before .before .before .before .before .before .before .before .before .before .before .before .before .before .before .loop-test .taken, start .pre .moves .columns .few)
+    let turn : tie.In-loop Inv-loop μ-loop = search in
+    let start : tie.Start Inv-loop μ-loop = search in
+    omega (arith, turn .loop-test .taken, start .pre .moves .columns .few)
 
 loop-less : tie.Need-loop-less Inv-loop μ-loop
-loop-less c = omega (arith, c .before .before .before .before .before .before .before .before .before .before .before .before .before .before .before .before .before .before .before .before .before .before .before .loop-test .taken)
+loop-less c =
+    let turn : tie.In-loop Inv-loop μ-loop = search in
+    omega (arith, turn .loop-test .taken)
 
 loop-again : tie.Need-loop-again Inv-loop μ-loop
 loop-again c =
-    let before-call = c .before .before .before .before .before .before .before .before .before .before .before .before .before .before .before .before .before .before .before .before .before .before .before .before .before .before .before .before in
-    let l-call = c .before .before .before .before .before .before .before .before .before .before .before .before .before .before .before .before .before .before .before .before .before .before .before .before .loop in
-    let load-column-call = c .before .before .before .before .before .before .before .before .before .before .before .before .before .before .before .before .before .before .before .before .load-column in
-    let load-call = c .before .before .before .before .before .before .before .before .before .before .before .before .before .before .before .load in
-    let is-cap-call = c .before .before .before .before .before .before .before .before .before .before .before .before .before .is-cap in
-    let remap-gas-call = c .before .before .before .before .before .before .before .remap-gas in
-    let start = before-call in
-    let lent = start .args in
-    let l = l-call in (
-      gas-more (lent .gas .now) (lent .air .now) (lent .table .now) (lent .cells) (lent .k) (start .pre) (l .c) (c .before .before .before .before .before .before .before .before .before .before .before .before .before .before .before .before .before .before .before .before .before .before .before .loop-test .taken) (l .gas) (l .inv .0) _ _ (load-column-call .ensures) _ (load-call .ensures) _ _ _ (is-cap-call .ensures) (remap-gas-call .ensures) (c .before .before .store .ensures),
-      load-column-call .kept .1 .1 .1 .1 .1 .0 ∙ l .inv .1,
-      load-column-call .kept .1 .1 .1 .1 .1 .1 .0 ∙ l .inv .2,
-      load-call .kept .1 .1 .1 .1 .0 ∙ l .inv .3,
-      remap-gas-call .kept .1 .1 .1 .1 .1 .0 ∙ l .inv .4,
-      remap-gas-call .kept .1 .1 .1 .1 .1 .1 .0 ∙ l .inv .5,
+    let written : tie.After-write-column Inv-loop μ-loop = search in
+    let made : tie.After-remap-gas Inv-loop μ-loop = search in
+    let cap : tie.After-is-cap Inv-loop μ-loop = search in
+    let copied : tie.After-read-column Inv-loop μ-loop = search in
+    let edges : tie.After-read-edges Inv-loop μ-loop = search in
+    let turn : tie.In-loop Inv-loop μ-loop = search in
+    let at : tie.At-loop Inv-loop μ-loop = search in
+    let start : tie.Start Inv-loop μ-loop = search in
+    let inv = at .loop .inv in
+    let more = gas-more (start .pre) (turn .loop-test .taken) (inv .0) (edges .read-edges .ensures) _ (copied .read-column .ensures) (cap .is-cap .ensures) (made .remap-gas .ensures) (written .write-column .ensures) in (
+      more,
+      edges .read-edges .kept .1 .1 .1 .1 .1 .0 ∙ inv .1,
+      edges .read-edges .kept .1 .1 .1 .1 .1 .1 .0 ∙ inv .2,
+      copied .read-column .kept .1 .1 .1 .1 .0 ∙ inv .3,
+      made .remap-gas .kept .1 .1 .1 .1 .1 .0 ∙ inv .4,
+      made .remap-gas .kept .1 .1 .1 .1 .1 .1 .0 ∙ inv .5,
     )
 
 same-length : tie.Need-same-length Inv-loop μ-loop
@@ -134,11 +137,9 @@ same-length c = c .before .loop .inv .0 .long
 
 returns : tie.Need-returns Inv-loop μ-loop
 returns c =
-    let start = c .before .before .before .before .before in
-    let need = start .pre in
-    let lent = start .args in
-    let l = c .before .loop in
-    upto-all (lent .k) (lent .cells) (gasNew (lent .k) (lent .cells) (lent .table .now) (lent .air .now) (lent .gas .now)) (lent .gas .now) (need .long) (need .moves .some) (l .c) (l .gas) (omega arith) (l .inv .0)
+    let at : tie.At-loop Inv-loop μ-loop = search in
+    let start : tie.Start Inv-loop μ-loop = search in
+    upto-all (start .pre .long) (start .pre .moves .some) (omega arith) (at .loop .inv .0)
 
 pub move-tracer-spec : {M : Type 1} → statement M
 move-tracer-spec =
@@ -147,11 +148,11 @@ move-tracer-spec =
     Inv-loop
     μ-loop
     loop-holds
-    slice-aggregate-load-column
-    slice-aggregate-load-column-2
-    load-column-requires
-    slice-aggregate-load
-    load-requires
+    slice-aggregate-read-edges
+    slice-aggregate-read-edges-2
+    read-edges-requires
+    slice-aggregate-read-column
+    read-column-requires
     is-cap-requires
     slice-aggregate-remap-gas
     slice-aggregate-remap-gas-2
@@ -159,8 +160,8 @@ move-tracer-spec =
     slice-aggregate-remap-gas-4
     slice-aggregate-remap-gas-5
     remap-gas-requires
-    slice-aggregate-store
-    store-requires
+    slice-aggregate-write-column
+    write-column-requires
     add-c
     loop-less
     loop-again

@@ -1,9 +1,9 @@
 -- `remap::move_tracers` meets its contract. The loop's invariant: the tracers passed are remapped, the others as lent.
--- Assumes nothing.
-use Prim.Native.Nat.{_-_, _≤_}
+use Prim.Native.Nat.{_+_, _*_, _-_, _≤_}
 use mathlib.Core.Path.{_≡_, ap, _∙_}
 use native.Mathlib.Omega.{arith}
 use lib.ListN.{length}
+use Rattle.model.specs.Limits.{mostAmounts}
 use Rattle.remap.specs.Tracers.{movedUpTo, tracer-room, moved-none, length-up-to, tracer-need, moved-more, moved-all}
 use borrow.Author.Needs.{needs}
 use Rattle.remap.proofs.move_tracers.Statement.{statement}
@@ -17,38 +17,33 @@ abbrev μ-loop : tie.MeasureT-loop
 
 loop-holds : tie.Need-loop-holds Inv-loop μ-loop
 loop-holds c =
-    let lent = c .before .before .before .args in
-    (search needs, moved-none (lent .tracers .now) (lent .air .now) (lent .table .now) (lent .cells) (lent .k) (lent .n) (c .before .before .before .pre))
+    let start : tie.Start Inv-loop μ-loop = search in
+    (search needs, moved-none (start .pre))
+
+-- where the tracer that is moved next ends
+room : (c : tie.In-loop Inv-loop μ-loop) →
+    let at : tie.At-loop Inv-loop μ-loop = search in
+    let start : tie.Start Inv-loop μ-loop = search in
+    let m = start .args .k * start .args .cells in
+    (at .loop .t * m + m ≤ length (start .args .tracers .now)) × (at .loop .t * m + m ≤ mostAmounts)
+room c =
+    let start : tie.Start Inv-loop μ-loop = search in
+    tracer-room (start .pre) (c .loop-test .taken)
 
 mul-a : tie.Need-mul-a Inv-loop μ-loop
-mul-a c =
-    let start = c .before .before .before .before .before in
-    let lent = start .args in
-    omega (arith, tracer-room (lent .tracers .now) (lent .air .now) (lent .table .now) (lent .cells) (lent .k) (lent .n) (start .pre) (c .before .loop .t) (omega arith) .1)
+mul-a c = omega (arith, room c .1)
 
 mul-a-2 : tie.Need-mul-a-2 Inv-loop μ-loop
-mul-a-2 c =
-    let start = c .before .before .before .before .before in
-    let lent = start .args in
-    omega (arith, tracer-room (lent .tracers .now) (lent .air .now) (lent .table .now) (lent .cells) (lent .k) (lent .n) (start .pre) (c .before .loop .t) (omega arith) .1)
+mul-a-2 c = omega (arith, room c .1)
 
 mul-e : tie.Need-mul-e Inv-loop μ-loop
-mul-e c =
-    let start = c .before .before .before .before .before in
-    let lent = start .args in
-    omega (arith, tracer-room (lent .tracers .now) (lent .air .now) (lent .table .now) (lent .cells) (lent .k) (lent .n) (start .pre) (c .before .loop .t) (omega arith) .1)
+mul-e c = omega (arith, room c .1)
 
 add-e : tie.Need-add-e Inv-loop μ-loop
-add-e c =
-    let start = c .before .before .before .before .before in
-    let lent = start .args in
-    omega (arith, tracer-room (lent .tracers .now) (lent .air .now) (lent .table .now) (lent .cells) (lent .k) (lent .n) (start .pre) (c .before .loop .t) (omega arith) .1)
+add-e c = omega (arith, room c .1)
 
 mul-move-tracer : tie.Need-mul-move-tracer Inv-loop μ-loop
-mul-move-tracer c =
-    let start = c .before .before .before .before .before in
-    let lent = start .args in
-    omega (arith, tracer-room (lent .tracers .now) (lent .air .now) (lent .table .now) (lent .cells) (lent .k) (lent .n) (start .pre) (c .before .loop .t) (omega arith) .1)
+mul-move-tracer c = omega (arith, room c .1)
 
 sub-move-tracer : tie.Need-sub-move-tracer Inv-loop μ-loop
 sub-move-tracer c = search needs
@@ -58,16 +53,17 @@ part-move-tracer-start c = search needs
 
 part-move-tracer-end : tie.Need-part-move-tracer-end Inv-loop μ-loop
 part-move-tracer-end c =
-    let start = c .before .before .before .before .before in
-    let need = start .pre in
-    let lent = start .args in
-    omega (arith, tracer-room (lent .tracers .now) (lent .air .now) (lent .table .now) (lent .cells) (lent .k) (lent .n) (need) (c .before .loop .t) (omega arith) .0, ap length (c .before .loop .inv .1), length-up-to (lent .tracers .now) (lent .air .now) (lent .table .now) (lent .cells) (lent .k) (lent .n) (need) (c .before .loop .t) (omega arith))
+    let at : tie.At-loop Inv-loop μ-loop = search in
+    let start : tie.Start Inv-loop μ-loop = search in
+    let long = ap length (at .loop .inv .1) ∙ length-up-to (start .pre) (at .loop .inv .0) in
+    omega (arith, room c .0, long)
 
 move-tracer-requires : tie.Need-move-tracer-requires Inv-loop μ-loop
 move-tracer-requires c κs =
-    let start = c .before .before .before .before .before .before in
-    let lent = start .args in
-    tracer-need (lent .tracers .now) (lent .air .now) (lent .table .now) (lent .cells) (lent .k) (lent .n) (start .pre) (c .before .before .loop .t) (omega arith) (c .before .before .loop .tracers) (c .before .before .loop .inv .1)
+    let turn : tie.In-loop Inv-loop μ-loop = search in
+    let at : tie.At-loop Inv-loop μ-loop = search in
+    let start : tie.Start Inv-loop μ-loop = search in
+    tracer-need (start .pre) (turn .loop-test .taken) (at .loop .inv .1)
 
 add-t : tie.Need-add-t Inv-loop μ-loop
 add-t c = search needs
@@ -77,22 +73,23 @@ loop-less c = search needs
 
 loop-again : tie.Need-loop-again Inv-loop μ-loop
 loop-again c =
-    let start = c .before .before .before .before .before .before .before .before .before in
-    let l = c .before .before .before .before .before .loop in
-    let lent = start .args in
-    (search needs, moved-more (lent .tracers .now) (lent .air .now) (lent .table .now) (lent .cells) (lent .k) (lent .n) (start .pre) (l .t) (omega arith) (l .tracers) (l .inv .1) _ (c .before .before .move-tracer .ensures))
+    let moved : tie.After-move-tracer Inv-loop μ-loop = search in
+    let turn : tie.In-loop Inv-loop μ-loop = search in
+    let at : tie.At-loop Inv-loop μ-loop = search in
+    let start : tie.Start Inv-loop μ-loop = search in
+    (search needs, moved-more (start .pre) (turn .loop-test .taken) (at .loop .inv .1) (moved .move-tracer .ensures))
 
 same-length : tie.Need-same-length Inv-loop μ-loop
 same-length c =
-    let start = c .before .before .before .before .before in
-    let lent = start .args in
-    ap length (c .before .loop .inv .1) ∙ length-up-to (lent .tracers .now) (lent .air .now) (lent .table .now) (lent .cells) (lent .k) (lent .n) (start .pre) (c .before .loop .t) (omega arith)
+    let at : tie.At-loop Inv-loop μ-loop = search in
+    let start : tie.Start Inv-loop μ-loop = search in
+    ap length (at .loop .inv .1) ∙ length-up-to (start .pre) (at .loop .inv .0)
 
 returns : tie.Need-returns Inv-loop μ-loop
 returns c =
-    let start = c .before .before .before .before .before in
-    let lent = start .args in
-    moved-all (lent .tracers .now) (lent .air .now) (lent .table .now) (lent .cells) (lent .k) (lent .n) (start .pre) (c .before .loop .t) (c .before .loop .tracers) (omega arith) (c .before .loop .inv .1)
+    let at : tie.At-loop Inv-loop μ-loop = search in
+    let start : tie.Start Inv-loop μ-loop = search in
+    moved-all (start .pre) (omega arith) (at .loop .inv .1)
 
 pub move-tracers-spec : {M : Type 1} → statement M
 move-tracers-spec =

@@ -1,10 +1,8 @@
 -- `remap::remap` meets its contract: its places, then all tracers and the air.
--- Assumes nothing.
 use mathlib.Core.Path.{sym, _∙_}
-use native.Mathlib.Omega.{arith}
-use Rattle.units.specs.Grid.{in-range}
-use Rattle.remap.specs.Calls.{air-need, tracers-need, remap-agrees}
-use borrow.Author.Needs.{needs}
+use Rattle.units.specs.Grid.{worldOf, in-range}
+use Rattle.places.specs.Walk.{itself, refuses}
+use Rattle.remap.specs.RemapPlace.{ColumnsFound, air-need, tracers-need, remap-agrees}
 use borrow.Author.Needs.{needs}
 use Rattle.remap.proofs.remap.Statement.{statement}
 use Rattle.remap.proofs.remap.Tie as tie
@@ -22,12 +20,20 @@ same-length-2 : tie.Need-same-length-2
 same-length-2 c = search needs
 
 returns : tie.Need-returns
-returns c = c .before .before .remap-place .ensures .refused (λ z. omega (arith, c .before .number .ensures))
+returns c =
+    let place : tie.After-remap-place = search in
+    refuses (place .remap-place .ensures) (λ z. c .if1 .left (c .before .number .ensures ∙ z)) itself
+
+found : (c : tie.Then1) →
+    let place : tie.After-remap-place = search in
+    let s : tie.Start = search in
+    ColumnsFound (worldOf (s .args .g) (s .args .air .now) (s .args .tracers .now)) (s .args .table .now) (place .remap-place .result)
+found c =
+    let place : tie.After-remap-place = search in
+    place .remap-place .ensures .found (sym (c .before .number .ensures) ∙ c .if1 .taken)
 
 layer-cells-requires : tie.Need-layer-cells-requires
-layer-cells-requires c κs =
-    let start = c .before .before .before .before .before .before .before .before in
-    in-range (start .args .g) ((c .before .before .remap-place .ensures .found (sym (c .before .number .ensures) ∙ c .if1 .taken)) .fits .grid)
+layer-cells-requires c κs = in-range _ (found c .fits .grid)
 
 cast-cells : tie.Need-cast-cells
 cast-cells c = search needs
@@ -40,25 +46,15 @@ cast-n c = search needs
 
 move-tracers-requires : tie.Need-move-tracers-requires
 move-tracers-requires c κs =
-    let start = c .before .before .before .before .before .before .before .before .before .before .before .before .before in
-    let remap-place = c .before .before .before .before .before .before .before .remap-place in
-    let number = c .before .before .before .before .before .before .number in
-    let layer-cells = c .before .before .before .before .layer-cells in
-    let lent = start .args in
-    tracers-need (lent .g) (lent .air .now) (lent .tracers .now) (lent .table .now) _ (remap-place .ensures .found (sym (number .ensures) ∙ c .before .before .before .before .before .if1 .taken)) _ (layer-cells .ensures .0) (layer-cells .ensures .1)
+    let cells : tie.After-layer-cells = search in
+    let accepted : tie.Then1 = search in
+    tracers-need (found accepted) (cells .layer-cells .ensures .0)
 
 move-air-requires : tie.Need-move-air-requires
 move-air-requires c κs =
-    let before-call = c .before .before .before .before .before .before .before .before .before .before .before .before .before .before .before .before .before in
-    let remap-place-call = c .before .before .before .before .before .before .before .before .before .before .before .remap-place in
-    let number-call = c .before .before .before .before .before .before .before .before .before .before .number in
-    let layer-cells-call = c .before .before .before .before .before .before .before .before .layer-cells in
-    let start = before-call in
-    let remap-place = remap-place-call in
-    let number = number-call in
-    let layer-cells = layer-cells-call in
-    let lent = start .args in
-    air-need (lent .g) (lent .air .now) (lent .tracers .now) (lent .table .now) _ (remap-place .ensures .found (sym (number .ensures) ∙ c .before .before .before .before .before .before .before .before .before .if1 .taken)) _ (layer-cells .ensures .0) (layer-cells .ensures .1)
+    let cells : tie.After-layer-cells = search in
+    let accepted : tie.Then1 = search in
+    air-need (found accepted) (cells .layer-cells .ensures .0)
 
 same-length-3 : tie.Need-same-length-3
 same-length-3 c = search needs
@@ -68,17 +64,12 @@ same-length-4 c = search needs
 
 returns-2 : tie.Need-returns-2
 returns-2 c =
-    let before-call = c .before .before .before .before .before .before .before .before .before .before .before .before .before .before .before .before .before .before .before .before in
-    let remap-place-call = c .before .before .before .before .before .before .before .before .before .before .before .before .before .before .remap-place in
-    let number-call = c .before .before .before .before .before .before .before .before .before .before .before .before .before .number in
-    let layer-cells-call = c .before .before .before .before .before .before .before .before .before .before .before .layer-cells in
-    let start = before-call in
-    let remap-place = remap-place-call in
-    let number = number-call in
-    let layer-cells = layer-cells-call in
-    let move-tracers = c .before .before .before .before .before .before .move-tracers in
-    let lent = start .args in
-    remap-agrees (lent .g) (lent .air .now) (lent .tracers .now) (lent .table .now) _ (remap-place .ensures .found (sym (number .ensures) ∙ c .before .before .before .before .before .before .before .before .before .before .before .before .if1 .taken)) _ (layer-cells .ensures .0) (layer-cells .ensures .1) _ _ (sym (number .ensures) ∙ c .before .before .before .before .before .before .before .before .before .before .before .before .if1 .taken) (c .before .before .move-air .ensures) (move-tracers .ensures)
+    let air : tie.After-move-air = search in
+    let tracers : tie.After-move-tracers = search in
+    let cells : tie.After-layer-cells = search in
+    let accepted : tie.Then1 = search in
+    let zero = sym (accepted .before .number .ensures) ∙ accepted .if1 .taken in
+    remap-agrees (found accepted) (cells .layer-cells .ensures .0) zero (air .move-air .ensures) (tracers .move-tracers .ensures)
 
 pub remap-spec : {M : Type 1} → statement M
 remap-spec =

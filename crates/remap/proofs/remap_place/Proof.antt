@@ -1,15 +1,25 @@
 -- `remap::remap_place` meets its contract: each answer from the tests that led there.
--- Assumes nothing.
-use mathlib.Core.Path.{sym, _∙_}
-use native.Mathlib.Omega.{arith}
+use Prim.Native.Nat.{_+_, _*_}
+use mathlib.Core.Bool.{true}
+use mathlib.Core.Path.{_≡_, refl, sym, _∙_}
 use borrow.Author.Tests.{eqb-true}
+use lib.ListN.{length}
+use Rattle.model.specs.World.{World}
+use Rattle.model.specs.Step.{Call, remap, tableFits}
 use Rattle.units.specs.Grid.{worldOf, in-range}
-use Rattle.units.specs.declared.Refusal.the-variants.{Table, Remap}
-use Rattle.remap.specs.Calls.{no-table, not-serving, remap-accepted, place-common, place-refused, place-found, columns-need, serves-is, count-is}
-use borrow.Author.Needs.{needs}
+use Rattle.places.specs.declared.Lent.the-variants.{Table}
+use Rattle.places.specs.Walk.{Left, Like, next, stop, placed, fits, fails}
+use Rattle.places.specs.Tested.{Passed, own-left, common-placed}
+use Rattle.remap.specs.RemapPlace.{fromServing, columns-need, serves-is, count-is}
 use borrow.Author.Needs.{needs}
 use Rattle.remap.proofs.remap_place.Statement.{statement}
 use Rattle.remap.proofs.remap_place.Tie as tie
+
+abbrev world : tie.Start → World
+world s = worldOf (s .args .g) (s .args .air .now) (s .args .tracers .now)
+
+abbrev call : tie.Start → Call
+call s = remap (s .args .table .now)
 
 common-places-requires : tie.Need-common-places-requires
 common-places-requires c κs = search needs
@@ -17,80 +27,99 @@ common-places-requires c κs = search needs
 number-requires : tie.Need-number-requires
 number-requires c κs = search needs
 
+not-placed-requires : tie.Need-not-placed-requires
+not-placed-requires c κs = search needs
+
 returns : tie.Need-returns
 returns c =
-    let start = c .before .before .before .before .before .before in
-    let lent = start .args in
-    place-common (worldOf (lent .g) (lent .air .now) (lent .tracers .now)) (lent .table .now) _ _ (c .before .before .common-places .ensures) (λ z. omega (arith, c .before .number .ensures))
+    let no : tie.Else1 = search in
+    let tested : tie.After-common-places = search in
+    common-placed (tested .common-places .ensures) (λ z. no .if1 .left (no .before .number .ensures ∙ z)) refl (c .not-placed .ensures)
+
+-- places 1 to 4 are passed
+passed : (c : tie.Then1) →
+    let tested : tie.After-common-places = search in
+    let s : tie.Start = search in
+    Passed (world s) (Table (length (s .args .table .now))) (tested .common-places .result)
+passed c =
+    let tested : tie.After-common-places = search in
+    tested .common-places .ensures .found (sym (c .before .number .ensures) ∙ c .if1 .taken)
+
+pairs : (c : tie.Then1) → let s : tie.Start = search in length (s .args .table .now) ≡ 2 * (s .args .g .k + 1)
+pairs c = eqb-true _ _ (passed c .lentFit)
 
 cast-k : tie.Need-cast-k
 cast-k c = search needs
 
 table-fits-requires : tie.Need-table-fits-requires
 table-fits-requires c κs =
-    let start = c .before .before .before .before .before .before .before in
-    let tested = c .before .before .before .common-places .ensures .passed (sym (c .before .before .number .ensures) ∙ c .before .if1 .taken) in
-    (in-range (start .args .g) (tested .fits .grid) .highK, eqb-true _ _ (tested .lentFit))
+    let common : tie.Then1 = search in
+    let s : tie.Start = search in
+    (in-range (s .args .g) (passed common .fits .grid) .highK, pairs common)
+
+not-placed-requires-2 : tie.Need-not-placed-requires-2
+not-placed-requires-2 c κs = search needs
 
 returns-2 : tie.Need-returns-2
 returns-2 c =
-    let before-call = c .before .before .before .before .before .before .before .before .before in
-    let start = before-call in
-    let common-places = c .before .before .before .before .before .common-places in
-    let number = c .before .before .before .before .number in
-    let lent = start .args in
-    let tested = common-places .ensures .passed (sym (number .ensures) ∙ c .before .before .before .if1 .taken) in
-    place-refused (worldOf (lent .g) (lent .air .now) (lent .tracers .now)) (lent .table .now) Table (λ z. omega arith) (no-table (worldOf (lent .g) (lent .air .now) (lent .tracers .now)) (tested .fits) (lent .table .now) (tested .lentFit) (sym (c .before .table-fits .ensures) ∙ c .if2 .left))
+    let no : tie.Else2 = search in
+    let common : tie.Then1 = search in
+    stop (own-left (passed common) refl) (fails (no .before .table-fits .ensures) (no .if2 .left)) (c .not-placed2 .ensures) refl
+
+-- the table fits
+table-fit : (c : tie.Then2) → let s : tie.Start = search in tableFits (s .args .g .k) (s .args .table .now) ≡ true
+table-fit c = sym (c .before .table-fits .ensures) ∙ c .if2 .taken
+
+past-table : (c : tie.Then2) → let s : tie.Start = search in Left (world s) (Like (world s) (call s)) (fromServing (s .args .table .now))
+past-table c =
+    let common : tie.Then1 = search in
+    next (own-left (passed common) refl) (fits (c .before .table-fits .ensures) (c .if2 .taken))
 
 layer-cells-requires : tie.Need-layer-cells-requires
 layer-cells-requires c κs =
-    let start = c .before .before .before .before .before .before .before .before .before in
-    let common-places = c .before .before .before .before .before .common-places in
-    let number = c .before .before .before .before .number in
-    in-range (start .args .g) ((common-places .ensures .passed (sym (number .ensures) ∙ c .before .before .before .if1 .taken)) .fits .grid)
+    let common : tie.Then1 = search in
+    in-range _ (passed common .fits .grid)
 
 cast-cells : tie.Need-cast-cells
 cast-cells c = search needs
 
 columns-serve-requires : tie.Need-columns-serve-requires
 columns-serve-requires c κs =
-    let start = c .before .before .before .before .before .before .before .before .before .before in
-    let common-places = c .before .before .before .before .before .before .common-places in
-    let number = c .before .before .before .before .before .number in
-    let lent = start .args in
-    let tested = common-places .ensures .passed (sym (number .ensures) ∙ c .before .before .before .before .if1 .taken) in
-    columns-need (lent .g) (lent .air .now) (lent .tracers .now) (lent .table .now) _ (c .layer-cells .ensures .0) (c .layer-cells .ensures .1) (tested .fits) (tested .lentFit) (sym (c .before .before .table-fits .ensures) ∙ c .before .if2 .taken)
+    let table : tie.Then2 = search in
+    let common : tie.Then1 = search in
+    let s : tie.Start = search in
+    columns-need (world s) (c .layer-cells .ensures .0) (passed common .fits) (pairs common) (table-fit table)
+
+not-placed-requires-3 : tie.Need-not-placed-requires-3
+not-placed-requires-3 c κs = search needs
 
 returns-3 : tie.Need-returns-3
 returns-3 c =
-    let before-call = c .before .before .before .before .before .before .before .before .before .before .before .before in
-    let common-places-call = c .before .before .before .before .before .before .before .before .common-places in
-    let start = before-call in
-    let common-places = common-places-call in
-    let number = c .before .before .before .before .before .before .before .number in
-    let table-fits = c .before .before .before .before .table-fits in
-    let layer-cells = c .before .before .layer-cells in
-    let lent = start .args in
-    let tested = common-places .ensures .passed (sym (number .ensures) ∙ c .before .before .before .before .before .before .if1 .taken) in
-    place-refused (worldOf (lent .g) (lent .air .now) (lent .tracers .now)) (lent .table .now) Remap (λ z. omega arith) (not-serving (worldOf (lent .g) (lent .air .now) (lent .tracers .now)) (tested .fits) (lent .table .now) (tested .lentFit) (sym (table-fits .ensures) ∙ c .before .before .before .if2 .taken) (sym (serves-is (lent .g) (lent .air .now) (lent .tracers .now) (lent .table .now) _ (layer-cells .ensures .0) (layer-cells .ensures .1) (tested .fits) (tested .lentFit) (sym (table-fits .ensures) ∙ c .before .before .before .if2 .taken) _ _ (c .before .columns-serve .ensures)) ∙ c .if3 .left))
+    let no : tie.Else3 = search in
+    let served : tie.After-columns-serve = search in
+    let cells : tie.After-layer-cells = search in
+    let table : tie.Then2 = search in
+    let common : tie.Then1 = search in
+    let s : tie.Start = search in
+    let serves = serves-is (world s) (cells .layer-cells .ensures .0) (served .columns-serve .ensures) in
+    stop (past-table table) (fails serves (no .if3 .left)) (c .not-placed3 .ensures) refl
 
 returns-4 : tie.Need-returns-4
 returns-4 c =
-    let before-call = c .before .before .before .before .before .before .before .before .before .before .before .before in
-    let common-places-call = c .before .before .before .before .before .before .before .before .common-places in
-    let start = before-call in
-    let common-places = common-places-call in
-    let number = c .before .before .before .before .before .before .before .number in
-    let table-fits = c .before .before .before .before .table-fits in
-    let layer-cells = c .before .before .layer-cells in
-    let lent = start .args in
-    place-found (worldOf (lent .g) (lent .air .now) (lent .tracers .now)) (lent .table .now) _
+    let served : tie.After-columns-serve = search in
+    let cells : tie.After-layer-cells = search in
+    let table : tie.Then2 = search in
+    let common : tie.Then1 = search in
+    let s : tie.Start = search in
+    let same = cells .layer-cells .ensures .0 in
+    let serves = serves-is (world s) same (served .columns-serve .ensures) in
+    placed refl
     record {
-      fits = (common-places .ensures .passed (sym (number .ensures) ∙ c .before .before .before .before .before .before .if1 .taken)) .fits;
-      pairs = eqb-true _ _ ((common-places .ensures .passed (sym (number .ensures) ∙ c .before .before .before .before .before .before .if1 .taken)) .lentFit);
-      tableFit = (sym (table-fits .ensures) ∙ c .before .before .before .if2 .taken);
-      counted = count-is (start .args .g) (start .args .air .now) (start .args .tracers .now) (start .args .table .now) _ (layer-cells .ensures .0) (layer-cells .ensures .1) ((common-places .ensures .passed (sym (number .ensures) ∙ c .before .before .before .before .before .before .if1 .taken)) .fits) ((common-places .ensures .passed (sym (number .ensures) ∙ c .before .before .before .before .before .before .if1 .taken)) .lentFit) (sym (table-fits .ensures) ∙ c .before .before .before .if2 .taken) _ _ (c .before .columns-serve .ensures) (c .if3 .taken);
-      accepting = remap-accepted (worldOf (start .args .g) (start .args .air .now) (start .args .tracers .now)) ((common-places .ensures .passed (sym (number .ensures) ∙ c .before .before .before .before .before .before .if1 .taken)) .fits) (start .args .table .now) ((common-places .ensures .passed (sym (number .ensures) ∙ c .before .before .before .before .before .before .if1 .taken)) .lentFit) (sym (table-fits .ensures) ∙ c .before .before .before .if2 .taken) (sym (serves-is (start .args .g) (start .args .air .now) (start .args .tracers .now) (start .args .table .now) _ (layer-cells .ensures .0) (layer-cells .ensures .1) ((common-places .ensures .passed (sym (number .ensures) ∙ c .before .before .before .before .before .before .if1 .taken)) .fits) ((common-places .ensures .passed (sym (number .ensures) ∙ c .before .before .before .before .before .before .if1 .taken)) .lentFit) (sym (table-fits .ensures) ∙ c .before .before .before .if2 .taken) _ _ (c .before .columns-serve .ensures)) ∙ c .if3 .taken);
+      left = next (past-table table) (fits serves (c .if3 .taken));
+      fits = passed common .fits;
+      pairs = pairs common;
+      tableFit = table-fit table;
+      counted = count-is (world s) same (served .columns-serve .ensures) (c .if3 .taken);
     }
 
 pub remap-place-spec : {M : Type 1} → statement M
@@ -99,12 +128,15 @@ remap-place-spec =
     (tie.spec
     common-places-requires
     number-requires
+    not-placed-requires
     returns
     cast-k
     table-fits-requires
+    not-placed-requires-2
     returns-2
     layer-cells-requires
     cast-cells
     columns-serve-requires
+    not-placed-requires-3
     returns-3
     returns-4)

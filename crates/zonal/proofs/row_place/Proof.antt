@@ -1,20 +1,31 @@
 -- `zonal::row_place` meets its contract: each answer from the tests that led there.
--- Assumes nothing.
-use Prim.Native.Nat.{_+_, _≤_}
-use mathlib.Core.Bool.{not}
-use mathlib.Core.Path.{_≡_, refl, sym, ap, _∙_}
+use Prim.Native.Nat.{ℕ}
+use mathlib.Core.List.{List}
+use mathlib.Core.Path.{_≡_, refl, sym, _∙_}
 use native.Mathlib.Omega.{arith}
 use borrow.Author.Tests.{eqb-true, eq-eqb, ne-eqb}
+use lib.IntN.{ℤ}
 use lib.ListN.{length}
-use Rattle.model.specs.Step.{zonalCount}
+use Rattle.model.specs.World.{World}
+use Rattle.model.specs.Step.{Call, Place, zonal, zonalCount}
 use Rattle.units.specs.Grid.{worldOf, in-range}
-use Rattle.units.specs.declared.Refusal.the-variants.{Index, Fluxes, Zonal}
-use Rattle.units.specs.Agrees.{own-left, next, stop, there, missing, placed-refused, placed-found}
-use Rattle.places.specs.Tested.{placed-common}
-use Rattle.zonal.specs.Calls.{rowPlaces, row-lent-need, count-found}
+use Rattle.places.specs.declared.Lent.the-variants.{RowFluxes}
+use Rattle.places.specs.Walk.{Left, Like, next, stop, placed, there, missing, fits, fails}
+use Rattle.places.specs.Tested.{Passed, own-left, common-placed}
+use Rattle.zonal.specs.RowPlace.{fromRow, fromFluxes, fromCount, RowAt, row-in-air, row-need, count-found}
 use borrow.Author.Needs.{needs}
 use Rattle.zonal.proofs.row_place.Statement.{statement}
 use Rattle.zonal.proofs.row_place.Tie as tie
+
+abbrev world : tie.Start → World
+world s = worldOf (s .args .g) (s .args .air .now) (s .args .tracers .now)
+
+abbrev call : tie.Start → Call
+call s = zonal (s .args .layer) (s .args .row) (s .args .fluxes .now)
+
+abbrev LeftAt : tie.Start → (ℕ → ℕ → List ℤ → List Place) → Type 0
+LeftAt s from =
+    Left (world s) (Like (world s) (call s)) (from (s .args .layer) (s .args .row) (s .args .fluxes .now))
 
 common-places-requires : tie.Need-common-places-requires
 common-places-requires c κs = search needs
@@ -22,54 +33,89 @@ common-places-requires c κs = search needs
 number-requires : tie.Need-number-requires
 number-requires c κs = search needs
 
-no-row-requires : tie.Need-no-row-requires
-no-row-requires c κs = search needs
+not-placed-requires : tie.Need-not-placed-requires
+not-placed-requires c κs = search needs
 
 returns : tie.Need-returns
-returns c = placed-common (c .before .before .before .common-places .ensures) (λ z. omega (arith, c .before .before .number .ensures)) (c .no-row .ensures)
+returns c =
+    let tested : tie.After-common-places = search needs in
+    let no : tie.Else1 = search needs in
+    common-placed (tested .common-places .ensures) (λ z. no .if1 .left (no .before .number .ensures ∙ z)) refl (c .not-placed .ensures)
 
-no-row-requires-2 : tie.Need-no-row-requires-2
-no-row-requires-2 c κs = search needs
+-- places 1 to 4 are passed
+passed : (c : tie.Then1) →
+    let s : tie.Start = search needs in
+    let tested : tie.After-common-places = search needs in
+    Passed (world s) (RowFluxes (length (s .args .fluxes .now))) (tested .common-places .result)
+passed c =
+    let tested : tie.After-common-places = search needs in
+    tested .common-places .ensures .found (sym (c .before .number .ensures) ∙ c .if1 .taken)
+
+not-placed-requires-2 : tie.Need-not-placed-requires-2
+not-placed-requires-2 c κs = search needs
 
 returns-2 : tie.Need-returns-2
 returns-2 c =
-    let args = c .before .before .before .before .before .before .before .before .args in
-    let w = worldOf (args .g) (args .air .now) (args .tracers .now) in
-    let passed = c .before .before .before .before .before .common-places .ensures .passed (sym (c .before .before .before .before .number .ensures) ∙ c .before .before .before .if1 .taken) in
-    let left = own-left (rowPlaces (args .layer) (args .row) (args .fluxes .now)) (passed .fits) (passed .lentFit) in
-    placed-refused Index (λ z. omega arith) (c .no-row2 .ensures) (λ call rest asks. missing _ (λ g. g .K) (left call rest asks) (search needs))
+    let common : tie.Then1 = search needs in
+    let no : tie.Else2 = search needs in
+    stop (own-left (passed common) refl) (missing (no .if2 .left)) (c .not-placed2 .ensures) refl
 
-no-row-requires-3 : tie.Need-no-row-requires-3
-no-row-requires-3 c κs = search needs
+-- the layer is there
+past-layer : (c : tie.Then2) → let s : tie.Start = search needs in LeftAt s fromRow
+past-layer c =
+    let common : tie.Then1 = search needs in
+    next (own-left (passed common) refl) (there (c .if2 .taken))
+
+not-placed-requires-3 : tie.Need-not-placed-requires-3
+not-placed-requires-3 c κs = search needs
 
 returns-3 : tie.Need-returns-3
 returns-3 c =
-    let args = c .before .before .before .before .before .before .before .before .before .before .args in
-    let w = worldOf (args .g) (args .air .now) (args .tracers .now) in
-    let passed = c .before .before .before .before .before .before .before .common-places .ensures .passed (sym (c .before .before .before .before .before .before .number .ensures) ∙ c .before .before .before .before .before .if1 .taken) in
-    let left = own-left (rowPlaces (args .layer) (args .row) (args .fluxes .now)) (passed .fits) (passed .lentFit) in
-    placed-refused Index (λ z. omega arith) (c .no-row3 .ensures) (λ call rest asks. missing _ (λ g. g .R) (there _ (λ g. g .K) (left call rest asks) (search needs)) (search needs))
+    let layer : tie.Then2 = search needs in
+    let no : tie.Else3 = search needs in
+    stop (past-layer layer) (missing (no .if3 .left)) (c .not-placed3 .ensures) refl
+
+-- the row is there
+past-row : (c : tie.Then3) → let s : tie.Start = search needs in LeftAt s fromFluxes
+past-row c =
+    let layer : tie.Then2 = search needs in
+    next (past-layer layer) (there (c .if3 .taken))
 
 fluxes-fit-requires : tie.Need-fluxes-fit-requires
 fluxes-fit-requires c κs = search needs
 
-no-row-requires-4 : tie.Need-no-row-requires-4
-no-row-requires-4 c κs = search needs
+not-placed-requires-4 : tie.Need-not-placed-requires-4
+not-placed-requires-4 c κs = search needs
 
 returns-4 : tie.Need-returns-4
 returns-4 c =
-    let args = c .before .before .before .before .before .before .before .before .before .before .before .before .args in
-    let w = worldOf (args .g) (args .air .now) (args .tracers .now) in
-    let passed = c .before .before .before .before .before .before .before .before .before .common-places .ensures .passed (sym (c .before .before .before .before .before .before .before .before .number .ensures) ∙ c .before .before .before .before .before .before .before .if1 .taken) in
-    let left = own-left (rowPlaces (args .layer) (args .row) (args .fluxes .now)) (passed .fits) (passed .lentFit) in
-    placed-refused Fluxes (λ z. omega arith) (c .no-row4 .ensures) (λ call rest asks. stop (there _ (λ g. g .R) (there _ (λ g. g .K) (left call rest asks) (search needs)) (search needs)) (ap not (sym (c .before .before .fluxes-fit .ensures) ∙ c .before .if4 .left)))
+    let row : tie.Then3 = search needs in
+    let no : tie.Else4 = search needs in
+    stop (past-row row) (fails (no .before .fluxes-fit .ensures) (no .if4 .left)) (c .not-placed4 .ensures) refl
+
+-- the fluxes fit
+past-fluxes : (c : tie.Then4) → let s : tie.Start = search needs in LeftAt s fromCount
+past-fluxes c =
+    let row : tie.Then3 = search needs in
+    next (past-row row) (fits (c .before .fluxes-fit .ensures) (c .if4 .taken))
 
 row-start-requires : tie.Need-row-start-requires
 row-start-requires c κs =
-    let args = c .before .before .before .before .before .before .before .before .before .before .before .args in
-    let w = worldOf (args .g) (args .air .now) (args .tracers .now) in
-    let passed = c .before .before .before .before .before .before .before .before .common-places .ensures .passed (sym (c .before .before .before .before .before .before .before .number .ensures) ∙ c .before .before .before .before .before .before .if1 .taken) in
-    record { range = in-range (args .g) (passed .fits .grid); layer = search needs; row = search needs }
+    let common : tie.Then1 = search needs in
+    let s : tie.Start = search needs in
+    let range = in-range (s .args .g) (passed common .fits .grid) in
+    record { range = range; layer = omega (arith, range .lowK); row = search needs }
+
+row-at : (c : tie.After-row-start) → let s : tie.Start = search needs in RowAt (world s) (s .args .layer) (s .args .row) (s .args .fluxes .now) (c .row-start .result)
+row-at c =
+    let s : tie.Start = search needs in
+    let common : tie.Then1 = search needs in
+    record {
+      fits = passed common .fits;
+      long = eqb-true (length (s .args .fluxes .now)) (s .args .g .w) (passed common .lentFit);
+      start = c .row-start .ensures .0;
+      inside = c .row-start .ensures .1;
+    }
 
 cast-first : tie.Need-cast-first
 cast-first c = search needs
@@ -91,63 +137,46 @@ part-count-start c = search needs
 
 part-count-end : tie.Need-part-count-end
 part-count-end c =
-    let start = c .before .before .before .before .before .before .before .before .before .before .before .before .before in
-    let common-places = c .before .before .before .before .before .before .before .before .before .before .common-places in
-    let number = c .before .before .before .before .before .before .before .before .before .number in
-    let args = start .args in
-    let w = worldOf (args .g) (args .air .now) (args .tracers .now) in
-    let passed = common-places .ensures .passed (sym (number .ensures) ∙ c .before .before .before .before .before .before .before .before .if1 .taken) in
-    omega (arith, c .before .row-start .ensures .1, passed .fits .airLength)
+    let row : tie.After-row-start = search needs in
+    row-in-air (row-at row)
 
 count-requires : tie.Need-count-requires
 count-requires c κs =
-    let args = c .before .before .before .before .before .before .before .before .before .before .before .before .before .before .args in
-    let w = worldOf (args .g) (args .air .now) (args .tracers .now) in
-    let passed = c .before .before .before .before .before .before .before .before .before .before .before .common-places .ensures .passed (sym (c .before .before .before .before .before .before .before .before .before .before .number .ensures) ∙ c .before .before .before .before .before .before .before .before .before .if1 .taken) in
-    let start = c .before .before .row-start .ensures in
-    let long = eqb-true (length (args .fluxes .now)) (args .g .w) (passed .lentFit) in
-    let inside : c .before .before .row-start .result + args .g .w ≤ length (args .air .now) = omega (arith, start .1, passed .fits .airLength) in
-    row-lent-need w (args .layer) (args .row) (args .fluxes .now) long _ (start .0) inside (in-range (args .g) (passed .fits .grid) .highW)
+    let row : tie.After-row-start = search needs in
+    row-need (row-at row)
 
-no-row-requires-5 : tie.Need-no-row-requires-5
-no-row-requires-5 c κs = search needs
+counted : (c : tie.After-count) → let s : tie.Start = search needs in c .count .result ≡ zonalCount (world s) (s .args .layer) (s .args .row) (s .args .fluxes .now)
+counted c =
+    let row : tie.After-row-start = search needs in
+    c .count .ensures .is ∙ count-found (row-at row)
+
+not-placed-requires-5 : tie.Need-not-placed-requires-5
+not-placed-requires-5 c κs = search needs
 
 returns-5 : tie.Need-returns-5
 returns-5 c =
-    let args = c .before .before .before .before .before .before .before .before .before .before .before .before .before .before .before .before .before .args in
-    let w = worldOf (args .g) (args .air .now) (args .tracers .now) in
-    let passed = c .before .before .before .before .before .before .before .before .before .before .before .before .before .before .common-places .ensures .passed (sym (c .before .before .before .before .before .before .before .before .before .before .before .before .before .number .ensures) ∙ c .before .before .before .before .before .before .before .before .before .before .before .before .if1 .taken) in
-    let left = own-left (rowPlaces (args .layer) (args .row) (args .fluxes .now)) (passed .fits) (passed .lentFit) in
-    let start = c .before .before .before .before .before .row-start .ensures in
-    let long = eqb-true (length (args .fluxes .now)) (args .g .w) (passed .lentFit) in
-    let inside : c .before .before .before .before .before .row-start .result + args .g .w ≤ length (args .air .now) = omega (arith, start .1, passed .fits .airLength) in
-    let counted = c .before .before .count .ensures .is ∙ count-found w (args .layer) (args .row) (args .fluxes .now) long _ (start .0) inside in
-    placed-refused Zonal (λ z. omega arith) (c .no-row5 .ensures) (λ call rest asks. stop (next (there _ (λ g. g .R) (there _ (λ g. g .K) (left call rest asks) (search needs)) (search needs)) (ap not (sym (c .before .before .before .before .before .before .before .fluxes-fit .ensures) ∙ c .before .before .before .before .before .before .if4 .taken))) (eq-eqb _ _ (sym counted ∙ omega arith)))
+    let fluxes : tie.Then4 = search needs in
+    let count : tie.After-count = search needs in
+    stop (past-fluxes fluxes) (eq-eqb _ _ (sym (counted count) ∙ omega arith)) (c .not-placed5 .ensures) refl
+
+cast-found : tie.Need-cast-found
+cast-found c = search needs
 
 returns-6 : tie.Need-returns-6
 returns-6 c =
-    let args = c .before .before .before .before .before .before .before .before .before .before .before .before .before .before .before .before .args in
-    let w = worldOf (args .g) (args .air .now) (args .tracers .now) in
-    let passed = c .before .before .before .before .before .before .before .before .before .before .before .before .before .common-places .ensures .passed (sym (c .before .before .before .before .before .before .before .before .before .before .before .before .number .ensures) ∙ c .before .before .before .before .before .before .before .before .before .before .before .if1 .taken) in
-    let left = own-left (rowPlaces (args .layer) (args .row) (args .fluxes .now)) (passed .fits) (passed .lentFit) in
-    let start = c .before .before .before .before .row-start .ensures in
-    let long = eqb-true (length (args .fluxes .now)) (args .g .w) (passed .lentFit) in
-    let inside : c .before .before .before .before .row-start .result + args .g .w ≤ length (args .air .now) = omega (arith, start .1, passed .fits .airLength) in
-    let counted = c .before .count .ensures .is ∙ count-found w (args .layer) (args .row) (args .fluxes .now) long _ (start .0) inside in
-    placed-found refl (
-      record {
-        fits = passed .fits;
-        long = long;
-        layerIn = search needs;
-        rowIn = search needs;
-        start = start .0;
-        countIs = counted;
-        some = search needs;
-        most = c .before .count .ensures .most;
-      },
-      refl,
-    )
-    (λ call rest asks. next (next (there _ (λ g. g .R) (there _ (λ g. g .K) (left call rest asks) (search needs)) (search needs)) (ap not (sym (c .before .before .before .before .before .before .fluxes-fit .ensures) ∙ c .before .before .before .before .before .if4 .taken))) (ne-eqb _ _ (λ (z : zonalCount w (args .layer) (args .row) (args .fluxes .now) ≡ 0). omega (arith, counted))))
+    let s : tie.Start = search needs in
+    let fluxes : tie.Then4 = search needs in
+    let row : tie.After-row-start = search needs in
+    let count : tie.After-count = search needs in
+    let some = ne-eqb _ _ (λ (z : zonalCount (world s) (s .args .layer) (s .args .row) (s .args .fluxes .now) ≡ 0). omega (arith, counted count)) in
+    placed refl
+    record {
+      left = next (past-fluxes fluxes) some;
+      row = row-at row;
+      count = counted count;
+      most = count .count .ensures .most;
+      answered = refl;
+    }
 
 pub row-place-spec : {M : Type 1} → statement M
 row-place-spec =
@@ -155,14 +184,14 @@ row-place-spec =
     (tie.spec
     common-places-requires
     number-requires
-    no-row-requires
+    not-placed-requires
     returns
-    no-row-requires-2
+    not-placed-requires-2
     returns-2
-    no-row-requires-3
+    not-placed-requires-3
     returns-3
     fluxes-fit-requires
-    no-row-requires-4
+    not-placed-requires-4
     returns-4
     row-start-requires
     cast-first
@@ -173,6 +202,7 @@ row-place-spec =
     part-count-start
     part-count-end
     count-requires
-    no-row-requires-5
+    not-placed-requires-5
     returns-5
+    cast-found
     returns-6)

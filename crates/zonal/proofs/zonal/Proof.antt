@@ -1,12 +1,10 @@
 -- `zonal::zonal` meets its contract: the row found by `row_place`, swept in the air and in all tracers.
--- Assumes nothing.
-use mathlib.Core.Path.{refl, sym, _∙_}
+use mathlib.Core.Path.{sym, _∙_}
 use native.Mathlib.Omega.{arith}
-use mathlib.Core.List.{[]}
-use Rattle.model.specs.Step.{zonal}
-use Rattle.units.specs.Agrees.{none}
-use Rattle.zonal.specs.Calls.{zonal-places}
-use Rattle.zonal.specs.World.{row-near, row-in-air, row-ready, zonal-agrees}
+use Rattle.units.specs.Grid.{worldOf}
+use Rattle.places.specs.Walk.{itself, refuses}
+use Rattle.zonal.specs.RowPlace.{RowFound, row-near, row-in-air}
+use Rattle.zonal.specs.RowSwept.{row-ready, zonal-agrees}
 use borrow.Author.Needs.{needs}
 use Rattle.zonal.proofs.zonal.Statement.{statement}
 use Rattle.zonal.proofs.zonal.Tie as tie
@@ -25,29 +23,34 @@ same-length-2 c = search needs
 
 returns : tie.Need-returns
 returns c =
-    let a = c .before .before .before .before .before .before .before .args in
-    c .before .before .row-place .ensures .refused (λ z. omega (arith, c .before .number .ensures)) (zonal (a .layer) (a .row) (a .fluxes .now)) [] (refl, zonal-places _ _ _)
+    let place : tie.After-row-place = search needs in
+    refuses (place .row-place .ensures) (λ z. c .if1 .left (c .before .number .ensures ∙ z)) itself
+
+found : (c : tie.Then1) →
+    let s : tie.Start = search needs in
+    let place : tie.After-row-place = search needs in
+    RowFound (worldOf (s .args .g) (s .args .air .now) (s .args .tracers .now)) (s .args .layer) (s .args .row) (s .args .fluxes .now) (place .row-place .result)
+found c =
+    let place : tie.After-row-place = search needs in
+    place .row-place .ensures .found (sym (c .before .number .ensures) ∙ c .if1 .taken)
+
+cast-substeps : tie.Need-cast-substeps
+cast-substeps c =
+    let accepted : tie.Then1 = search needs in
+    omega (arith, found accepted .most)
 
 cast-end : tie.Need-cast-end
 cast-end c = search needs
 
 add-end : tie.Need-add-end
 add-end c =
-    let a = c .before .before .before .before .before .before .before .before .args in
-    let z = (sym (c .before .before .number .ensures) ∙ c .before .if1 .taken) in
-    let placed = c .before .before .before .row-place .ensures in
-    let found = placed .found z .0 in
-    let accepting = none (placed .left z (zonal (a .layer) (a .row) (a .fluxes .now)) [] (refl, zonal-places _ _ _)) in
-    omega (arith, row-near (a .g) (a .air .now) (a .tracers .now) (a .layer) (a .row) (a .fluxes .now) _ _ found accepting)
+    let accepted : tie.Then1 = search needs in
+    omega (arith, row-near (found accepted .row))
 
 mul-sweep-row : tie.Need-mul-sweep-row
 mul-sweep-row c =
-    let a = c .before .before .before .before .before .before .before .before .args in
-    let z = (sym (c .before .before .number .ensures) ∙ c .before .if1 .taken) in
-    let placed = c .before .before .before .row-place .ensures in
-    let found = placed .found z .0 in
-    let accepting = none (placed .left z (zonal (a .layer) (a .row) (a .fluxes .now)) [] (refl, zonal-places _ _ _)) in
-    omega (arith, row-near (a .g) (a .air .now) (a .tracers .now) (a .layer) (a .row) (a .fluxes .now) _ _ found accepting)
+    let accepted : tie.Then1 = search needs in
+    omega (arith, row-near (found accepted .row))
 
 sub-sweep-row : tie.Need-sub-sweep-row
 sub-sweep-row c = search needs
@@ -57,21 +60,13 @@ part-sweep-row-start c = search needs
 
 part-sweep-row-end : tie.Need-part-sweep-row-end
 part-sweep-row-end c =
-    let a = c .before .before .before .before .before .before .before .before .args in
-    let z = (sym (c .before .before .number .ensures) ∙ c .before .if1 .taken) in
-    let placed = c .before .before .before .row-place .ensures in
-    let found = placed .found z .0 in
-    let accepting = none (placed .left z (zonal (a .layer) (a .row) (a .fluxes .now)) [] (refl, zonal-places _ _ _)) in
-    row-in-air (a .g) (a .air .now) (a .tracers .now) (a .layer) (a .row) (a .fluxes .now) _ _ found accepting
+    let accepted : tie.Then1 = search needs in
+    row-in-air (found accepted .row)
 
 sweep-row-requires : tie.Need-sweep-row-requires
 sweep-row-requires c κs =
-    let a = c .before .before .before .before .before .before .before .before .before .before .args in
-    let z = (sym (c .before .before .before .before .number .ensures) ∙ c .before .before .before .if1 .taken) in
-    let placed = c .before .before .before .before .before .row-place .ensures in
-    let found = placed .found z .0 in
-    let accepting = none (placed .left z (zonal (a .layer) (a .row) (a .fluxes .now)) [] (refl, zonal-places _ _ _)) in
-    row-ready (a .g) (a .air .now) (a .tracers .now) (a .layer) (a .row) (a .fluxes .now) _ _ found accepting
+    let accepted : tie.Then1 = search needs in
+    row-ready (found accepted)
 
 same-length-3 : tie.Need-same-length-3
 same-length-3 c = search needs
@@ -81,15 +76,9 @@ same-length-4 c = search needs
 
 returns-2 : tie.Need-returns-2
 returns-2 c =
-    let start = c .before .before .before .before .before .before .before .before .before .before .before .before .before .before .before in
-    let row-place-call = c .before .before .before .before .before .before .before .before .before .before .row-place in
-    let number-call = c .before .before .before .before .before .before .before .before .before .number in
-    let a = start .args in
-    let z = (sym (number-call .ensures) ∙ c .before .before .before .before .before .before .before .before .if1 .taken) in
-    let placed = row-place-call .ensures in
-    let found = placed .found z .0 in
-    let accepting = none (placed .left z (zonal (a .layer) (a .row) (a .fluxes .now)) [] (refl, zonal-places _ _ _)) in
-    zonal-agrees (a .g) (a .air .now) (a .tracers .now) (a .layer) (a .row) (a .fluxes .now) _ _ found accepting _ _ (c .before .before .before .before .sweep-row .ensures) _ refl refl
+    let accepted : tie.Then1 = search needs in
+    let swept : tie.After-sweep-row = search needs in
+    zonal-agrees (found accepted) (swept .sweep-row .ensures)
 
 pub zonal-spec : {M : Type 1} → statement M
 zonal-spec =
@@ -100,6 +89,7 @@ zonal-spec =
     same-length
     same-length-2
     returns
+    cast-substeps
     cast-end
     add-end
     mul-sweep-row

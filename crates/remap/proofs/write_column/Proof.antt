@@ -1,14 +1,14 @@
--- `remap::store` meets its contract. The loop's invariant: the cells passed are written.
--- Assumes nothing.
-use Prim.Native.Nat.{_-_, _≤_}
+-- `remap::write_column` meets its contract. The loop's invariant: the cells passed are written.
+use Prim.Native.Nat.{_+_, _*_, _-_, _≤_, _<_}
 use mathlib.Core.Path.{_≡_, sym, ap, _∙_}
 use native.Mathlib.Omega.{arith}
 use lib.ListN.{length}
+use Rattle.model.specs.Limits.{mostCells}
 use Rattle.model.specs.Basic.{at}
 use Rattle.remap.specs.Columns.{cell-room, columnSet, set-none, set-more}
 use borrow.Author.Needs.{needs}
-use Rattle.remap.proofs.store.Statement.{statement}
-use Rattle.remap.proofs.store.Tie as tie
+use Rattle.remap.proofs.write_column.Statement.{statement}
+use Rattle.remap.proofs.write_column.Tie as tie
 
 abbrev Inv-loop : tie.InvT-loop
 Inv-loop column list₀ c cells k i₀ list i = (i ≤ k) × (length list ≡ length list₀) × (list ≡ columnSet cells list₀ c (at column) i)
@@ -25,17 +25,35 @@ mul-list c = search needs
 shared-slice-read-list : tie.Need-shared-slice-read-list Inv-loop μ-loop
 shared-slice-read-list c = search needs
 
+-- the cell that is written next
+next-cell : (c : tie.In-loop Inv-loop μ-loop) →
+    let at-loop : tie.At-loop Inv-loop μ-loop = search in
+    let start : tie.Start Inv-loop μ-loop = search in
+    let cell = at-loop .loop .i * start .args .cells + start .args .c in
+    (cell < length (start .args .list .now)) × (cell < mostCells)
+next-cell c =
+    let start : tie.Start Inv-loop μ-loop = search in
+    cell-room (start .pre .0) (c .loop-test .taken)
+
 mul-list-2 : tie.Need-mul-list-2 Inv-loop μ-loop
-mul-list-2 c = omega (arith, cell-room (c .before .before .before .pre .0) (c .before .before .loop .i) (omega arith) .1)
+mul-list-2 c =
+    let turn : tie.In-loop Inv-loop μ-loop = search in
+    omega (arith, next-cell turn .1)
 
 add-list : tie.Need-add-list Inv-loop μ-loop
-add-list c = omega (arith, cell-room (c .before .before .before .pre .0) (c .before .before .loop .i) (omega arith) .1)
+add-list c =
+    let turn : tie.In-loop Inv-loop μ-loop = search in
+    omega (arith, next-cell turn .1)
 
 mul-list-3 : tie.Need-mul-list-3 Inv-loop μ-loop
-mul-list-3 c = omega (arith, cell-room (c .before .before .before .pre .0) (c .before .before .loop .i) (omega arith) .1)
+mul-list-3 c =
+    let turn : tie.In-loop Inv-loop μ-loop = search in
+    omega (arith, next-cell turn .1)
 
 slice-write-list : tie.Need-slice-write-list Inv-loop μ-loop
-slice-write-list c = omega (arith, cell-room (c .before .before .before .pre .0) (c .before .before .loop .i) (omega arith) .0)
+slice-write-list c =
+    let turn : tie.In-loop Inv-loop μ-loop = search in
+    omega (arith, next-cell turn .0)
 
 add-i : tie.Need-add-i Inv-loop μ-loop
 add-i c = search needs
@@ -62,8 +80,8 @@ returns c =
     let done : l .i ≡ a .k = omega arith in
     l .inv .2 ∙ ap (columnSet (a .cells) (a .list .now) (a .c) (at (a .column .now))) done
 
-pub store-spec : {M : Type 1} → statement M
-store-spec =
+pub write-column-spec : {M : Type 1} → statement M
+write-column-spec =
     tie.close
     (tie.spec
     Inv-loop

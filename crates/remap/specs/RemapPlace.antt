@@ -1,0 +1,83 @@
+-- A remap's own places in order, what `remap_place` finds, and what the call leaves.
+use Prim.Native.Nat.{ℕ, _+_, _*_}
+use mathlib.Core.List.{List, [], _∷_}
+use mathlib.Core.Bool.{Bool, true, not}
+use mathlib.Core.Path.{_≡_, ap₂}
+use native.Mathlib.Omega.{arith}
+use lib.ListN.{length}
+use Rattle.model.specs.World.{World, layerCells, withAmounts}
+use Rattle.model.specs.Remap.{column, remapServes, remapCount, remapped, remappedAir, remappedGas}
+use Rattle.model.specs.Step.{Place, place, tableFits, remap}
+use Rattle.model.specs.Laws.Grid.{InRange, in-range, layer-cells-most}
+use Rattle.model.specs.Laws.Step.{Fits}
+use Rattle.model.specs.Laws.Remap.{remap-edges}
+use Rattle.units.specs.Answer.{numberOf, countOf, Agrees}
+use Rattle.places.specs.declared.Placed.{Placed}
+use Rattle.places.specs.Walk.{Left, IsPlaced, Like, none, accept}
+use Rattle.remap.specs.Served.{ColumnsNeed, AreServed}
+use Rattle.remap.specs.Moved.{ColumnsAirNeed, airMoved}
+use Rattle.remap.specs.Tracers.{ColumnsTracersNeed, allMoved}
+
+-- the place behind the table: some column's edges do not serve
+abbrev pub fromServing : List ℕ → List Place
+fromServing table = place 12 (λ w. not (remapServes w table)) ∷ []
+
+-- ---- what `remap_place` finds
+pub record ColumnsFound (w : World) (table : List ℕ) (p : Placed) : Type 0 where
+  pub left : Left w (Like w (remap table)) []
+  pub fits : Fits w
+  pub pairs : length table ≡ 2 * (w .grid .K + 1)
+  pub tableFit : tableFits (w .grid .K) table ≡ true
+  pub counted : countOf (p .answer) ≡ remapCount w table
+
+abbrev pub IsRemapPlace : World → List ℕ → Placed → Type 0
+IsRemapPlace w table p = IsPlaced w (Like w (remap table)) (p .answer) (ColumnsFound w table p)
+
+-- ---- the columns of a world
+module _ (w : World) {cells : ℕ} (e : cells ≡ layerCells (w .grid)) {table : List ℕ} where
+  pub columns-need : Fits w → length table ≡ 2 * (w .grid .K + 1) → tableFits (w .grid .K) table ≡ true → ColumnsNeed (w .air) table cells (w .grid .K)
+  columns-need fits pairs tableFit =
+      let range = in-range (w .grid) (fits .grid) in
+      record {
+        some = range .lowK;
+        fit = range .highK;
+        few = rw e (layer-cells-most range);
+        long = rw e (fits .airLength);
+        pairs = pairs;
+        fits = tableFit;
+        airIn = rw e (fits .air);
+      }
+
+  module _ {ok : Bool} {count : ℕ} (served : AreServed (w .air) table cells (w .grid .K) ok count) where
+    pub serves-is : ok ≡ remapServes w table
+    unfolding remapServes column
+    serves-is = rw e at (served .is)
+
+    pub count-is : ok ≡ true → count ≡ remapCount w table
+    unfolding remapCount column
+    count-is h = rw e at (served .counted h)
+
+-- ---- the call, once its places are passed
+module _ {w : World} {table : List ℕ} {p : Placed} (found : ColumnsFound w table p) {cells : ℕ} (e : cells ≡ layerCells (w .grid)) where
+  pub air-need : ColumnsAirNeed (w .air) table cells (w .grid .K)
+  unfolding column
+  air-need =
+      record {
+        some = rw e (omega arith);
+        columns = columns-need w e (found .fits) (found .pairs) (found .tableFit);
+        edges = rw e (remap-edges table w (none (found .left)));
+      }
+
+  pub tracers-need : ColumnsTracersNeed (w .tracers) (w .air) table cells (w .grid .K) (w .grid .N)
+  tracers-need =
+      record {
+        moves = air-need;
+        few = in-range (w .grid) (found .fits .grid) .highN;
+        long = rw e (found .fits .tracersLength);
+        totals = rw e (found .fits .totals);
+      }
+
+  pub remap-agrees : {newAir newTracers : List ℕ} → numberOf (p .answer) ≡ 0 → newAir ≡ airMoved (w .grid .K) cells table (w .air) → newTracers ≡ allMoved (w .grid .N) (w .grid .K) cells table (w .air) (w .tracers) → Agrees w (remap table) (p .answer) (withAmounts w newAir newTracers)
+  unfolding remapped remappedAir remappedGas column
+  remap-agrees zero isAir isTracers =
+      accept (none (found .left)) zero (found .counted) (ap₂ (withAmounts w) (rw e at isAir) (rw e at isTracers))
