@@ -97,7 +97,7 @@ loop-again c =
     let own = column (length (a .amounts .now)) (l .i) (search needs) flow west enters leaves in (
       search needs,
       search needs,
-      moved-more (start .pre .moves) (l .inv .2) own _ (c .amount-after .ensures),
+      moved-more (start .pre .moves) (l .inv .2) own (c .amount-after .ensures),
     )
 
 same-length : tie.Need-same-length Inv-loop μ-loop
