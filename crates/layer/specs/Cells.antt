@@ -49,12 +49,14 @@ pub record IsSum (l : List ℕ) (first w r : ℕ) : Type 0 where
   pub small : r ≤ 309237645240
 
 -- ---- what each cell exchanges
-module _ (w rows : ℕ) (up down : List ℕ) where
-  pub south-cell : {e l : ℕ} → IsSum down 0 w e → IsSum up 0 w l → Cell (layer w rows) (flowOf up down) 0 e l
+module _ (w rows : ℕ) (up down : List ℕ) {e l : ℕ} where
+  pub south-cell : IsSum down 0 w e → IsSum up 0 w l → Cell (layer w rows) (flowOf up down) 0 e l
   unfolding layer leaving
   south-cell enters leaves = record { inside = omega arith; enters = enters .is; leaves = leaves .is }
 
-  pub row-cell : (j : ℕ) → j < rows * w → {e l : ℕ} → e ≡ at up j + at down (w + j) → l ≡ at down j + at up (w + j) → Cell (layer w rows) (flowOf up down) (1 + j) e l
+  pub row-cell :
+      (j : ℕ) → j < rows * w → e ≡ at up j + at down (w + j) → l ≡ at down j + at up (w + j) →
+      Cell (layer w rows) (flowOf up down) (1 + j) e l
   unfolding layer
   row-cell j h enters leaves =
       record {
@@ -63,7 +65,7 @@ module _ (w rows : ℕ) (up down : List ℕ) where
         leaves = leaves ∙ sym (leaving-inner w rows (flowOf up down) j h);
       }
 
-  pub north-cell : {e l : ℕ} → IsSum up (rows * w) w e → IsSum down (rows * w) w l → Cell (layer w rows) (flowOf up down) (1 + rows * w) e l
+  pub north-cell : IsSum up (rows * w) w e → IsSum down (rows * w) w l → Cell (layer w rows) (flowOf up down) (1 + rows * w) e l
   unfolding layer
   north-cell enters leaves =
       record {
@@ -87,9 +89,13 @@ every-cell n p =
     ap (λ (b : Bool). b && p (suc n)) (sym (every-first n p)) ∙
     ap (λ (k : ℕ). every k p) (sym cells)
 
-pub allowed-cells : (w rows : ℕ) (flow : Flow) (l : List ℕ) → cellAllowed (layer w rows) flow l 0 && every (rows * w) (λ j. cellAllowed (layer w rows) flow l (1 + j)) && cellAllowed (layer w rows) flow l (1 + rows * w) ≡ allowed (layer w rows) flow l
-unfolding allowed layer
-allowed-cells w rows flow l = every-cell (rows * w) (cellAllowed (layer w rows) flow l)
+module _ (w rows : ℕ) (flow : Flow) (l : List ℕ) where
+  abbrev allows : ℕ → Bool
+  allows = cellAllowed (layer w rows) flow l
+
+  pub allowed-cells : allows 0 && every (rows * w) (λ j. allows (1 + j)) && allows (1 + rows * w) ≡ allowed (layer w rows) flow l
+  unfolding allowed layer
+  allowed-cells = every-cell (rows * w) allows
 
 -- ---- amounts of which the first c cells are passed on already
 pub record Begun (mesh : Mesh) (flow : Flow) (l : List ℕ) (c : ℕ) : Type 0 where
@@ -101,6 +107,7 @@ pub record Begun (mesh : Mesh) (flow : Flow) (l : List ℕ) (c : ℕ) : Type 0 w
 abbrev pub MovedOn : Mesh → Flow → List ℕ → ℕ → List ℕ → ℕ → Type 0
 MovedOn mesh flow l c after d = (b : Begun mesh flow l c) → Moved mesh flow (b .first) after d
 
-abbrev pub begin : {mesh : Mesh} {flow : Flow} {l : List ℕ} {e o : ℕ} → Moves mesh flow l → Cell mesh flow 0 e o → (x : ℕ) → x ≡ at l 0 + e - o → Begun mesh flow (set l 0 x) 1
-begin {mesh} {flow} {l} moves cell x is =
-    record { first = l; moves = moves; moved = moved-more moves (moved-none moves) cell x is }
+abbrev pub begin :
+    {mesh : Mesh} {flow : Flow} {l : List ℕ} {e o x : ℕ} →
+    Moves mesh flow l → Cell mesh flow 0 e o → x ≡ at l 0 + e - o → Begun mesh flow (set l 0 x) 1
+begin {l = l} moves cell is = record { first = l; moves = moves; moved = moved-more moves (moved-none moves) cell is }

@@ -9,7 +9,7 @@ use borrow.Author.Tests.{le-leb}
 use lib.ListN.{length}
 use Rattle.model.specs.Basic.{at}
 use Rattle.model.specs.Scheme.{plain, mismatch, highPiece, lowPiece}
-use Rattle.model.specs.Sweep.{southOf, northOf, layer, cellMismatch, pieces}
+use Rattle.model.specs.Sweep.{Flow, southOf, northOf, layer, cellMismatch, pieces}
 use Rattle.model.specs.Laws.Scheme.{mismatch-equal}
 use Rattle.model.specs.Laws.Layer.{sides-inner, sides-north, south-cap, south-inner, north-inner, north-cap, layer-regular}
 use Rattle.model.specs.Laws.Substep.{mismatch-between, mismatch-south, mismatch-north, piece-up, piece-down}
@@ -59,12 +59,13 @@ module _ (w rows : ℕ) where
   pub north-cap-near : (i : ℕ) → rows * w ≤ i → Neighbours (layer w rows) (northOf (rows * w) i) (northOf (rows * w) i) (northOf (rows * w) i)
   unfolding layer
   north-cap-near i h =
+      let sides = sides-north w (rows * w) (rows * w) (omega arith) in
       rw (north-cap (rows * w) i h)
       (record {
         low = omega arith;
         own = omega arith;
         high = omega arith;
-        is = λ air gas. mismatch-north mismatch (layer w rows) air gas (suc (rows * w)) (rows * w) w (sides-north w (rows * w) (rows * w) (omega arith)) ∙ sym (mismatch-own _);
+        is = λ air gas. mismatch-north mismatch (layer w rows) air gas (suc (rows * w)) (rows * w) w sides ∙ sym (mismatch-own _);
       })
 
 -- ---- a piece through face i
@@ -83,7 +84,18 @@ pub record Step (w rows : ℕ) (air gas up down q high low : List ℕ) : Type 0 
   pub pieces : Faces w rows high low
   pub need : GasNeed (layer w rows) (flowOf up down) air gas
 
-module _ {w rows : ℕ} {air gas up down q high low : List ℕ} (step : Step w rows air gas up down q high low) (ratios : AreRatios (layer w rows .cells) air gas q) (i : ℕ) (h : i < w + rows * w) where
+module _ {w rows : ℕ} {air gas up down q high low : List ℕ} (step : Step w rows air gas up down q high low)
+    (ratios : AreRatios (layer w rows .cells) air gas q) (i : ℕ) (h : i < w + rows * w) where
+  -- the cells on its two sides, and the pieces of the model
+  abbrev south : ℕ
+  south = southOf w i
+
+  abbrev north : ℕ
+  north = northOf (rows * w) i
+
+  abbrev given : Flow
+  given = pieces mismatch (layer w rows) (flowOf up down) air gas
+
   room : layer w rows .cells ≤ length q
   unfolding layer
   room = step .ratios
@@ -93,7 +105,7 @@ module _ {w rows : ℕ} {air gas up down q high low : List ℕ} (step : Step w r
   inside = omega arith
 
   -- the cell south of face i gives from its high end, the cell north of it from its low end
-  pub gives-north : Gives w rows air gas q i (southOf w i) (at up i)
+  pub gives-north : Gives w rows air gas q i south (at up i)
   unfolding layer
   gives-north =
       record {
@@ -103,7 +115,7 @@ module _ {w rows : ℕ} {air gas up down q high low : List ℕ} (step : Step w r
         need = λ a b near. high-need (layer-regular w rows) (step .need) q ratios room near i inside refl;
       }
 
-  pub gives-south : Gives w rows air gas q i (northOf (rows * w) i) (at down i)
+  pub gives-south : Gives w rows air gas q i north (at down i)
   unfolding layer
   gives-south =
       record {
@@ -114,10 +126,10 @@ module _ {w rows : ℕ} {air gas up down q high low : List ℕ} (step : Step w r
       }
 
   -- and so the model's pieces are
-  pub piece-north : highPiece (cellMismatch mismatch (layer w rows) air gas (southOf w i)) (at air (southOf w i)) (at gas (southOf w i)) (at up i) ≡ pieces mismatch (layer w rows) (flowOf up down) air gas .toHigh i
+  pub piece-north : highPiece (cellMismatch mismatch (layer w rows) air gas south) (at air south) (at gas south) (at up i) ≡ given .toHigh i
   unfolding layer
-  piece-north = sym (piece-up mismatch (layer w rows) (flowOf up down) air gas i (southOf w i) refl)
+  piece-north = sym (piece-up mismatch (layer w rows) (flowOf up down) air gas i south refl)
 
-  pub piece-south : lowPiece (cellMismatch mismatch (layer w rows) air gas (northOf (rows * w) i)) (at air (northOf (rows * w) i)) (at gas (northOf (rows * w) i)) (at down i) ≡ pieces mismatch (layer w rows) (flowOf up down) air gas .toLow i
+  pub piece-south : lowPiece (cellMismatch mismatch (layer w rows) air gas north) (at air north) (at gas north) (at down i) ≡ given .toLow i
   unfolding layer
-  piece-south = sym (piece-down mismatch (layer w rows) (flowOf up down) air gas i (northOf (rows * w) i) refl)
+  piece-south = sym (piece-down mismatch (layer w rows) (flowOf up down) air gas i north refl)

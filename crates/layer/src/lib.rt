@@ -47,7 +47,8 @@ fn rows_allow(air: &[u32], up: &[u32], down: &[u32], w: usize, rows: usize) -> b
     while j < n {
         let c = 1 + j;
         let h = w + j;
-        ok = ok & cell_allows(Air(air[c]), both(up[j], down[h]), both(down[j], up[h]));
+        let have = air[c];
+        ok = ok & cell_allows(Air(have), both(up[j], down[h]), both(down[j], up[h]));
         j += 1;
     }
     ok
@@ -60,8 +61,10 @@ pub fn layer_allowed(air: &[u32], up: &[u32], down: &[u32], w: usize, rows: usiz
 {
     let n = rows * w;
     let north = 1 + n;
-    let at_south = cell_allows(Air(air[0]), cap_sum(down, 0, w), cap_sum(up, 0, w));
-    let at_north = cell_allows(Air(air[north]), cap_sum(up, n, w), cap_sum(down, n, w));
+    let south_air = air[0];
+    let north_air = air[north];
+    let at_south = cell_allows(Air(south_air), cap_sum(down, 0, w), cap_sum(up, 0, w));
+    let at_north = cell_allows(Air(north_air), cap_sum(up, n, w), cap_sum(down, n, w));
     at_south & rows_allow(air, up, down, w, rows) & at_north
 }
 
@@ -151,8 +154,10 @@ fn fill_pieces(
     let faces = w + rows * w;
     let mut i = 0;
     while i < faces {
-        let p = northward(air, gas, q, w, rows, i, Air(up[i]));
-        let r = southward(air, gas, q, w, rows, i, Air(down[i]));
+        let to_north = up[i];
+        let to_south = down[i];
+        let p = northward(air, gas, q, w, rows, i, Air(to_north));
+        let r = southward(air, gas, q, w, rows, i, Air(to_south));
         high[i] = p.0;
         low[i] = r.0;
         i += 1;

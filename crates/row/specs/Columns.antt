@@ -27,10 +27,12 @@ unfolding allowed ring
 allowed-columns w flow air = refl
 
 module _ (w i : ℕ) (h : i < w) where
-  -- what enters and what leaves column i, with the face `west` on its low side
-  pub column : (flow : Flow) (west : ℕ) → west ≡ westOf w i → Cell (ring w) flow i (flow .toHigh west + flow .toLow i) (flow .toLow west + flow .toHigh i)
+  -- e and l are what enters and what leaves column i, with the face `west` on its low side
+  pub column :
+      (flow : Flow) {west e l : ℕ} → west ≡ westOf w i →
+      e ≡ flow .toHigh west + flow .toLow i → l ≡ flow .toLow west + flow .toHigh i → Cell (ring w) flow i e l
   unfolding ring leaving
-  column flow west e = rw e (record { inside = h; enters = refl; leaves = refl })
+  column flow is enters leaves = record { inside = h; enters = rw is at enters; leaves = rw is at leaves }
 
   -- the columns on its two sides
   pub column-neighbours : (west east : ℕ) → west ≡ westOf w i → east ≡ eastOf w i → Neighbours (ring w) west i east

@@ -60,6 +60,14 @@ module _ (fluxes : List ℤ) (n : ℕ) (air : List ℕ) where
         same-after (rowMesh fluxes) (ring-regular _) flows now ∙
         (rw add-one (ap (afterFlow (rowMesh fluxes) (parts fluxes n (suc s))) reached))
 
+    -- the same of the ring of the air's own length
+    module _ (long : length now ≡ length fluxes) where
+      pub may-here : allowed (ring (length now)) (flowOf up down) now ≡ may s
+      may-here = ap (λ (w : ℕ). allowed (ring w) (flowOf up down) now) long ∙ may-step
+
+      pub after-here : afterFlow (ring (length now)) (flowOf up down) now ≡ chain (s + 1)
+      after-here = ap (λ (w : ℕ). afterFlow (ring w) (flowOf up down) now) long ∙ chain-more
+
   -- n serves where each of its substeps is allowed
   pub serves-is : every n may ≡ serves (rowMesh fluxes) fluxes air n
   unfolding serves

@@ -49,12 +49,8 @@ fn row_allowed(air: &[u32], up: &[u32], down: &[u32]) -> bool
     let mut i = 0;
     while i < w {
         let west = west_of(w, i);
-        ok = ok
-            & cell_allows(
-                Air(air[i]),
-                both(up[west], down[i]),
-                both(down[west], up[i]),
-            );
+        let have = air[i];
+        ok = ok & cell_allows(Air(have), both(up[west], down[i]), both(down[west], up[i]));
         i += 1;
     }
     ok

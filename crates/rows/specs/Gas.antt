@@ -20,7 +20,8 @@ use Rattle.model.specs.Laws.Ring.{east-in, ring-regular}
 use Rattle.model.specs.Laws.Scheme.{mismatch-limited}
 use Rattle.model.specs.Laws.Substep.{AirIn, allowed-is, length-after-flow, gas-total-after-flow}
 use Rattle.substep.specs.Faces.{flowOf, Same, stepped}
-use Rattle.substep.specs.Pieces.{GasNeed, HasAir, AreRatios, Neighbours, PieceNeed, mismatchIn, has-air, high-need, high-is, low-need, low-is, gas-moves, gas-after}
+use Rattle.substep.specs.Pieces.{GasNeed, HasAir, AreRatios, Neighbours, PieceNeed, mismatchIn}
+use Rattle.substep.specs.Pieces.{has-air, high-need, high-is, low-need, low-is, gas-moves, gas-after}
 use Rattle.substep.specs.Lent.{front-lent, front-back, length-front}
 use Rattle.row.specs.Columns.{Room, Passing, column-neighbours, back-west}
 
@@ -64,7 +65,8 @@ module _ {gas air up down : List ℕ} (need : StepNeed gas air up down) where
   pub total-stepped : sum (length air) (at (rowStepped gas air up down)) ≡ sum (length air) (at gas)
   unfolding ring
   total-stepped =
-      gas-total-after-flow mismatch-limited (ring (length air)) (ring-regular _) (flowOf up down) air gas (need .need .airIn) (allowed-is (ring (length air)) (flowOf up down) air (need .need .permits) .covers)
+      let allows = allowed-is (ring (length air)) (flowOf up down) air (need .need .permits) in
+      gas-total-after-flow mismatch-limited (ring (length air)) (ring-regular _) (flowOf up down) air gas (need .need .airIn) (allows .covers)
 
   module _ (high low : List ℕ) (are : ArePieces air gas (flowOf up down) (flowOf high low)) where
     same : Same (ring (length air) .faces) (flowOf high low) (pieces mismatch (ring (length air)) (flowOf up down) air gas)
@@ -79,19 +81,25 @@ module _ {gas air up down : List ℕ} (need : StepNeed gas air up down) where
         ap (λ (w : ℕ). afterFlow (ring w) (flowOf high low) gas) gas-long ∙ gas-after (ring-regular _) (need .need) same
 
 -- at face i column i gives from its high end, and the column east of it from its low end
-module _ {air gas q up down high low : List ℕ} (need : PiecesNeed air gas q up down high low) (i : ℕ) (h : i < length air) (east : ℕ) (is-east : east ≡ eastOf (length air) i) where
-  module _ (west : ℕ) (is-west : west ≡ westOf (length air) i) where
+module _ {air gas q up down high low : List ℕ} (need : PiecesNeed air gas q up down high low)
+    {i : ℕ} (h : i < length air) {east : ℕ} (is-east : east ≡ eastOf (length air) i) where
+  -- the pieces of the model
+  abbrev given : Flow
+  given = pieces mismatch (ring (length air)) (flowOf up down) air gas
+
+  module _ {west : ℕ} (is-west : west ≡ westOf (length air) i) where
+    around : Neighbours (ring (length air)) west i east
+    around = column-neighbours (length air) i h west east is-west is-east
+
     pub face-gives-high : PieceNeed air gas q west i east (at up i)
     unfolding ring
-    face-gives-high =
-        high-need (ring-regular _) (need .need) q (need .ratios) (need .fit) (column-neighbours (length air) i h west east is-west is-east) i h refl
+    face-gives-high = high-need (ring-regular _) (need .need) q (need .ratios) (need .fit) around i h refl
 
-    pub face-high : highPiece (mismatchIn q west i east) (at air i) (at gas i) (at up i) ≡ pieces mismatch (ring (length air)) (flowOf up down) air gas .toHigh i
+    pub face-high : highPiece (mismatchIn q west i east) (at air i) (at gas i) (at up i) ≡ given .toHigh i
     unfolding ring
-    face-high =
-        high-is (ring-regular _) (need .need) q (need .ratios) (need .fit) (column-neighbours (length air) i h west east is-west is-east) i h refl
+    face-high = high-is (ring-regular _) (need .need) q (need .ratios) (need .fit) around i h refl
 
-  module _ (next : ℕ) (is-next : next ≡ eastOf (length air) east) where
+  module _ {next : ℕ} (is-next : next ≡ eastOf (length air) east) where
     near : Neighbours (ring (length air)) i east next
     near =
         column-neighbours (length air) east (rw is-east (east-in (length air) i h)) i next (back-west (length air) i h east is-east) is-next
@@ -100,7 +108,7 @@ module _ {air gas q up down high low : List ℕ} (need : PiecesNeed air gas q up
     unfolding ring
     face-gives-low = low-need (ring-regular _) (need .need) q (need .ratios) (need .fit) near i h (sym is-east)
 
-    pub face-low : lowPiece (mismatchIn q i east next) (at air east) (at gas east) (at down i) ≡ pieces mismatch (ring (length air)) (flowOf up down) air gas .toLow i
+    pub face-low : lowPiece (mismatchIn q i east next) (at air east) (at gas east) (at down i) ≡ given .toLow i
     unfolding ring
     face-low = low-is (ring-regular _) (need .need) q (need .ratios) (need .fit) near i h (sym is-east)
 
@@ -171,18 +179,30 @@ module _ {n : ℕ} {rows : List (List ℕ)} {air up down : List ℕ} (need : Ste
   module _ {now : List (List ℕ)} {t : ℕ} (stepping : Stepping n rows air up down now t) (h : t < n) where
     -- the part of its row that is lent
     pub row-lent : part (getD now t []) 0 (length air - 0) ≡ rowOf (length air) rows t
-    row-lent = front-lent (getD now t []) (length air) ∙ ap (λ (l : List ℕ). part l 0 (length air)) (stepping .left t (omega arith))
+    row-lent =
+        front-lent (getD now t []) (length air) ∙
+        ap (λ (l : List ℕ). part l 0 (length air)) (stepping .left t (omega arith))
 
-    pub stepping-more : (new : List ℕ) → new ≡ rowStepped (rowOf (length air) rows t) air up down → Stepping n rows air up down (set now t (putMid 0 (length air - 0) (getD now t []) new)) (t + 1)
-    stepping-more new is =
+    -- and its amounts after a substep
+    pub lent-stepped :
+        rowStepped (part (getD now t []) 0 (length air - 0)) air up down ≡ rowStepped (rowOf (length air) rows t) air up down
+    lent-stepped = ap (λ (g : List ℕ). rowStepped g air up down) row-lent
+
+    pub stepping-more :
+        {new : List ℕ} → new ≡ rowStepped (rowOf (length air) rows t) air up down →
+        Stepping n rows air up down (set now t (putMid 0 (length air - 0) (getD now t []) new)) (t + 1)
+    stepping-more {new} is =
         let row : List ℕ = putMid 0 (length air - 0) (getD now t []) new in
         let long : length new ≡ length air = ap length is ∙ length-stepped (step-need t h) in
         let room : t < length now = omega (arith, stepping .some, need .few) in
         let fit : length air ≤ length (getD now t []) = omega (arith, stepping .wideRows t h, need .wide) in
+        let wide = length-front (getD now t []) new (length air) long fit ∙ stepping .wideRows t h in
+        let is-stepped : ℕ → List ℕ → Type 0 =
+        λ k r. part r 0 (length air) ≡ rowStepped (rowOf (length air) rows k) air up down in
         record {
           some = length-set now t row ∙ stepping .some;
-          wideRows = wide-set n now t row room (length-front (getD now t []) new (length air) long fit ∙ stepping .wideRows t h) (stepping .wideRows);
+          wideRows = wide-set n now t row room wide (stepping .wideRows);
           each =
-              entries-more [] now t row (λ k r. part r 0 (length air) ≡ rowStepped (rowOf (length air) rows k) air up down) room (stepping .each) (front-back (getD now t []) new (length air) long ∙ is);
+              entries-more [] now t row is-stepped room (stepping .each) (front-back (getD now t []) new (length air) long ∙ is);
           left = λ k p. entries-above [] now t row k p ∙ stepping .left k (omega arith);
         }

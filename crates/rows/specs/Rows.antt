@@ -37,7 +37,9 @@ pub record StoreNeed (tracers : List ℕ) (first cells w n : ℕ) (rows : List (
   pub wideRows : Wide n rows
 
 -- where tracer t's row lies
-pub row-room : {tracers : List ℕ} {first cells w n : ℕ} → RowsFit tracers first cells w n → (t : ℕ) → t < n → (t * cells + first + w ≤ length tracers) × (t * cells + first + w ≤ 811520)
+pub row-room :
+    {tracers : List ℕ} {first cells w n : ℕ} → RowsFit tracers first cells w n → (t : ℕ) → t < n →
+    (t * cells + first + w ≤ length tracers) × (t * cells + first + w ≤ 811520)
 row-room {tracers} {first} {cells} {w} {n} fit t h =
     let below : suc t * cells ≤ n * cells = mul-le-mul-right cells h in
     let most : n * cells ≤ 8 * 101440 = mul-le-mul (fit .fewTracers) (fit .fewCells) in
@@ -46,10 +48,11 @@ row-room {tracers} {first} {cells} {w} {n} fit t h =
     (omega arith, omega arith)
 
 -- ---- loaded, as a loop over the tracers meets them: none yet, and one more
-pub rows-none : (tracers : List ℕ) (first cells w : ℕ) (rows : List (List ℕ)) → AreRows tracers first cells w 0 rows
-rows-none tracers first cells w rows = record { wideRows = λ t h. absurd (omega arith); each = λ t h. absurd (omega arith) }
+pub rows-none : {tracers : List ℕ} {first cells w : ℕ} {rows : List (List ℕ)} → AreRows tracers first cells w 0 rows
+rows-none = record { wideRows = λ t h. absurd (omega arith); each = λ t h. absurd (omega arith) }
 
-module _ (tracers : List ℕ) (first cells w n : ℕ) (rows : List (List ℕ)) (fits : n * cells + first + w ≤ length tracers) (old : AreRows tracers first cells w n rows) where
+module _ {tracers : List ℕ} {first cells w n : ℕ} {rows : List (List ℕ)} (old : AreRows tracers first cells w n rows)
+    (fits : n * cells + first + w ≤ length tracers) where
   -- what is lent of tracer n's amounts
   abbrev lent : List ℕ
   lent = part tracers (n * cells + first) (n * cells + first + w - (n * cells + first))
@@ -58,12 +61,15 @@ module _ (tracers : List ℕ) (first cells w n : ℕ) (rows : List (List ℕ)) (
   length-lent =
       ap length (part-lent tracers (n * cells + first) w) ∙ length-part tracers (n * cells + first) w fits
 
-  pub rows-more : (empty new : List ℕ) → n < length rows → length empty ≡ 72 → w ≤ 72 → new ≡ lent → AreRows tracers first cells w (n + 1) (set rows n (putMid 0 (w - 0) empty new))
-  rows-more empty new room size few is =
+  pub rows-more :
+      (empty : List ℕ) {new : List ℕ} → n < length rows → length empty ≡ 72 → w ≤ 72 → new ≡ lent →
+      AreRows tracers first cells w (n + 1) (set rows n (putMid 0 (w - 0) empty new))
+  rows-more empty {new} room size few is =
       let long : length new ≡ w = ap length is ∙ length-lent in
       let row : List ℕ = putMid 0 (w - 0) empty new in
+      let wide : length row ≡ 72 = length-front empty new w long (omega arith) ∙ size in
       record {
-        wideRows = entries-more [] rows n row (λ t r. length r ≡ 72) room (old .wideRows) (length-front empty new w long (omega arith) ∙ size);
+        wideRows = entries-more [] rows n row (λ t r. length r ≡ 72) room (old .wideRows) wide;
         each =
             entries-more [] rows n row (λ t r. part r 0 w ≡ part tracers (t * cells + first) w) room (old .each)
             (front-back empty new w long ∙ is ∙ part-lent tracers (n * cells + first) w);
@@ -74,7 +80,7 @@ module _ (tracers : List ℕ) (first cells w n : ℕ) (rows : List (List ℕ)) (
 abbrev pub storedUpTo : List ℕ → ℕ → ℕ → ℕ → ℕ → List (List ℕ) → List ℕ
 storedUpTo tracers first cells w t rows = storedRows tracers first cells w t rows ++ drop (t * cells) tracers
 
-module _ (tracers : List ℕ) (first cells w n : ℕ) (rows : List (List ℕ)) (need : StoreNeed tracers first cells w n rows) where
+module _ {tracers : List ℕ} {first cells w n : ℕ} {rows : List (List ℕ)} (need : StoreNeed tracers first cells w n rows) where
   -- tracer t's amounts, and with its row written
   abbrev gas-of : ℕ → List ℕ
   gas-of t = part tracers (t * cells) cells
@@ -87,14 +93,20 @@ module _ (tracers : List ℕ) (first cells w n : ℕ) (rows : List (List ℕ)) (
       let below : suc t * cells ≤ n * cells = mul-le-mul-right cells h in
       length-part tracers (t * cells) cells (omega (arith, need .fit .long))
 
+  length-row-of : (t : ℕ) → t < n → length (rowOf w rows t) ≡ w
+  length-row-of t h = length-row n rows (need .wideRows) w t h (need .fit .fewColumns)
+
   length-stored : (t : ℕ) → t < n → length (stored t) ≡ cells
   length-stored t h =
-      length-written (gas-of t) (rowOf w rows t) first w cells (length-gas-of t h) (length-row n rows (need .wideRows) w t h (need .fit .fewColumns)) (need .fit .rowInside)
+      length-written (gas-of t) (rowOf w rows t) first w cells (length-gas-of t h) (length-row-of t h) (need .fit .rowInside)
 
   length-stored-rows : (t : ℕ) → t ≤ n → length (storedRows tracers first cells w t rows) ≡ t * cells
-  length-stored-rows t h =
-      length-joined cells (tab t stored) (λ k p. let q : k < t = rw (length-tab t stored) at p in rw (getD-tab t stored k [] q) (length-stored k (omega arith))) ∙
-      ap (λ (m : ℕ). m * cells) (length-tab t stored)
+  length-stored-rows t h = length-joined cells (tab t stored) each ∙ ap (λ (m : ℕ). m * cells) (length-tab t stored)
+    where
+      each : (k : ℕ) → k < length (tab t stored) → length (getD (tab t stored) k []) ≡ cells
+      each k p =
+          let q : k < t = rw (length-tab t stored) at p in
+          rw (getD-tab t stored k [] q) (length-stored k (omega arith))
 
   -- what is written of the first t tracers
   abbrev done : ℕ → List ℕ
@@ -111,13 +123,16 @@ module _ (tracers : List ℕ) (first cells w n : ℕ) (rows : List (List ℕ)) (
   stored-none = rw zero-mul
 
   -- one more: what is lent of tracer t's row was copied
-  pub stored-more : (t : ℕ) → t < n → (now new : List ℕ) → now ≡ storedUpTo tracers first cells w t rows → new ≡ part (getD rows t []) 0 (w - 0) → putMid (t * cells + first) (t * cells + first + w - (t * cells + first)) now new ≡ storedUpTo tracers first cells w (t + 1) rows
-  stored-more t h now new e f =
+  pub stored-more :
+      (t : ℕ) → t < n → {now new : List ℕ} →
+      now ≡ storedUpTo tracers first cells w t rows → new ≡ part (getD rows t []) 0 (w - 0) →
+      putMid (t * cells + first) (t * cells + first + w - (t * cells + first)) now new ≡ storedUpTo tracers first cells w (t + 1) rows
+  stored-more t h {now} {new} e f =
       let base = length-stored-rows t (omega arith) in
       let rest : drop (t * cells) tracers ≡ gas-of t ++ drop ((t + 1) * cells) tracers =
       sym (take-append-drop cells (drop (t * cells) tracers)) ∙ ap (λ (l : List ℕ). gas-of t ++ l) (past t) in
       let copied : new ≡ rowOf w rows t = f ∙ front-lent (getD rows t []) w in
-      let long : length new ≡ w = ap length copied ∙ length-row n rows (need .wideRows) w t h (need .fit .fewColumns) in
+      let long : length new ≡ w = ap length copied ∙ length-row-of t h in
       put-back now new (t * cells + first) w long ∙
       ap (λ (l : List ℕ). written l (t * cells + first) new) (e ∙ ap (λ (l : List ℕ). done t ++ l) rest) ∙
       ap (λ (k : ℕ). written (done t ++ (gas-of t ++ drop ((t + 1) * cells) tracers)) (k + first) new) (sym base) ∙
@@ -127,10 +142,10 @@ module _ (tracers : List ℕ) (first cells w n : ℕ) (rows : List (List ℕ)) (
       ap (λ (l : List ℕ). l ++ drop ((t + 1) * cells) tracers) (sym (joined-more t stored))
 
   -- all
-  pub stored-all : (now : List ℕ) → now ≡ storedUpTo tracers first cells w n rows → now ≡ storedRows tracers first cells w n rows
-  stored-all now e =
-      e ∙ ap (λ (l : List ℕ). storedRows tracers first cells w n rows ++ l) (drop-of-length-le tracers {i = n * cells} (omega (arith, need .fit .long))) ∙
-      append-nil _
+  pub stored-all : {now : List ℕ} → now ≡ storedUpTo tracers first cells w n rows → now ≡ done n
+  stored-all e =
+      let none : drop (n * cells) tracers ≡ [] = drop-of-length-le tracers {i = n * cells} (omega (arith, need .fit .long)) in
+      e ∙ ap (λ (l : List ℕ). done n ++ l) none ∙ append-nil _
 
   pub length-stored-up-to : (t : ℕ) → t ≤ n → length (storedUpTo tracers first cells w t rows) ≡ length tracers
   length-stored-up-to t h =

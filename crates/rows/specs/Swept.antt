@@ -18,7 +18,7 @@ use Rattle.model.specs.Laws.Chain.{air-after-in}
 use Rattle.substep.specs.Faces.{flowOf, Same, AreParts, stepped, same-stepped}
 use Rattle.substep.specs.Cells.{air-moves}
 use Rattle.row.specs.Columns.{Room, Passing}
-use Rattle.row.specs.Substeps.{rowMesh, RowNeed, chain, chain-start, may-step, chain-more, serves-step}
+use Rattle.row.specs.Substeps.{rowMesh, RowNeed, chain, chain-start, may-here, after-here, serves-step}
 use Rattle.rows.specs.Gas.{rowOf, Wide, rowStepped, StepsNeed, AreSteps, step-need, total-stepped}
 
 -- tracer t's amounts after s of n substeps
@@ -49,7 +49,7 @@ pub record After (rows : List (List ℕ)) (air : List ℕ) (fluxes : List ℤ) (
   pub gasIs : (t : ℕ) → t < tracers → rowOf (length fluxes) now t ≡ gasChain rows air fluxes n s t
   pub total : (t : ℕ) → t < tracers → sum (length fluxes) (at (rowOf (length fluxes) now t)) ≤ totalLimit
 
-module _ (rows : List (List ℕ)) (air : List ℕ) (fluxes : List ℤ) (n tracers : ℕ) (need : SweepNeed rows air fluxes n tracers) where
+module _ {rows : List (List ℕ)} {air : List ℕ} {fluxes : List ℤ} {n tracers : ℕ} (need : SweepNeed rows air fluxes n tracers) where
   pub after-none : After rows air fluxes n tracers 0 air rows
   unfolding gasAfter
   after-none =
@@ -62,21 +62,24 @@ module _ (rows : List (List ℕ)) (air : List ℕ) (fluxes : List ℤ) (n tracer
       }
 
   -- substep s + 1, of which up and down have the parts
-  module _ (s : ℕ) (inside : s < n) (nowAir : List ℕ) (now : List (List ℕ)) (reached : After rows air fluxes n tracers s nowAir now) (up down : List ℕ) (are : AreParts fluxes n (s + 1) up down) (room : Room (length fluxes) up down) where
+  module _ {s : ℕ} {nowAir : List ℕ} {now : List (List ℕ)} (reached : After rows air fluxes n tracers s nowAir now) (inside : s < n)
+      {up down : List ℕ} (are : AreParts fluxes n (s + 1) up down) (room : Room (length fluxes) up down) where
     step-allowed : allowed (ring (length nowAir)) (flowOf up down) nowAir ≡ true
     step-allowed =
-        ap (λ (w : ℕ). allowed (ring w) (flowOf up down) nowAir) (reached .long) ∙
-        may-step fluxes n air s up down nowAir are (reached .airIs) ∙ serves-step fluxes n air (need .serving) s inside
+        may-here fluxes n air s up down nowAir are (reached .airIs) (reached .long) ∙
+        serves-step fluxes n air (need .serving) s inside
 
     pub rows-may-step : StepsNeed tracers now nowAir up down
     unfolding ring
     rows-may-step =
+        let serving = need .serving in
+        let in-range = air-after-in (rowMesh fluxes) (ring-regular _) fluxes air n (need .airIn) serving s (le-of-lt inside) in
         record {
           few = need .few;
           wideRows = reached .wideRows;
           wide = rw (reached .long) (need .row .wide);
           room = rw (reached .long) room;
-          airIn = rw (reached .long, reached .airIs) (air-after-in (rowMesh fluxes) (ring-regular _) fluxes air n (need .airIn) (need .serving) s (le-of-lt inside));
+          airIn = rw (reached .long, reached .airIs) in-range;
           permits = step-allowed;
           total = rw (reached .long) (reached .total);
         }
@@ -90,15 +93,19 @@ module _ (rows : List (List ℕ)) (air : List ℕ) (fluxes : List ℤ) (n tracer
     unfolding ring
     flows = are
 
-    gas-more : (t : ℕ) → t < tracers → stepped (rowMesh fluxes) (flowOf up down) nowAir (rowOf (length fluxes) now t) ≡ gasChain rows air fluxes n (s + 1) t
+    gas-more :
+        (t : ℕ) → t < tracers →
+        stepped (rowMesh fluxes) (flowOf up down) nowAir (rowOf (length fluxes) now t) ≡ gasChain rows air fluxes n (s + 1) t
     unfolding gasAfter
     gas-more t h =
         same-stepped (rowMesh fluxes) (ring-regular _) flows nowAir (rowOf (length fluxes) now t) ∙
         (rw add-one
         (ap₂ (λ (a g : List ℕ). stepped (rowMesh fluxes) (parts fluxes n (suc s)) a g) (reached .airIs) (reached .gasIs t h)))
 
-    module _ (nextAir : List ℕ) (next : List (List ℕ)) (passed : nextAir ≡ afterFlow (ring (length nowAir)) (flowOf up down) nowAir) (steps : AreSteps tracers now nowAir up down next) where
-      each-step : (t : ℕ) → t < tracers → rowOf (length fluxes) next t ≡ rowStepped (rowOf (length fluxes) now t) nowAir up down
+    module _ {nextAir : List ℕ} (passed : nextAir ≡ afterFlow (ring (length nowAir)) (flowOf up down) nowAir)
+        {next : List (List ℕ)} (steps : AreSteps tracers now nowAir up down next) where
+      each-step :
+          (t : ℕ) → t < tracers → rowOf (length fluxes) next t ≡ rowStepped (rowOf (length fluxes) now t) nowAir up down
       each-step t h =
           ap (λ (w : ℕ). rowOf w next t) (sym (reached .long)) ∙ steps .each t h ∙
           ap (λ (w : ℕ). rowStepped (rowOf w now t) nowAir up down) (reached .long)
@@ -108,24 +115,27 @@ module _ (rows : List (List ℕ)) (air : List ℕ) (fluxes : List ℤ) (n tracer
       after-more =
           record {
             long = ap length passed ∙ length-after-flow (ring (length nowAir)) (flowOf up down) nowAir ∙ reached .long;
-            airIs =
-                passed ∙ ap (λ (w : ℕ). afterFlow (ring w) (flowOf up down) nowAir) (reached .long) ∙
-                chain-more fluxes n air s up down nowAir are (reached .airIs);
+            airIs = passed ∙ after-here fluxes n air s up down nowAir are (reached .airIs) (reached .long);
             wideRows = steps .wideRows;
             gasIs =
                 λ t h.
                 each-step t h ∙
                 ap (λ (w : ℕ). stepped (ring w) (flowOf up down) nowAir (rowOf (length fluxes) now t)) (reached .long) ∙
                 gas-more t h;
-            total = λ t h. rw (each-step t h) (subst (λ (w : ℕ). sum w (at (rowStepped (rowOf w now t) nowAir up down)) ≤ totalLimit) (reached .long) (total-is t h));
+            total = λ t h. rw (each-step t h) (subst (λ (w : ℕ). TotalFits w t) (reached .long) (total-fits t h));
           }
         where
-          total-is : (t : ℕ) → t < tracers → sum (length nowAir) (at (rowStepped (rowOf (length nowAir) now t) nowAir up down)) ≤ totalLimit
-          total-is t h = rw (total-stepped (step-need rows-may-step t h)) (rows-may-step .total t h)
+          TotalFits : ℕ → ℕ → Type 0
+          TotalFits w t = sum w (at (rowStepped (rowOf w now t) nowAir up down)) ≤ totalLimit
+
+          total-fits : (t : ℕ) → t < tracers → TotalFits (length nowAir) t
+          total-fits t h = rw (total-stepped (step-need rows-may-step t h)) (rows-may-step .total t h)
 
   -- all n
-  pub after-all : (s : ℕ) → s ≡ n → (nowAir : List ℕ) (now : List (List ℕ)) → After rows air fluxes n tracers s nowAir now → AreSwept rows air fluxes n tracers nowAir now
-  after-all s e nowAir now reached =
+  pub after-all :
+      {s : ℕ} {nowAir : List ℕ} {now : List (List ℕ)} → After rows air fluxes n tracers s nowAir now → s ≡ n →
+      AreSwept rows air fluxes n tracers nowAir now
+  after-all reached e =
       record {
         airIs = reached .airIs ∙ ap (chain fluxes n air) e;
         wideRows = reached .wideRows;

@@ -34,8 +34,10 @@ fn fill_pieces(
         let west = west_of(w, i);
         let east = east_of(w, i);
         let next = east_of(w, east);
-        let p = high_end(air, gas, q, west, i, east, Air(up[i]));
-        let r = low_end(air, gas, q, i, east, next, Air(down[i]));
+        let eastward = up[i];
+        let westward = down[i];
+        let p = high_end(air, gas, q, west, i, east, Air(eastward));
+        let r = low_end(air, gas, q, i, east, next, Air(westward));
         high[i] = p.0;
         low[i] = r.0;
         i += 1;

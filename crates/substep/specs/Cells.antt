@@ -103,8 +103,8 @@ module _ {mesh : Mesh} {flow : Flow} {before : List ℕ} (moves : Moves mesh flo
     moved-exchange =
         rw (moved .left c (omega arith)) (cell-exchange cell before (moves .covers) (moves .after c (cell .inside)))
 
-    pub moved-more : (x : ℕ) → x ≡ at l c + e - o → Moved mesh flow before (set l c x) (c + 1)
-    moved-more x is =
+    pub moved-more : {x : ℕ} → x ≡ at l c + e - o → Moved mesh flow before (set l c x) (c + 1)
+    moved-more {x} is =
         let room : c < length l = omega (arith, moved .long, moves .long, cell .inside) in
         record {
           long = length-set l c x ∙ moved .long;

@@ -33,28 +33,29 @@ add-faces c = search needs
 loop-holds : tie.Need-loop-holds Inv-loop μ-loop
 loop-holds c = (search needs, search needs, search needs, same-none _ _)
 
-mul-t16 : tie.Need-mul-t16 Inv-loop μ-loop
-mul-t16 c = search needs
+mul-to-north : tie.Need-mul-to-north Inv-loop μ-loop
+mul-to-north c = search needs
 
-shared-slice-read-t18 : tie.Need-shared-slice-read-t18 Inv-loop μ-loop
-shared-slice-read-t18 c = search needs
+shared-slice-read-to-north : tie.Need-shared-slice-read-to-north Inv-loop μ-loop
+shared-slice-read-to-north c = search needs
+
+mul-to-south : tie.Need-mul-to-south Inv-loop μ-loop
+mul-to-south c = search needs
+
+shared-slice-read-to-south : tie.Need-shared-slice-read-to-south Inv-loop μ-loop
+shared-slice-read-to-south c = search needs
 
 northward-requires : tie.Need-northward-requires Inv-loop μ-loop
 northward-requires c κs =
-    let start : tie.Start Inv-loop μ-loop = search in
-    gives-north (start .pre .0) (start .pre .1) (c .before .before .loop .i) (omega arith)
-
-mul-t16-2 : tie.Need-mul-t16-2 Inv-loop μ-loop
-mul-t16-2 c = search needs
-
-shared-slice-read-t18-2 : tie.Need-shared-slice-read-t18-2 Inv-loop μ-loop
-shared-slice-read-t18-2 c = search needs
+    let pre = the (tie.Start Inv-loop μ-loop) (search) .pre in
+    let l = the (tie.At-loop Inv-loop μ-loop) (search) .loop in
+    gives-north (pre .0) (pre .1) (l .i) (omega arith)
 
 southward-requires : tie.Need-southward-requires Inv-loop μ-loop
 southward-requires c κs =
-    let start : tie.Start Inv-loop μ-loop = search in
+    let pre = the (tie.Start Inv-loop μ-loop) (search) .pre in
     let l = the (tie.At-loop Inv-loop μ-loop) (search) .loop in
-    gives-south (start .pre .0) (start .pre .1) (l .i) (omega arith)
+    gives-south (pre .0) (pre .1) (l .i) (omega arith)
 
 mul-high : tie.Need-mul-high Inv-loop μ-loop
 mul-high c = search needs
@@ -81,8 +82,8 @@ loop-again c =
       search needs,
       search needs,
       search needs,
-      same-more (l .high) (l .low) _ _ _ _ (search needs) (search needs) (l .inv .3)
-          (c .before .before .northward .ensures ∙ piece-north (pre .0) (pre .1) (l .i) (omega arith))
+      same-more (l .high) (l .low) (search needs) (search needs) (l .inv .3)
+          (c .before .northward .ensures ∙ piece-north (pre .0) (pre .1) (l .i) (omega arith))
           (c .southward .ensures ∙ piece-south (pre .0) (pre .1) (l .i) (omega arith)),
     )
 
@@ -108,11 +109,11 @@ fill-pieces-spec =
     mul-faces
     add-faces
     loop-holds
-    mul-t16
-    shared-slice-read-t18
+    mul-to-north
+    shared-slice-read-to-north
+    mul-to-south
+    shared-slice-read-to-south
     northward-requires
-    mul-t16-2
-    shared-slice-read-t18-2
     southward-requires
     mul-high
     slice-write-high

@@ -16,8 +16,14 @@ mul-n c = search needs
 add-north : tie.Need-add-north
 add-north c = search needs
 
-shared-slice-read-t11 : tie.Need-shared-slice-read-t11
-shared-slice-read-t11 c = search needs
+shared-slice-read-south-air : tie.Need-shared-slice-read-south-air
+shared-slice-read-south-air c = search needs
+
+mul-north-air : tie.Need-mul-north-air
+mul-north-air c = search needs
+
+shared-slice-read-north-air : tie.Need-shared-slice-read-north-air
+shared-slice-read-north-air c = search needs
 
 cap-sum-requires : tie.Need-cap-sum-requires
 cap-sum-requires c κs = search needs
@@ -27,12 +33,6 @@ cap-sum-requires-2 c κs = search needs
 
 cell-allows-requires : tie.Need-cell-allows-requires
 cell-allows-requires c κs = search needs
-
-mul-t15 : tie.Need-mul-t15
-mul-t15 c = search needs
-
-shared-slice-read-t11-2 : tie.Need-shared-slice-read-t11-2
-shared-slice-read-t11-2 c = search needs
 
 cap-sum-requires-3 : tie.Need-cap-sum-requires-3
 cap-sum-requires-3 c κs = search needs
@@ -48,15 +48,17 @@ rows-allow-requires c κs = search needs
 
 returns : tie.Need-returns
 returns c =
-    let start : tie.Start = search in
+    let a = the tie.Start (search) .args in
     let south-in = the tie.After-cap-sum (search) .cap-sum .ensures in
     let south-out = the tie.After-cap-sum2 (search) .cap-sum2 .ensures in
     let at-south = the tie.After-cell-allows (search) .cell-allows .ensures in
-    let a = start .args in
+    let north-in = the tie.After-cap-sum3 (search) .cap-sum3 .ensures in
+    let north-out = the tie.After-cap-sum4 (search) .cap-sum4 .ensures in
+    let at-north = the tie.After-cell-allows2 (search) .cell-allows2 .ensures in
     let up = a .up .now in
     let down = a .down .now in
     let south = at-south ∙ cell-allows (south-cell (a .w) (a .rows) up down south-in south-out) (a .air .now) in
-    let north = c .before .cell-allows2 .ensures ∙ cell-allows (north-cell (a .w) (a .rows) up down (c .before .before .before .cap-sum3 .ensures) (c .before .before .cap-sum4 .ensures)) (a .air .now) in
+    let north = at-north ∙ cell-allows (north-cell (a .w) (a .rows) up down north-in north-out) (a .air .now) in
     (λ i. south i && c .rows-allow .ensures i && north i) ∙ allowed-cells (a .w) (a .rows) (flowOf up down) (a .air .now)
 
 pub layer-allowed-spec : {M : Type 1} → statement M
@@ -65,12 +67,12 @@ layer-allowed-spec =
     (tie.spec
     mul-n
     add-north
-    shared-slice-read-t11
+    shared-slice-read-south-air
+    mul-north-air
+    shared-slice-read-north-air
     cap-sum-requires
     cap-sum-requires-2
     cell-allows-requires
-    mul-t15
-    shared-slice-read-t11-2
     cap-sum-requires-3
     cap-sum-requires-4
     cell-allows-requires-2

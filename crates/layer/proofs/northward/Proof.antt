@@ -16,13 +16,15 @@ high-end-requires : tie.Need-high-end-requires
 high-end-requires c κs =
     let start : tie.Start = search in
     let a = start .args in
-    rw (c .before .south-of .ensures) (start .pre .need _ _ (south-cap-near (a .w) (a .rows) (a .i) (omega arith)))
+    let near = south-cap-near (a .w) (a .rows) (a .i) (omega arith) in
+    rw (c .before .south-of .ensures) (start .pre .need _ _ near)
 
 returns : tie.Need-returns
 returns c =
     let start : tie.Start = search in
     let a = start .args in
-    rw (c .before .before .south-of .ensures) at (c .high-end .ensures) ∙ piece-high (start .pre .ratios) (south-cap-near (a .w) (a .rows) (a .i) (omega arith)) _
+    let near = south-cap-near (a .w) (a .rows) (a .i) (omega arith) in
+    rw (c .before .before .south-of .ensures) at (c .high-end .ensures) ∙ piece-high (start .pre .ratios) near _
 
 south-of-requires-2 : tie.Need-south-of-requires-2
 south-of-requires-2 c κs = search needs
@@ -36,15 +38,19 @@ north-of-requires c κs = search needs
 high-end-requires-2 : tie.Need-high-end-requires-2
 high-end-requires-2 c κs =
     let start : tie.Start = search in
+    let own = the tie.After-south-of (search) .south-of .ensures in
     let a = start .args in
-    rw (c .before .south-of2 .ensures, c .before .before .before .south-of .ensures, c .north-of .ensures) (start .pre .need _ _ (south-near (a .w) (a .rows) (a .i) (omega arith) (start .pre .face)))
+    let near = south-near (a .w) (a .rows) (a .i) (omega arith) (start .pre .face) in
+    rw (c .before .south-of2 .ensures, own, c .north-of .ensures) (start .pre .need _ _ near)
 
 returns-2 : tie.Need-returns-2
 returns-2 c =
     let start : tie.Start = search in
-    let south = the tie.After-south-of (search) .south-of .ensures in
+    let own = the tie.After-south-of (search) .south-of .ensures in
     let a = start .args in
-    rw (c .before .before .south-of2 .ensures, south, c .before .north-of .ensures) at (c .high-end2 .ensures) ∙ piece-high (start .pre .ratios) (south-near (a .w) (a .rows) (a .i) (omega arith) (start .pre .face)) _
+    let near = south-near (a .w) (a .rows) (a .i) (omega arith) (start .pre .face) in
+    let piece = rw (c .before .before .south-of2 .ensures, own, c .before .north-of .ensures) at (c .high-end2 .ensures) in
+    piece ∙ piece-high (start .pre .ratios) near _
 
 pub northward-spec : {M : Type 1} → statement M
 northward-spec =

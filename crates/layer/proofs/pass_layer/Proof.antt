@@ -3,10 +3,11 @@
 use Prim.Native.Nat.{_+_, _*_}
 use mathlib.Core.Path.{_≡_}
 use native.Mathlib.Omega.{arith}
-use lib.ListN.{length-set}
+use lib.ListN.{set, length-set}
 use Rattle.model.specs.Sweep.{layer}
 use Rattle.substep.specs.Cells.{moved-none, moved-exchange, moved-more, all-moved}
-use Rattle.layer.specs.Cells.{layer-cells, south-cell, north-cell, begin}
+use Rattle.substep.specs.Faces.{flowOf}
+use Rattle.layer.specs.Cells.{Begun, layer-cells, south-cell, north-cell, begin}
 use Rattle.units.specs.The.{the}
 use borrow.Author.Needs.{needs}
 use Rattle.layer.proofs.pass_layer.Statement.{statement}
@@ -32,19 +33,29 @@ amount-after-requires c κs =
     let start : tie.Start = search in
     let a = start .args in
     let moves = start .pre .1 in
-    moved-exchange moves (moved-none moves) (south-cell (a .w) (a .rows) (a .up .now) (a .down .now) (c .before .cap-sum .ensures) (c .cap-sum2 .ensures))
+    let cell = south-cell (a .w) (a .rows) (a .up .now) (a .down .now) (c .before .cap-sum .ensures) (c .cap-sum2 .ensures) in
+    moved-exchange moves (moved-none moves) cell
+
+-- the amounts once the south cap's is passed on
+abbrev begun :
+    (c : tie.After-amount-after) →
+    let a = the tie.Start (search) .args in
+    let south = c .amount-after .result in
+    Begun (layer (a .w) (a .rows)) (flowOf (a .up .now) (a .down .now)) (set (a .amounts .now) 0 south) 1
+begun c =
+    let start : tie.Start = search in
+    let a = start .args in
+    let cell =
+    south-cell (a .w) (a .rows) (a .up .now) (a .down .now) (c .before .before .cap-sum .ensures) (c .before .cap-sum2 .ensures) in
+    begin (start .pre .1) cell (c .amount-after .ensures)
 
 slice-write-amounts : tie.Need-slice-write-amounts
 slice-write-amounts c = search needs
 
 pass-rows-requires : tie.Need-pass-rows-requires
 pass-rows-requires c κs =
-    let start : tie.Start = search in
-    let a = start .args in
-    let fit = start .pre .0 in (
-      record { size = fit .size; long = simp length-set (fit .long); faces = fit .faces },
-      begin (start .pre .1) (south-cell (a .w) (a .rows) (a .up .now) (a .down .now) (c .before .before .before .cap-sum .ensures) (c .before .before .cap-sum2 .ensures)) _ (c .before .amount-after .ensures),
-    )
+    let fit = the tie.Start (search) .pre .0 in
+    (record { size = fit .size; long = simp length-set (fit .long); faces = fit .faces }, begun (c .before))
 
 mul-amount-after : tie.Need-mul-amount-after
 mul-amount-after c = search needs
@@ -52,11 +63,9 @@ mul-amount-after c = search needs
 slice-read-amount-after-2 : tie.Need-slice-read-amount-after-2
 slice-read-amount-after-2 c =
     let start : tie.Start = search in
-    let south-in = the tie.After-cap-sum (search) .cap-sum .ensures in
-    let south-out = the tie.After-cap-sum2 (search) .cap-sum2 .ensures in
-    let south = the tie.After-amount-after (search) .amount-after .ensures in
-    let a = start .args in
-    omega (arith, c .before .before .before .pass-rows .ensures (begin (start .pre .1) (south-cell (a .w) (a .rows) (a .up .now) (a .down .now) south-in south-out) _ south) .long, start .pre .0 .long)
+    let south : tie.After-amount-after = search in
+    let rows-passed = the tie.After-pass-rows (search) .pass-rows .ensures in
+    omega (arith, rows-passed (begun south) .long, start .pre .0 .long)
 
 cap-sum-requires-3 : tie.Need-cap-sum-requires-3
 cap-sum-requires-3 c κs = search needs
@@ -66,14 +75,11 @@ cap-sum-requires-4 c κs = search needs
 
 amount-after-requires-2 : tie.Need-amount-after-requires-2
 amount-after-requires-2 c κs =
-    let start : tie.Start = search in
-    let south-in = the tie.After-cap-sum (search) .cap-sum .ensures in
-    let south-out = the tie.After-cap-sum2 (search) .cap-sum2 .ensures in
-    let south = the tie.After-amount-after (search) .amount-after .ensures in
+    let a = the tie.Start (search) .args in
+    let south : tie.After-amount-after = search in
     let rows-passed = the tie.After-pass-rows (search) .pass-rows .ensures in
-    let a = start .args in
-    let begun = begin (start .pre .1) (south-cell (start .args .w) (start .args .rows) (start .args .up .now) (start .args .down .now) south-in south-out) _ south in
-    moved-exchange (begun .moves) (rows-passed begun) (north-cell (a .w) (a .rows) (a .up .now) (a .down .now) (c .before .cap-sum3 .ensures) (c .cap-sum4 .ensures))
+    let cell = north-cell (a .w) (a .rows) (a .up .now) (a .down .now) (c .before .cap-sum3 .ensures) (c .cap-sum4 .ensures) in
+    moved-exchange (begun south .moves) (rows-passed (begun south)) cell
 
 mul-amounts : tie.Need-mul-amounts
 mul-amounts c = search needs
@@ -81,35 +87,27 @@ mul-amounts c = search needs
 slice-write-amounts-2 : tie.Need-slice-write-amounts-2
 slice-write-amounts-2 c =
     let start : tie.Start = search in
-    let south-in = the tie.After-cap-sum (search) .cap-sum .ensures in
-    let south-out = the tie.After-cap-sum2 (search) .cap-sum2 .ensures in
-    let south = the tie.After-amount-after (search) .amount-after .ensures in
+    let south : tie.After-amount-after = search in
     let rows-passed = the tie.After-pass-rows (search) .pass-rows .ensures in
-    let a = start .args in
-    omega (arith, rows-passed (begin (start .pre .1) (south-cell (a .w) (a .rows) (a .up .now) (a .down .now) south-in south-out) _ south) .long, start .pre .0 .long)
+    omega (arith, rows-passed (begun south) .long, start .pre .0 .long)
 
 same-length : tie.Need-same-length
 same-length c =
-    let start : tie.Start = search in
-    let south-in = the tie.After-cap-sum (search) .cap-sum .ensures in
-    let south-out = the tie.After-cap-sum2 (search) .cap-sum2 .ensures in
-    let south = the tie.After-amount-after (search) .amount-after .ensures in
+    let south : tie.After-amount-after = search in
     let rows-passed = the tie.After-pass-rows (search) .pass-rows .ensures in
-    let a = start .args in
-    simp length-set (rows-passed (begin (start .pre .1) (south-cell (a .w) (a .rows) (a .up .now) (a .down .now) south-in south-out) _ south) .long)
+    simp length-set (rows-passed (begun south) .long)
 
 returns : tie.Need-returns
 returns c =
-    let start : tie.Start = search in
-    let south-in = the tie.After-cap-sum (search) .cap-sum .ensures in
-    let south-out = the tie.After-cap-sum2 (search) .cap-sum2 .ensures in
-    let south = the tie.After-amount-after (search) .amount-after .ensures in
+    let a = the tie.Start (search) .args in
+    let south : tie.After-amount-after = search in
     let rows-passed = the tie.After-pass-rows (search) .pass-rows .ensures in
-    let a = start .args in
-    let begun = begin (start .pre .1) (south-cell (start .args .w) (start .args .rows) (start .args .up .now) (start .args .down .now) south-in south-out) _ south in
-    let north = north-cell (a .w) (a .rows) (a .up .now) (a .down .now) (c .before .before .cap-sum3 .ensures) (c .before .cap-sum4 .ensures) in
+    let north-in = the tie.After-cap-sum3 (search) .cap-sum3 .ensures in
+    let north-out = the tie.After-cap-sum4 (search) .cap-sum4 .ensures in
+    let moves = begun south .moves in
+    let cell = north-cell (a .w) (a .rows) (a .up .now) (a .down .now) north-in north-out in
     let all : 1 + a .rows * a .w + 1 ≡ layer (a .w) (a .rows) .cells = omega (arith, layer-cells (a .w) (a .rows)) in
-    all-moved (begun .moves) (rw all at (moved-more (begun .moves) (rows-passed begun) north _ (c .amount-after2 .ensures)))
+    all-moved moves (rw all at (moved-more moves (rows-passed (begun south)) cell (c .amount-after2 .ensures)))
 
 pub pass-layer-spec : {M : Type 1} → statement M
 pass-layer-spec =

@@ -74,9 +74,11 @@ amount-after-requires : tie.Need-amount-after-requires Inv-loop μ-loop
 amount-after-requires c κs =
     let start : tie.Start Inv-loop μ-loop = search in
     let l = the (tie.At-loop Inv-loop μ-loop) (search) .loop in
+    let enters = the (tie.After-both Inv-loop μ-loop) (search) .both .ensures .0 in
     let a = start .args in
     let begun = start .pre .1 in
-    moved-exchange (begun .moves) (l .inv .2 begun) (row-cell (a .w) (a .rows) (a .up .now) (a .down .now) (l .j) (omega arith) (c .before .before .before .both .ensures .0) (c .both2 .ensures .0))
+    let cell = row-cell (a .w) (a .rows) (a .up .now) (a .down .now) (l .j) (omega arith) enters (c .both2 .ensures .0) in
+    moved-exchange (begun .moves) (l .inv .2 begun) cell
 
 mul-amounts : tie.Need-mul-amounts Inv-loop μ-loop
 mul-amounts c = search needs
@@ -94,10 +96,11 @@ loop-again : tie.Need-loop-again Inv-loop μ-loop
 loop-again c =
     let a = the (tie.Start Inv-loop μ-loop) (search) .args in
     let l = the (tie.At-loop Inv-loop μ-loop) (search) .loop in
-    let inflow = the (tie.After-both Inv-loop μ-loop) (search) .both .ensures .0 in
-    let cell = row-cell (a .w) (a .rows) (a .up .now) (a .down .now) (l .j) (omega arith) inflow (c .before .both2 .ensures .0) in
+    let enters = the (tie.After-both Inv-loop μ-loop) (search) .both .ensures .0 in
+    let leaves = the (tie.After-both2 Inv-loop μ-loop) (search) .both2 .ensures .0 in
+    let cell = row-cell (a .w) (a .rows) (a .up .now) (a .down .now) (l .j) (omega arith) enters leaves in
     let next : 1 + l .j + 1 ≡ 1 + (l .j + 1) = omega arith in
-    (search needs, search needs, λ b. rw next at (moved-more (b .moves) (l .inv .2 b) cell _ (c .amount-after .ensures)))
+    (search needs, search needs, λ b. rw next at (moved-more (b .moves) (l .inv .2 b) cell (c .amount-after .ensures)))
 
 same-length : tie.Need-same-length Inv-loop μ-loop
 same-length c = search needs

@@ -33,11 +33,11 @@ add-c c = search needs
 add-h : tie.Need-add-h Inv-loop μ-loop
 add-h c = search needs
 
-mul-t12 : tie.Need-mul-t12 Inv-loop μ-loop
-mul-t12 c = search needs
+mul-have : tie.Need-mul-have Inv-loop μ-loop
+mul-have c = search needs
 
-shared-slice-read-t14 : tie.Need-shared-slice-read-t14 Inv-loop μ-loop
-shared-slice-read-t14 c = search needs
+shared-slice-read-have : tie.Need-shared-slice-read-have Inv-loop μ-loop
+shared-slice-read-have c = search needs
 
 mul-both : tie.Need-mul-both Inv-loop μ-loop
 mul-both c = search needs
@@ -82,8 +82,9 @@ loop-again : tie.Need-loop-again Inv-loop μ-loop
 loop-again c =
     let a = the (tie.Start Inv-loop μ-loop) (search) .args in
     let l = the (tie.At-loop Inv-loop μ-loop) (search) .loop in
-    let inflow = the (tie.After-both Inv-loop μ-loop) (search) .both .ensures .0 in
-    let cell = row-cell (a .w) (a .rows) (a .up .now) (a .down .now) (l .j) (omega arith) inflow (c .before .both2 .ensures .0) in
+    let enters = the (tie.After-both Inv-loop μ-loop) (search) .both .ensures .0 in
+    let leaves = the (tie.After-both2 Inv-loop μ-loop) (search) .both2 .ensures .0 in
+    let cell = row-cell (a .w) (a .rows) (a .up .now) (a .down .now) (l .j) (omega arith) enters leaves in
     (search needs, ap₂ _&&_ (l .inv .1) (c .cell-allows .ensures ∙ cell-allows cell (a .air .now)) ∙ sym (every-more (l .j) _))
 
 returns : tie.Need-returns Inv-loop μ-loop
@@ -103,8 +104,8 @@ rows-allow-spec =
     loop-holds
     add-c
     add-h
-    mul-t12
-    shared-slice-read-t14
+    mul-have
+    shared-slice-read-have
     mul-both
     shared-slice-read-both
     mul-both-2

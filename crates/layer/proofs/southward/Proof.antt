@@ -19,13 +19,15 @@ low-end-requires : tie.Need-low-end-requires
 low-end-requires c κs =
     let start : tie.Start = search in
     let a = start .args in
-    rw (c .before .north-of .ensures) (start .pre .need _ _ (north-cap-near (a .w) (a .rows) (a .i) (omega arith)))
+    let near = north-cap-near (a .w) (a .rows) (a .i) (omega arith) in
+    rw (c .before .north-of .ensures) (start .pre .need _ _ near)
 
 returns : tie.Need-returns
 returns c =
     let start : tie.Start = search in
     let a = start .args in
-    rw (c .before .before .north-of .ensures) at (c .low-end .ensures) ∙ piece-low (start .pre .ratios) (north-cap-near (a .w) (a .rows) (a .i) (omega arith)) _
+    let near = north-cap-near (a .w) (a .rows) (a .i) (omega arith) in
+    rw (c .before .before .north-of .ensures) at (c .low-end .ensures) ∙ piece-low (start .pre .ratios) near _
 
 south-of-requires : tie.Need-south-of-requires
 south-of-requires c κs = search needs
@@ -39,15 +41,19 @@ north-of-requires-2 c κs = search needs
 low-end-requires-2 : tie.Need-low-end-requires-2
 low-end-requires-2 c κs =
     let start : tie.Start = search in
+    let own = the tie.After-north-of (search) .north-of .ensures in
     let a = start .args in
-    rw (c .before .south-of .ensures, c .before .before .before .north-of .ensures, c .north-of2 .ensures) (start .pre .need _ _ (north-near (a .w) (a .rows) (a .i) (omega arith)))
+    let near = north-near (a .w) (a .rows) (a .i) (omega arith) in
+    rw (c .before .south-of .ensures, own, c .north-of2 .ensures) (start .pre .need _ _ near)
 
 returns-2 : tie.Need-returns-2
 returns-2 c =
     let start : tie.Start = search in
-    let north = the tie.After-north-of (search) .north-of .ensures in
+    let own = the tie.After-north-of (search) .north-of .ensures in
     let a = start .args in
-    rw (c .before .before .south-of .ensures, north, c .before .north-of2 .ensures) at (c .low-end2 .ensures) ∙ piece-low (start .pre .ratios) (north-near (a .w) (a .rows) (a .i) (omega arith)) _
+    let near = north-near (a .w) (a .rows) (a .i) (omega arith) in
+    let piece = rw (c .before .before .south-of .ensures, own, c .before .north-of2 .ensures) at (c .low-end2 .ensures) in
+    piece ∙ piece-low (start .pre .ratios) near _
 
 pub southward-spec : {M : Type 1} → statement M
 southward-spec =

@@ -15,7 +15,9 @@ fill-ratios-requires : tie.Need-fill-ratios-requires
 fill-ratios-requires c κs =
     let start : tie.Start = search in
     let a = start .args in
-    subst (λ (n : ℕ). HasAir n (a .air .now) (a .gas .now) (a .q .now)) (sym (start .pre .need .airLong)) (has-air (start .pre .need) _ (omega (arith, layer-cells (a .w) (a .rows), start .pre .ratios)))
+    let need = start .pre .need in
+    let some = has-air need (a .q .now) (omega (arith, layer-cells (a .w) (a .rows), start .pre .ratios)) in
+    subst (λ (n : ℕ). HasAir n (a .air .now) (a .gas .now) (a .q .now)) (sym (need .airLong)) some
 
 fill-pieces-requires : tie.Need-fill-pieces-requires
 fill-pieces-requires c κs =
@@ -29,9 +31,11 @@ pass-layer-requires : tie.Need-pass-layer-requires
 pass-layer-requires c κs =
     let start : tie.Start = search in
     let pieces = the tie.After-fill-pieces (search) .fill-pieces .ensures in
-    let pre = start .pre in (
-      record { size = pre .size; long = pre .need .gasLong ∙ layer-cells (start .args .w) (start .args .rows); faces = record { high = search needs; low = search needs } },
-      gas-moves (layer-regular (start .args .w) (start .args .rows)) (pre .need) pieces,
+    let a = start .args in
+    let need = start .pre .need in
+    let long = need .gasLong ∙ layer-cells (a .w) (a .rows) in (
+      record { size = start .pre .size; long = long; faces = record { high = search needs; low = search needs } },
+      gas-moves (layer-regular (a .w) (a .rows)) need pieces,
     )
 
 same-length : tie.Need-same-length

@@ -1,10 +1,9 @@
 -- `row::pass_row` meets its contract. The loop's invariant: the columns passed have what the substep leaves there, the others what they had.
 -- Assumes nothing.
-use Prim.Native.Nat.{ℕ, _+_, _≤_, _-_}
-use mathlib.Core.Path.{_≡_, _∙_, ap₂}
+use Prim.Native.Nat.{_≤_, _-_}
+use mathlib.Core.Path.{_≡_}
 use native.Mathlib.Omega.{arith}
 use lib.ListN.{length}
-use Rattle.model.specs.Basic.{at}
 use Rattle.model.specs.Sweep.{ring}
 use Rattle.substep.specs.Faces.{flowOf}
 use Rattle.substep.specs.Cells.{Moved, moved-none, moved-exchange, moved-more, all-moved}
@@ -68,9 +67,11 @@ amount-after-requires c κs =
     let start : tie.Start Inv-loop μ-loop = search in
     let l = the (tie.At-loop Inv-loop μ-loop) (search) .loop in
     let west = the (tie.After-west-of Inv-loop μ-loop) (search) .west-of .ensures .0 in
+    let enters = the (tie.After-both Inv-loop μ-loop) (search) .both .ensures .0 in
     let a = start .args in
-    let own = column (length (a .amounts .now)) (l .i) (search needs) (flowOf (a .up .now) (a .down .now)) _ west in
-    rw (c .before .before .before .both .ensures .0, c .both2 .ensures .0) (moved-exchange (start .pre .moves) (l .inv .2) own)
+    let flow = flowOf (a .up .now) (a .down .now) in
+    let own = column (length (a .amounts .now)) (l .i) (search needs) flow west enters (c .both2 .ensures .0) in
+    moved-exchange (start .pre .moves) (l .inv .2) own
 
 mul-amounts : tie.Need-mul-amounts Inv-loop μ-loop
 mul-amounts c = search needs
@@ -89,12 +90,14 @@ loop-again c =
     let start : tie.Start Inv-loop μ-loop = search in
     let l = the (tie.At-loop Inv-loop μ-loop) (search) .loop in
     let west = the (tie.After-west-of Inv-loop μ-loop) (search) .west-of .ensures .0 in
-    let inflow = the (tie.After-both Inv-loop μ-loop) (search) .both .ensures .0 in
+    let enters = the (tie.After-both Inv-loop μ-loop) (search) .both .ensures .0 in
+    let leaves = the (tie.After-both2 Inv-loop μ-loop) (search) .both2 .ensures .0 in
     let a = start .args in
-    let own = column (length (a .amounts .now)) (l .i) (search needs) (flowOf (a .up .now) (a .down .now)) _ west in (
+    let flow = flowOf (a .up .now) (a .down .now) in
+    let own = column (length (a .amounts .now)) (l .i) (search needs) flow west enters leaves in (
       search needs,
       search needs,
-      moved-more (start .pre .moves) (l .inv .2) own _ (c .amount-after .ensures ∙ ap₂ (λ (e o : ℕ). at (l .amounts) (l .i) + e - o) inflow (c .before .both2 .ensures .0)),
+      moved-more (start .pre .moves) (l .inv .2) own (c .amount-after .ensures),
     )
 
 same-length : tie.Need-same-length Inv-loop μ-loop

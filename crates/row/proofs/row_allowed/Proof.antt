@@ -5,11 +5,11 @@ use mathlib.Core.Bool.{_&&_}
 use mathlib.Core.Path.{_≡_, sym, _∙_, ap, ap₂}
 use native.Mathlib.Omega.{arith}
 use lib.ListN.{length}
-use Rattle.model.specs.Basic.{at, every}
+use Rattle.model.specs.Basic.{every}
 use Rattle.model.specs.Sweep.{ring}
 use Rattle.model.specs.Laws.Basic.{every-none, every-more}
 use Rattle.substep.specs.Faces.{flowOf}
-use Rattle.substep.specs.Cells.{mayPass, cellAllowed, cell-allows}
+use Rattle.substep.specs.Cells.{cellAllowed, cell-allows}
 use Rattle.row.specs.Columns.{allowed-columns, column}
 use Rattle.units.specs.The.{the}
 use borrow.Author.Needs.{needs}
@@ -29,11 +29,11 @@ loop-holds c = (search needs, search needs, sym (every-none _))
 west-of-requires : tie.Need-west-of-requires Inv-loop μ-loop
 west-of-requires c κs = search needs
 
-mul-t9 : tie.Need-mul-t9 Inv-loop μ-loop
-mul-t9 c = search needs
+mul-have : tie.Need-mul-have Inv-loop μ-loop
+mul-have c = search needs
 
-shared-slice-read-t11 : tie.Need-shared-slice-read-t11 Inv-loop μ-loop
-shared-slice-read-t11 c = search needs
+shared-slice-read-have : tie.Need-shared-slice-read-have Inv-loop μ-loop
+shared-slice-read-have c = search needs
 
 mul-both : tie.Need-mul-both Inv-loop μ-loop
 mul-both c = search needs
@@ -80,13 +80,14 @@ loop-again c =
     let a = the (tie.Start Inv-loop μ-loop) (search) .args in
     let l = the (tie.At-loop Inv-loop μ-loop) (search) .loop in
     let west = the (tie.After-west-of Inv-loop μ-loop) (search) .west-of .ensures .0 in
-    let inflow = the (tie.After-both Inv-loop μ-loop) (search) .both .ensures .0 in
+    let enters = the (tie.After-both Inv-loop μ-loop) (search) .both .ensures .0 in
+    let leaves = the (tie.After-both2 Inv-loop μ-loop) (search) .both2 .ensures .0 in
     let w : ℕ = length (a .air .now) in
     let flow = flowOf (a .up .now) (a .down .now) in
-    let own = column w (l .i) (search needs) flow _ west in (
+    let own = column w (l .i) (search needs) flow west enters leaves in (
       search needs,
       search needs,
-      ap₂ _&&_ (l .inv .2) (c .cell-allows .ensures ∙ ap₂ (mayPass (at (a .air .now) (l .i))) inflow (c .before .both2 .ensures .0) ∙ cell-allows own (a .air .now)) ∙
+      ap₂ _&&_ (l .inv .2) (c .cell-allows .ensures ∙ cell-allows own (a .air .now)) ∙
           sym (every-more (l .i) (cellAllowed (ring w) flow (a .air .now))),
     )
 
@@ -94,9 +95,10 @@ returns : tie.Need-returns Inv-loop μ-loop
 returns c =
     let a = the (tie.Start Inv-loop μ-loop) (search) .args in
     let l = c .before .loop in
-    let done : l .i ≡ length (a .air .now) = omega arith in
-    l .inv .2 ∙ ap (λ (n : ℕ). every n (cellAllowed (ring (length (a .air .now))) (flowOf (a .up .now) (a .down .now)) (a .air .now))) done ∙
-    allowed-columns (length (a .air .now)) (flowOf (a .up .now) (a .down .now)) (a .air .now)
+    let w : ℕ = length (a .air .now) in
+    let flow = flowOf (a .up .now) (a .down .now) in
+    let done : l .i ≡ w = omega arith in
+    l .inv .2 ∙ ap (λ (n : ℕ). every n (cellAllowed (ring w) flow (a .air .now))) done ∙ allowed-columns w flow (a .air .now)
 
 pub row-allowed-spec : {M : Type 1} → statement M
 row-allowed-spec =
@@ -106,8 +108,8 @@ row-allowed-spec =
     μ-loop
     loop-holds
     west-of-requires
-    mul-t9
-    shared-slice-read-t11
+    mul-have
+    shared-slice-read-have
     mul-both
     shared-slice-read-both
     mul-both-2

@@ -6,11 +6,10 @@ use mathlib.Core.Path.{_≡_, refl, sym, _∙_, ap, ap₂}
 use native.Mathlib.Omega.{arith}
 use lib.ListN.{length}
 use Rattle.model.specs.Basic.{every}
-use Rattle.model.specs.Sweep.{ring, allowed, afterFlow}
+use Rattle.model.specs.Sweep.{ring}
 use Rattle.model.specs.Laws.Basic.{every-none, every-more}
-use Rattle.substep.specs.Faces.{flowOf}
 use Rattle.substep.specs.Cells.{air-moves}
-use Rattle.row.specs.Substeps.{chain, may, chain-start, chain-more, may-step, serves-is, serves-not}
+use Rattle.row.specs.Substeps.{chain, may, chain-start, may-here, after-here, serves-is, serves-not}
 use Rattle.units.specs.The.{the}
 use borrow.Author.Needs.{needs}
 use Rattle.row.proofs.serves.Statement.{statement}
@@ -29,7 +28,10 @@ abbrev μ-loop : tie.MeasureT-loop
 μ-loop air₀ fluxes n up₀ down₀ s₀ air up down s = n - s
 
 loop-holds : tie.Need-loop-holds Inv-loop μ-loop
-loop-holds c = (search needs, search needs, search needs, search needs, chain-start (c .before .args .fluxes .now) (c .before .args .n) (c .before .args .air .now), every-none _)
+loop-holds c =
+    let a = c .before .args in
+    let start-is = chain-start (a .fluxes .now) (a .n) (a .air .now) in
+    (search needs, search needs, search needs, search needs, start-is, every-none _)
 
 add-fill-parts : tie.Need-add-fill-parts Inv-loop μ-loop
 add-fill-parts c = search needs
@@ -64,8 +66,9 @@ returns c =
     let a = start .args in
     let up = parts .last .1 .1 .1 .0 in
     let down = parts .last .1 .1 .1 .1 .0 in
-    let wide : length (l .air) ≡ length (a .fluxes .now) = l .inv .3 ∙ start .pre .long in
-    let tested = c .before .row-allowed .ensures ∙ ap (λ (w : ℕ). allowed (ring w) (flowOf up down) (l .air)) wide ∙ may-step (a .fluxes .now) (a .n) (a .air .now) (l .s) up down (l .air) (parts .ensures) (l .inv .4) in
+    let long : length (l .air) ≡ length (a .fluxes .now) = l .inv .3 ∙ start .pre .long in
+    let may-is = may-here (a .fluxes .now) (a .n) (a .air .now) (l .s) up down (l .air) (parts .ensures) (l .inv .4) long in
+    let tested = c .before .row-allowed .ensures ∙ may-is in
     sym (serves-not (a .fluxes .now) (a .n) (a .air .now) (l .s) (omega (arith, inside)) (sym tested ∙ c .if1 .left))
 
 slice-aggregate-pass-row : tie.Need-slice-aggregate-pass-row Inv-loop μ-loop
@@ -100,14 +103,16 @@ loop-again c =
     let a = start .args in
     let up = parts .last .1 .1 .1 .0 in
     let down = parts .last .1 .1 .1 .1 .0 in
-    let wide : length (l .air) ≡ length (a .fluxes .now) = l .inv .3 ∙ start .pre .long in
-    let tested = allowed-is ∙ ap (λ (w : ℕ). allowed (ring w) (flowOf up down) (l .air)) wide ∙ may-step (a .fluxes .now) (a .n) (a .air .now) (l .s) up down (l .air) (parts .ensures) (l .inv .4) in (
+    let long : length (l .air) ≡ length (a .fluxes .now) = l .inv .3 ∙ start .pre .long in
+    let may-is = may-here (a .fluxes .now) (a .n) (a .air .now) (l .s) up down (l .air) (parts .ensures) (l .inv .4) long in
+    let after-is = after-here (a .fluxes .now) (a .n) (a .air .now) (l .s) up down (l .air) (parts .ensures) (l .inv .4) long in
+    let permitted = sym (allowed-is ∙ may-is) ∙ row-allowed in (
       omega (arith, inside),
       search needs,
       search needs,
       search needs,
-      c .before .before .pass-row .ensures ∙ ap (λ (w : ℕ). afterFlow (ring w) (flowOf up down) (l .air)) wide ∙ chain-more (a .fluxes .now) (a .n) (a .air .now) (l .s) up down (l .air) (parts .ensures) (l .inv .4),
-      every-more (l .s) (may (a .fluxes .now) (a .n) (a .air .now)) ∙ ap₂ _&&_ (l .inv .5) (sym tested ∙ row-allowed),
+      c .before .before .pass-row .ensures ∙ after-is,
+      every-more (l .s) (may (a .fluxes .now) (a .n) (a .air .now)) ∙ ap₂ _&&_ (l .inv .5) permitted,
     )
 
 same-length-2 : tie.Need-same-length-2 Inv-loop μ-loop

@@ -36,30 +36,31 @@ east-of-requires c κs = search needs
 east-of-requires-2 : tie.Need-east-of-requires-2 Inv-loop μ-loop
 east-of-requires-2 c κs = search needs
 
-mul-t16 : tie.Need-mul-t16 Inv-loop μ-loop
-mul-t16 c = search needs
+mul-eastward : tie.Need-mul-eastward Inv-loop μ-loop
+mul-eastward c = search needs
 
-shared-slice-read-t18 : tie.Need-shared-slice-read-t18 Inv-loop μ-loop
-shared-slice-read-t18 c = search needs
+shared-slice-read-eastward : tie.Need-shared-slice-read-eastward Inv-loop μ-loop
+shared-slice-read-eastward c = search needs
+
+mul-westward : tie.Need-mul-westward Inv-loop μ-loop
+mul-westward c = search needs
+
+shared-slice-read-westward : tie.Need-shared-slice-read-westward Inv-loop μ-loop
+shared-slice-read-westward c = search needs
 
 high-end-requires : tie.Need-high-end-requires Inv-loop μ-loop
 high-end-requires c κs =
-    let start : tie.Start Inv-loop μ-loop = search in
-    let l = the (tie.At-loop Inv-loop μ-loop) (search) .loop in
-    face-gives-high (start .pre) (l .i) (search needs) _ (c .before .before .east-of .ensures .0) _ (c .before .before .before .west-of .ensures .0)
-
-mul-t16-2 : tie.Need-mul-t16-2 Inv-loop μ-loop
-mul-t16-2 c = search needs
-
-shared-slice-read-t18-2 : tie.Need-shared-slice-read-t18-2 Inv-loop μ-loop
-shared-slice-read-t18-2 c = search needs
+    let need = the (tie.Start Inv-loop μ-loop) (search) .pre in
+    let west = the (tie.After-west-of Inv-loop μ-loop) (search) .west-of .ensures .0 in
+    let east = the (tie.After-east-of Inv-loop μ-loop) (search) .east-of .ensures .0 in
+    face-gives-high need (search needs) east west
 
 low-end-requires : tie.Need-low-end-requires Inv-loop μ-loop
 low-end-requires c κs =
-    let start : tie.Start Inv-loop μ-loop = search in
-    let l = the (tie.At-loop Inv-loop μ-loop) (search) .loop in
+    let need = the (tie.Start Inv-loop μ-loop) (search) .pre in
     let east = the (tie.After-east-of Inv-loop μ-loop) (search) .east-of .ensures .0 in
-    face-gives-low (start .pre) (l .i) (search needs) _ east _ (c .before .before .before .east-of2 .ensures .0)
+    let next = the (tie.After-east-of2 Inv-loop μ-loop) (search) .east-of2 .ensures .0 in
+    face-gives-low need (search needs) east next
 
 mul-high : tie.Need-mul-high Inv-loop μ-loop
 mul-high c = search needs
@@ -91,9 +92,9 @@ loop-again c =
       search needs,
       search needs,
       search needs,
-      same-more (l .high) (l .low) _ (l .i) _ _ (search needs) (search needs) (l .inv .4)
-          (c .before .before .high-end .ensures ∙ face-high need (l .i) (search needs) _ east _ west)
-          (c .low-end .ensures ∙ face-low need (l .i) (search needs) _ east _ next),
+      same-more (l .high) (l .low) (search needs) (search needs) (l .inv .4)
+          (c .before .high-end .ensures ∙ face-high need (search needs) east west)
+          (c .low-end .ensures ∙ face-low need (search needs) east next),
     )
 
 same-length : tie.Need-same-length Inv-loop μ-loop
@@ -119,11 +120,11 @@ fill-pieces-spec =
     west-of-requires
     east-of-requires
     east-of-requires-2
-    mul-t16
-    shared-slice-read-t18
+    mul-eastward
+    shared-slice-read-eastward
+    mul-westward
+    shared-slice-read-westward
     high-end-requires
-    mul-t16-2
-    shared-slice-read-t18-2
     low-end-requires
     mul-high
     slice-write-high

@@ -17,7 +17,7 @@ abbrev μ-loop : tie.MeasureT-loop
 μ-loop tracers first cells w n rows₀ t₀ rows t = n - t
 
 loop-holds : tie.Need-loop-holds Inv-loop μ-loop
-loop-holds c = (search needs, search needs, rows-none _ _ _ _ _)
+loop-holds c = (search needs, search needs, rows-none)
 
 mul-a : tie.Need-mul-a Inv-loop μ-loop
 mul-a c = let room = row-room (c .before .before .before .pre) (c .before .loop .t) (search needs) in search needs
@@ -72,7 +72,7 @@ loop-again c =
     let room = row-room (start .pre) (l .t) (omega (arith, inside)) .0 in (
       search needs,
       search needs,
-      rows-more _ _ _ _ _ _ room (l .inv .2) _ (c .before .copy .last .1 .0) (search needs) refl (start .pre .fewColumns) (c .before .copy .ensures),
+      rows-more (l .inv .2) room _ (search needs) refl (start .pre .fewColumns) (c .before .copy .ensures),
     )
 
 returns : tie.Need-returns Inv-loop μ-loop

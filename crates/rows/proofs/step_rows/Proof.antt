@@ -1,11 +1,10 @@
 -- `rows::step_rows` meets its contract. The loop's invariant: the tracers passed are stepped, the others as they were.
 -- Assumes nothing.
-use Prim.Native.Nat.{ℕ, _≤_, _-_}
-use mathlib.Core.List.{List}
-use mathlib.Core.Path.{_≡_, ap, _∙_}
+use Prim.Native.Nat.{_≤_, _-_}
+use mathlib.Core.Path.{_≡_, _∙_}
 use native.Mathlib.Omega.{arith}
 use lib.ListN.{length}
-use Rattle.rows.specs.Gas.{rowStepped, Stepping, step-need, stepping-none, stepping-more, row-lent}
+use Rattle.rows.specs.Gas.{Stepping, step-need, stepping-none, stepping-more, row-lent, lent-stepped}
 use Rattle.units.specs.The.{the}
 use borrow.Author.Needs.{needs}
 use Rattle.rows.proofs.step_rows.Statement.{statement}
@@ -61,11 +60,10 @@ loop-again : tie.Need-loop-again Inv-loop μ-loop
 loop-again c =
     let start : tie.Start Inv-loop μ-loop = search in
     let l = the (tie.At-loop Inv-loop μ-loop) (search) .loop in
-    let inside = the (tie.In-loop Inv-loop μ-loop) (search) .loop-test .taken in
-    let a = start .args in (
+    let inside = the (tie.In-loop Inv-loop μ-loop) (search) .loop-test .taken in (
       search needs,
       search needs,
-      stepping-more (start .pre) (l .inv .2) (search needs) _ (c .before .step-gas .ensures ∙ ap (λ (g : List ℕ). rowStepped g (a .air .now) (a .up .now) (a .down .now)) (row-lent (start .pre) (l .inv .2) (search needs))),
+      stepping-more (start .pre) (l .inv .2) (search needs) (c .before .step-gas .ensures ∙ lent-stepped (start .pre) (l .inv .2) (search needs)),
     )
 
 returns : tie.Need-returns Inv-loop μ-loop

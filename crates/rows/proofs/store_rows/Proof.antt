@@ -18,8 +18,7 @@ abbrev μ-loop : tie.MeasureT-loop
 
 loop-holds : tie.Need-loop-holds Inv-loop μ-loop
 loop-holds c =
-    let start = c .before in
-    (search needs, stored-none (start .args .tracers .now) (start .args .first) (start .args .cells) (start .args .w) (start .args .n) (start .args .t1) (start .pre))
+    (search needs, stored-none (c .before .pre))
 
 mul-a : tie.Need-mul-a Inv-loop μ-loop
 mul-a c = let room = row-room (c .before .before .before .pre .fit) (c .before .loop .t) (search needs) in search needs
@@ -64,7 +63,7 @@ part-copy-end-2 c =
     let start : tie.Start Inv-loop μ-loop = search in
     let l = the (tie.At-loop Inv-loop μ-loop) (search) .loop in
     let room = row-room (start .pre .fit) (l .t) (search needs) in
-    omega (arith, ap length (l .inv .1), length-stored-up-to (start .args .tracers .now) (start .args .first) (start .args .cells) (start .args .w) (start .args .n) (start .args .t1) (start .pre) (l .t) (search needs))
+    omega (arith, ap length (l .inv .1), length-stored-up-to (start .pre) (l .t) (search needs))
 
 copy-requires : tie.Need-copy-requires Inv-loop μ-loop
 copy-requires c κs = search needs
@@ -79,19 +78,19 @@ loop-again : tie.Need-loop-again Inv-loop μ-loop
 loop-again c =
     let start : tie.Start Inv-loop μ-loop = search in
     let l = the (tie.At-loop Inv-loop μ-loop) (search) .loop in
-    (search needs, stored-more (start .args .tracers .now) (start .args .first) (start .args .cells) (start .args .w) (start .args .n) (start .args .t1) (start .pre) (l .t) (search needs) _ _ (l .inv .1) (c .before .before .copy .ensures))
+    (search needs, stored-more (start .pre) (l .t) (search needs) (l .inv .1) (c .before .before .copy .ensures))
 
 same-length : tie.Need-same-length Inv-loop μ-loop
 same-length c =
     let start = c .before .before .before in
     let l = c .before .loop in
-    ap length (l .inv .1) ∙ length-stored-up-to (start .args .tracers .now) (start .args .first) (start .args .cells) (start .args .w) (start .args .n) (start .args .t1) (start .pre) (l .t) (search needs)
+    ap length (l .inv .1) ∙ length-stored-up-to (start .pre) (l .t) (search needs)
 
 returns : tie.Need-returns Inv-loop μ-loop
 returns c =
     let start = c .before .before .before in
     let done : c .before .loop .t ≡ start .args .n = omega arith in
-    stored-all (start .args .tracers .now) (start .args .first) (start .args .cells) (start .args .w) (start .args .n) (start .args .t1) (start .pre) _ (rw done at (c .before .loop .inv .1))
+    stored-all (start .pre) (rw done at (c .before .loop .inv .1))
 
 pub store-rows-spec : {M : Type 1} → statement M
 store-rows-spec =

@@ -4,6 +4,7 @@ use Prim.Native.Nat.{_≤_, _-_}
 use mathlib.Core.Path.{_≡_}
 use native.Mathlib.Omega.{arith}
 use lib.ListN.{length}
+use Rattle.row.specs.Columns.{Room}
 use Rattle.rows.specs.Swept.{After, after-none, rows-may-step, air-may-pass, after-more, after-all}
 use Rattle.units.specs.The.{the}
 use borrow.Author.Needs.{needs}
@@ -18,7 +19,7 @@ abbrev μ-loop : tie.MeasureT-loop
 μ-loop air₀ fluxes n tracers current₀ up₀ down₀ s₀ air current up down s = n - s
 
 loop-holds : tie.Need-loop-holds Inv-loop μ-loop
-loop-holds c = (search needs, search needs, search needs, after-none _ _ _ _ _ (c .before .pre))
+loop-holds c = (search needs, search needs, search needs, after-none (c .before .pre))
 
 add-fill-parts : tie.Need-add-fill-parts Inv-loop μ-loop
 add-fill-parts c = search needs
@@ -46,7 +47,8 @@ step-rows-requires c κs =
     let parts = the (tie.After-fill-parts Inv-loop μ-loop) (search) .fill-parts in
     let up = parts .last .1 .1 .1 .0 in
     let down = parts .last .1 .1 .1 .1 .0 in
-    rows-may-step _ _ _ _ _ (start .pre) (l .s) (search needs) (l .air) (l .current) (l .inv .3) up down (parts .ensures) (record { high = search needs; low = search needs })
+    let room : Room (length (start .args .fluxes .now)) up down = record { high = search needs; low = search needs } in
+    rows-may-step (start .pre) (l .inv .3) inside (parts .ensures) room
 
 slice-aggregate-pass-row : tie.Need-slice-aggregate-pass-row Inv-loop μ-loop
 slice-aggregate-pass-row c = search needs
@@ -62,7 +64,8 @@ pass-row-requires c κs =
     let parts = the (tie.After-fill-parts Inv-loop μ-loop) (search) .fill-parts in
     let up = parts .last .1 .1 .1 .0 in
     let down = parts .last .1 .1 .1 .1 .0 in
-    air-may-pass _ _ _ _ _ (start .pre) (l .s) (search needs) (l .air) (l .current) (l .inv .3) up down (parts .ensures) (record { high = search needs; low = search needs })
+    let room : Room (length (start .args .fluxes .now)) up down = record { high = search needs; low = search needs } in
+    air-may-pass (start .pre) (l .inv .3) inside (parts .ensures) room
 
 add-s : tie.Need-add-s Inv-loop μ-loop
 add-s c = search needs
@@ -78,11 +81,12 @@ loop-again c =
     let parts = the (tie.After-fill-parts Inv-loop μ-loop) (search) .fill-parts in
     let stepped = the (tie.After-step-rows Inv-loop μ-loop) (search) .step-rows .ensures in
     let up = parts .last .1 .1 .1 .0 in
-    let down = parts .last .1 .1 .1 .1 .0 in (
+    let down = parts .last .1 .1 .1 .1 .0 in
+    let room : Room (length (start .args .fluxes .now)) up down = record { high = search needs; low = search needs } in (
       search needs,
       search needs,
       search needs,
-      after-more _ _ _ _ _ (start .pre) (l .s) (search needs) (l .air) (l .current) (l .inv .3) up down (parts .ensures) (record { high = search needs; low = search needs }) _ _ (c .before .before .pass-row .ensures) stepped,
+      after-more (start .pre) (l .inv .3) inside (parts .ensures) room (c .before .before .pass-row .ensures) stepped,
     )
 
 same-length : tie.Need-same-length Inv-loop μ-loop
@@ -91,7 +95,7 @@ same-length c = search needs
 returns : tie.Need-returns Inv-loop μ-loop
 returns c =
     let l = c .before .loop in
-    after-all _ _ _ _ _ (c .before .before .before .pre) (l .s) (omega arith) (l .air) (l .current) (l .inv .3)
+    after-all (c .before .before .before .pre) (l .inv .3) (omega arith)
 
 pub sweep-rows-spec : {M : Type 1} → statement M
 sweep-rows-spec =
