@@ -11,7 +11,7 @@ use mir.Val.{Fits as Fits32}
 use lib.ListN.{length, set}
 use Rattle.model.specs.Limits.{totalLimit, mostAmounts}
 use Rattle.model.specs.Basic.{at}
-use Rattle.model.specs.World.{World, worldCells, withTracers, tracerStart, gas, gasTotal}
+use Rattle.model.specs.World.{World, worldCells, withAmounts, tracerStart, gas, gasTotal}
 use Rattle.model.specs.Step.{Place, place, amountAt, load, emission, withdrawal, cell}
 use Rattle.model.specs.Laws.Basic.{at-part, term-le-sum}
 use Rattle.model.specs.Laws.Grid.{in-range, amounts-most}
@@ -94,19 +94,19 @@ module _ {w : World} {t c : ℕ} {p : Placed} (found : CellFound w t c p) {amoun
   emission-refused over =
       refuse (resume (found .left) emission-like) (lt-ltb _ _ (rw (found .total) at over)) refl
 
-  pub emission-agrees : p .found + amount ≤ totalLimit → Agrees w (emission t c amount) (Accepted 0) (withTracers w (set (w .tracers) (p .first) (at (w .tracers) (p .first) + amount)))
+  pub emission-agrees : p .found + amount ≤ totalLimit → Agrees w (emission t c amount) (Accepted 0) (withAmounts w (w .air) (set (w .tracers) (p .first) (at (w .tracers) (p .first) + amount)))
   emission-agrees room =
       accept (none (next (resume (found .left) emission-like) (le-ltb _ _ (rw (found .total) at room)))) refl refl
-      (ap₂ (λ (j x : ℕ). withTracers w (set (w .tracers) j (x + amount))) (found .start) (found .amount))
+      (ap₂ (λ (j x : ℕ). withAmounts w (w .air) (set (w .tracers) j (x + amount))) (found .start) (found .amount))
 
   pub withdrawal-refused : at (w .tracers) (p .first) < amount → Agrees w (withdrawal t c amount) (Refused Withdrawal) w
   withdrawal-refused over =
       refuse (resume (found .left) withdrawal-like) (lt-ltb _ _ (rw (found .amount) at over)) refl
 
-  pub withdrawal-agrees : amount ≤ at (w .tracers) (p .first) → Agrees w (withdrawal t c amount) (Accepted 0) (withTracers w (set (w .tracers) (p .first) (at (w .tracers) (p .first) - amount)))
+  pub withdrawal-agrees : amount ≤ at (w .tracers) (p .first) → Agrees w (withdrawal t c amount) (Accepted 0) (withAmounts w (w .air) (set (w .tracers) (p .first) (at (w .tracers) (p .first) - amount)))
   withdrawal-agrees room =
       accept (none (next (resume (found .left) withdrawal-like) (le-ltb _ _ (rw (found .amount) at room)))) refl refl
-      (ap₂ (λ (j x : ℕ). withTracers w (set (w .tracers) j (x - amount))) (found .start) (found .amount))
+      (ap₂ (λ (j x : ℕ). withAmounts w (w .air) (set (w .tracers) j (x - amount))) (found .start) (found .amount))
 
 -- ---- the reading
 pub cell-agrees : {w : World} {t c : ℕ} {p : Placed} → CellFound w t c p → Agrees w (cell t c) (Accepted (at (w .tracers) (p .first))) w

@@ -11,6 +11,7 @@ use Rattle.model.specs.Limits.{totalLimit}
 use Rattle.model.specs.Basic.{at, tab, sum}
 use Rattle.model.specs.Remap.{airAbove, newAir, newTracer, layers}
 use Rattle.model.specs.Laws.Basic.{at-tab, sum-tab, sum-columns, term-le-sum}
+use Rattle.model.specs.Scheme.{mismatch}
 use Rattle.model.specs.Laws.Column.{Edges}
 use Rattle.column.specs.Column.{firsts, IsNewAir, Served}
 use Rattle.column.specs.Gas.{GasNeed, IsRemapped}
@@ -27,7 +28,7 @@ capAt cells c = eqb c 0 || eqb (suc c) cells
 
 abbrev pub gasNew : ℕ → ℕ → List ℕ → List ℕ → List ℕ → ℕ → ℕ → ℕ
 gasNew k cells table air gas i c =
-    newTracer table (columnSum k cells air c) (layers (capAt cells c) k (columnOf k cells air c) (columnOf k cells gas c)) i
+    newTracer table (columnSum k cells air c) (layers mismatch (capAt cells c) k (columnOf k cells air c) (columnOf k cells gas c)) i
 
 abbrev pub airMoved : ℕ → ℕ → List ℕ → List ℕ → List ℕ
 airMoved k cells table air = tab (k * cells) (λ i. airNew k cells table air (i / cells) (i % cells))
@@ -110,6 +111,6 @@ module _ {gas air table : List ℕ} {cells k : ℕ} (need : ColumnsGasNeed gas a
         (λ i p.
         sym (at-tab k (at new) i p) ∙
         ap (λ (l : List ℕ). at l i) (made .is table (column-edges (need .moves .columns .fit) (need .moves .columns .some) is (need .moves .edges c h))) ∙
-        at-tab k (newTracer table (airAbove (firsts k a) k) (layers cap k (firsts k a) (firsts k old))) i p ∙
-        ap₂ (λ (x y : List ℕ). newTracer table (airAbove x k) (layers cap k x y) i) (is .airIs) (loaded ∙ same-gas) ∙
-        ap (λ (b : Bool). newTracer table (columnSum k cells air c) (layers b k (columnOf k cells air c) (columnOf k cells gas c)) i) (cap-is ∙ ap (λ (n : ℕ). eqb c 0 || eqb n cells) (add-one c)))
+        at-tab k (newTracer table (airAbove (firsts k a) k) (layers mismatch cap k (firsts k a) (firsts k old))) i p ∙
+        ap₂ (λ (x y : List ℕ). newTracer table (airAbove x k) (layers mismatch cap k x y) i) (is .airIs) (loaded ∙ same-gas) ∙
+        ap (λ (b : Bool). newTracer table (columnSum k cells air c) (layers mismatch b k (columnOf k cells air c) (columnOf k cells gas c)) i) (cap-is ∙ ap (λ (n : ℕ). eqb c 0 || eqb n cells) (add-one c)))

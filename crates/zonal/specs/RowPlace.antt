@@ -11,7 +11,7 @@ use Rattle.model.specs.Limits.{zonalLimit, mostSubsteps, mostCells}
 use Rattle.model.specs.Basic.{part}
 use Rattle.model.specs.World.{World, worldCells, rowStart}
 use Rattle.model.specs.Sweep.{ring, substepCount}
-use Rattle.model.specs.Step.{Place, place, rowAbsent, fluxTooLarge, rowAir, zonalCount, zonal}
+use Rattle.model.specs.Step.{absent, Place, place, fluxTooLarge, rowAir, zonalCount, zonal}
 use Rattle.model.specs.Laws.Basic.{length-part}
 use Rattle.model.specs.Laws.Grid.{in-range, cells-most}
 use Rattle.model.specs.Laws.Step.{Fits}
@@ -29,7 +29,7 @@ abbrev pub fromFluxes : ℕ → ℕ → List ℤ → List Place
 fromFluxes k r fluxes = fluxTooLarge fluxes zonalLimit ∷ fromCount k r fluxes
 
 abbrev pub fromRow : ℕ → ℕ → List ℤ → List Place
-fromRow k r fluxes = rowAbsent r ∷ fromFluxes k r fluxes
+fromRow k r fluxes = absent r (λ g. g .R) ∷ fromFluxes k r fluxes
 
 -- ---- row r of layer k, from cell `first` on, with a flux for each column
 pub record RowAt (w : World) (k r : ℕ) (fluxes : List ℤ) (first : ℕ) : Type 0 where

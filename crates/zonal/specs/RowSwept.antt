@@ -18,6 +18,7 @@ use Rattle.model.specs.Laws.Grid.{InRange, in-range, cells-most}
 use Rattle.model.specs.Laws.Sweep.{Sweeps, cells-in}
 use Rattle.model.specs.Laws.Zonal.{zonal-sweeps}
 use Rattle.model.specs.Laws.Entries.{joined-ext, part-part, part-sum-le}
+use Rattle.model.specs.Scheme.{mismatch}
 use Rattle.model.specs.Laws.Substep.{AirIn}
 use Rattle.units.specs.declared.Answer.the-variants.{Accepted}
 use Rattle.units.specs.Answer.{Agrees}
@@ -51,7 +52,7 @@ abbrev pub sweptTracers : Grid → List ℕ → List ℕ → ℕ → List ℤ �
 sweptTracers g tracers air first fluxes n =
     joined
     (tab (g .N)
-    (λ t. written (gasOf g tracers t) first (gasAfter (ring (g .W)) fluxes n air (part (gasOf g tracers t) first (g .W)) n)))
+    (λ t. written (gasOf g tracers t) first (gasAfter mismatch (ring (g .W)) fluxes n air (part (gasOf g tracers t) first (g .W)) n)))
 
 -- the row's air and all tracers, swept
 pub record IsSwept (g : Grid) (tracers air : List ℕ) (first : ℕ) (fluxes : List ℤ) (n : ℕ) (afterAir after : List ℕ) : Type 0 where
@@ -111,7 +112,7 @@ module _ {g : Grid} {tracers air : List ℕ} {first : ℕ} {fluxes : List ℤ} {
                 ap₂ (λ (l r : List ℕ). written l first r)
                 (ap (λ (m : ℕ). part tracers (t * m) m) e)
                 ((rw (ready .long) at (done .each t h)) ∙
-                ap (λ (l : List ℕ). gasAfter (ring (g .W)) fluxes n air l n) (row-of-gas t h)));
+                ap (λ (l : List ℕ). gasAfter mismatch (ring (g .W)) fluxes n air l n) (row-of-gas t h)));
           }
 
 -- ---- the call, once its row is found

@@ -5,8 +5,8 @@ use mathlib.Core.Path.{refl, sym, _∙_}
 use native.Mathlib.Omega.{arith}
 use lib.ListN.{length}
 use Rattle.model.specs.Limits.{mostAmounts}
-use Rattle.model.specs.World.{World}
-use Rattle.model.specs.Step.{Call, cell, cellAbsent}
+use Rattle.model.specs.World.{World, worldCells}
+use Rattle.model.specs.Step.{absent, Call, cell}
 use Rattle.units.specs.Grid.{worldOf, in-range}
 use Rattle.places.specs.declared.Lent.the-variants.{Nothing}
 use Rattle.places.specs.Walk.{Left, Like, next, stop, placed, there, missing}
@@ -53,7 +53,7 @@ returns-2 c =
     stop (own-left (passed common) refl) (missing (no .if2 .left)) (c .not-placed2 .ensures) refl
 
 -- the tracer is there
-past-tracer : (c : tie.Then2) → let s : tie.Start = search needs in Left (world s) (Like (world s) (call s)) (cellAbsent (s .args .cell) ∷ [])
+past-tracer : (c : tie.Then2) → let s : tie.Start = search needs in Left (world s) (Like (world s) (call s)) (absent (s .args .cell) worldCells ∷ [])
 past-tracer c =
     let common : tie.Then1 = search needs in
     next (own-left (passed common) refl) (there (c .if2 .taken))
