@@ -1,3 +1,4 @@
 pub mod Grid
 pub mod Answer
 pub mod Agrees
+pub mod EachTracer
