@@ -19,10 +19,11 @@ use Rattle.model.specs.Laws.Step.{Fits}
 use Rattle.units.specs.declared.Answer.the-variants.{Accepted, Refused}
 use Rattle.units.specs.declared.Refusal.the-variants.{Emission, Withdrawal}
 use Rattle.units.specs.Answer.{numberOf, Agrees}
+use Rattle.units.specs.Agrees.{accepted-agrees}
 use Rattle.places.specs.declared.Lent.the-variants.{Nothing}
 use Rattle.places.specs.declared.Tested.{Tested}
 use Rattle.places.specs.declared.Placed.{Placed}
-use Rattle.places.specs.Walk.{Left, IsPlaced, Like, next, resume, none, refuse, accept}
+use Rattle.places.specs.Walk.{Left, IsPlaced, Like, next, resume, none, refuse}
 use Rattle.places.specs.Tested.{Passed, IsTested, own-left, common-refused}
 
 -- ---- what `amount_place` finds: where the amount stands among all tracers' amounts, and the tracer's total
@@ -50,7 +51,8 @@ module _ {w : World} (fits : Fits w) {t c cells : ℕ} (tracerIn : t < w .grid .
   cell-found {p} left is total =
       let here : c < worldCells (w .grid) = rw same at cellIn in
       let start : p .first ≡ tracerStart (w .grid) t + c = is ∙ ap (λ (n : ℕ). t * n + c) same in
-      let amount : at (w .tracers) (p .first) ≡ amountAt w t c = ap (at (w .tracers)) start ∙ sym (at-part (w .tracers) (tracerStart (w .grid) t) (worldCells (w .grid)) c here) in
+      let amount : at (w .tracers) (p .first) ≡ amountAt w t c =
+      ap (at (w .tracers)) start ∙ sym (at-part (w .tracers) (tracerStart (w .grid) t) (worldCells (w .grid)) c here) in
       record {
         left = left;
         start = start;
@@ -72,7 +74,7 @@ total-fits {w} passed {t} h =
 pub load-agrees : {w : World} {tested : Tested} → IsTested w Nothing tested → (n : ℕ) → numberOf (tested .answer) ≡ n → Agrees w load (tested .answer) w
 load-agrees is zero e =
     let passed = is .found e in
-    accept (none (own-left passed refl)) e (passed .count) refl
+    accepted-agrees (none (own-left passed refl)) e (passed .count) refl
 load-agrees {w} {tested} is (suc n) e =
     common-refused is (λ (z : numberOf (tested .answer) ≡ 0). omega arith) refl
 
@@ -94,20 +96,22 @@ module _ {w : World} {t c : ℕ} {p : Placed} (found : CellFound w t c p) {amoun
   emission-refused over =
       refuse (resume (found .left) emission-like) (lt-ltb _ _ (rw (found .total) at over)) refl
 
-  pub emission-agrees : p .found + amount ≤ totalLimit → Agrees w (emission t c amount) (Accepted 0) (withAmounts w (w .air) (set (w .tracers) (p .first) (at (w .tracers) (p .first) + amount)))
+  pub emission-agrees : p .found + amount ≤ totalLimit →
+      Agrees w (emission t c amount) (Accepted 0) (withAmounts w (w .air) (set (w .tracers) (p .first) (at (w .tracers) (p .first) + amount)))
   emission-agrees room =
-      accept (none (next (resume (found .left) emission-like) (le-ltb _ _ (rw (found .total) at room)))) refl refl
+      accepted-agrees (none (next (resume (found .left) emission-like) (le-ltb _ _ (rw (found .total) at room)))) refl refl
       (ap₂ (λ (j x : ℕ). withAmounts w (w .air) (set (w .tracers) j (x + amount))) (found .start) (found .amount))
 
   pub withdrawal-refused : at (w .tracers) (p .first) < amount → Agrees w (withdrawal t c amount) (Refused Withdrawal) w
   withdrawal-refused over =
       refuse (resume (found .left) withdrawal-like) (lt-ltb _ _ (rw (found .amount) at over)) refl
 
-  pub withdrawal-agrees : amount ≤ at (w .tracers) (p .first) → Agrees w (withdrawal t c amount) (Accepted 0) (withAmounts w (w .air) (set (w .tracers) (p .first) (at (w .tracers) (p .first) - amount)))
+  pub withdrawal-agrees : amount ≤ at (w .tracers) (p .first) →
+      Agrees w (withdrawal t c amount) (Accepted 0) (withAmounts w (w .air) (set (w .tracers) (p .first) (at (w .tracers) (p .first) - amount)))
   withdrawal-agrees room =
-      accept (none (next (resume (found .left) withdrawal-like) (le-ltb _ _ (rw (found .amount) at room)))) refl refl
+      accepted-agrees (none (next (resume (found .left) withdrawal-like) (le-ltb _ _ (rw (found .amount) at room)))) refl refl
       (ap₂ (λ (j x : ℕ). withAmounts w (w .air) (set (w .tracers) j (x - amount))) (found .start) (found .amount))
 
 -- ---- the reading
 pub cell-agrees : {w : World} {t c : ℕ} {p : Placed} → CellFound w t c p → Agrees w (cell t c) (Accepted (at (w .tracers) (p .first))) w
-cell-agrees found = accept (none (found .left)) refl (found .amount) refl
+cell-agrees found = accepted-agrees (none (found .left)) refl (found .amount) refl

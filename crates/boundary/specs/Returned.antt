@@ -1,5 +1,4 @@
 -- What an exported call returns: the model's answer and count in one number, and every lent list at exit.
--- Assumes nothing.
 use Prim.Native.Nat.{ℕ, _+_, _*_}
 use mathlib.Core.List.{List}
 use mathlib.Core.Path.{_≡_}
@@ -7,11 +6,11 @@ use Rattle.model.specs.World.{World}
 use Rattle.model.specs.Step.{Call, step}
 use Rattle.units.specs.declared.Answer.{Answer}
 use Rattle.units.specs.Answer.{numberOf, countOf}
+use Rattle.units.specs.Grid.{worldOf}
 
 -- the world of a call, from the grid's numbers and the lent lists
 abbrev pub lentWorld : ℕ → ℕ → ℕ → ℕ → List ℕ → List ℕ → World
-lentWorld w r k n air tracers =
-    record { grid = record { W = w; R = r; K = k; N = n }; air = air; tracers = tracers }
+lentWorld w r k n = worldOf (record { w = w; r = r; k = k; n = n })
 
 -- answer · 2^32 + count
 abbrev pub packedOf : Answer → ℕ

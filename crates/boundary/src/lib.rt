@@ -1,7 +1,7 @@
 // The public calls for C and Rust. Each takes the grid's four numbers and the lent buffers, and returns one number: answer · 2^32 + count.
 ghost use mathlib.Core.Path.{_≡_};
 ghost use Prim.Native.Nat.{_+_, _*_};
-ghost use Rattle.model.specs.Step.{load, emission, withdrawal, zonal, meridional, remap, total, cell};
+ghost use Rattle.model.specs.Step.{load, emission, withdrawal, zonal, meridional, remap, total, cell as cell-call};
 ghost use Rattle.boundary.specs.Returned.{packedOf, Returns, lentWorld};
 use units::Answer;
 use units::Grid;
@@ -82,7 +82,7 @@ pub extern "C" fn puldeho_cell(
     tracer: u32,
     cell: u32,
 ) -> u64
-    ensures { λ x. ⌜ Returns (lentWorld w r k n (now (air .entry)) (now (tracers .entry))) (cell tracer cell) x (lentWorld w r k n (now (air .entry)) (now (tracers .entry))) ⌝ }
+    ensures { λ x. ⌜ Returns (lentWorld w r k n (now (air .entry)) (now (tracers .entry))) (cell-call tracer cell) x (lentWorld w r k n (now (air .entry)) (now (tracers .entry))) ⌝ }
 {
     packed(amounts::cell(Grid { w, r, k, n }, air, tracers, tracer, cell))
 }

@@ -56,7 +56,8 @@ unfolding serves every airAfter
 serves-one mesh fluxes air = refl
 
 -- the parts of all fluxes, face by face
-pub same-faces : (W R : ℕ) (fluxes : List ℤ) {flow : Flow} → length fluxes ≡ W * (R + 1) → Same (length fluxes) flow (parts fluxes 1 1) → Same (layer W R .faces) flow (parts fluxes 1 1)
+pub same-faces : (W R : ℕ) (fluxes : List ℤ) {flow : Flow} → length fluxes ≡ W * (R + 1) →
+    Same (length fluxes) flow (parts fluxes 1 1) → Same (layer W R .faces) flow (parts fluxes 1 1)
 unfolding layer
 same-faces W R fluxes long same = rw long at same
 
@@ -73,7 +74,9 @@ pub record IsPermit (g : Grid) (air : List ℕ) (first : ℕ) (fluxes : List ℤ
   pub serving : serves (layer (g .W) (g .R)) fluxes (part air first (layerCells g)) 1 ≡ r
 
 -- so tested, over the lent air
-pub permit : {g : Grid} {air : List ℕ} {first : ℕ} {fluxes : List ℤ} {had have up down : List ℕ} {wide : ℕ} {r : Bool} → LayerNeed g air first fluxes had have → wide ≡ layerCells g → AreParts fluxes 1 1 up down → r ≡ allowed (layer (g .W) (g .R)) (flowOf up down) (lentLayer air first wide) → IsPermit g air first fluxes up down r
+pub permit : {g : Grid} {air : List ℕ} {first : ℕ} {fluxes : List ℤ} {had have up down : List ℕ} {wide : ℕ} {r : Bool} →
+    LayerNeed g air first fluxes had have → wide ≡ layerCells g → AreParts fluxes 1 1 up down →
+    r ≡ allowed (layer (g .W) (g .R)) (flowOf up down) (lentLayer air first wide) → IsPermit g air first fluxes up down r
 permit {g} {air} {first} {fluxes} {had} {have} {up} {down} need alike passes e =
     let mesh : Mesh = layer (g .W) (g .R) in
     let same = same-faces (g .W) (g .R) fluxes (need .long) passes in

@@ -19,8 +19,9 @@ use Rattle.model.specs.Laws.Meridional.{meridional-sweeps}
 use Rattle.model.specs.Laws.Substep.{AirIn, length-after-flow}
 use Rattle.units.specs.declared.Answer.the-variants.{Accepted}
 use Rattle.units.specs.Answer.{Agrees}
+use Rattle.units.specs.Agrees.{accepted-agrees}
 use Rattle.places.specs.declared.Placed.{Placed}
-use Rattle.places.specs.Walk.{none, accept}
+use Rattle.places.specs.Walk.{none}
 use Rattle.substep.specs.Faces.{flowOf, Same, same-allowed, same-after}
 use Rattle.substep.specs.Cells.{Moves, air-moves}
 use Rattle.substep.specs.Lent.{put-back}
@@ -77,10 +78,12 @@ module _ {w : World} {k : ℕ} {fluxes : List ℤ} {up down : List ℕ} {p : Pla
   unfolding layer
   after-length stored = ap length stored ∙ length-after-flow mesh (flowOf up down) lent ∙ sym alike
 
-  pub meridional-agrees : {new after : List ℕ} → new ≡ afterFlow mesh (flowOf up down) lent → after ≡ sweptTracers (w .grid) (w .tracers) lent (flowOf up down) (p .first) → Agrees w (meridional k fluxes) (Accepted 1) (withAmounts w (putMid (p .first) (p .first + wide - p .first) (w .air) new) after)
+  pub meridional-agrees : {new after : List ℕ} → new ≡ afterFlow mesh (flowOf up down) lent →
+      after ≡ sweptTracers (w .grid) (w .tracers) lent (flowOf up down) (p .first) →
+      Agrees w (meridional k fluxes) (Accepted 1) (withAmounts w (putMid (p .first) (p .first + wide - p .first) (w .air) new) after)
   unfolding swept layer airAfter gasAfter
   meridional-agrees {new} {after} stored done =
-      accept (none (found .left)) refl refl
+      accepted-agrees (none (found .left)) refl refl
       (ap₂ (withAmounts w)
       (put-back (w .air) new (p .first) wide (after-length stored) ∙
       ap₂ (λ (i : ℕ) (l : List ℕ). written (w .air) i l) (found .start)

@@ -57,19 +57,22 @@ abbrev pub fromGrid : Lent → List Place
 fromGrid lent = place 1 (λ w. not (gridFits (w .grid))) ∷ fromLengths lent
 
 -- place 2 is the same for each of them
+lengths-same : (w : World) (lent : Lent) (call : Call) → lentFits (w .grid) call ≡ lentServes (w .grid) lent →
+    lengthsFit w call ≡ lengthsServe (w .grid) (length (w .air)) (length (w .tracers)) lent
+lengths-same w lent call fit =
+    let air = eqb (length (w .air)) (worldCells (w .grid)) in
+    let tracers = eqb (length (w .tracers)) (w .grid .N * worldCells (w .grid)) in
+    ap (λ (b : Bool). air && tracers && b) fit
+
 pub all-left : (w : World) (lent : Lent) → Left w (Lends w lent) (fromGrid lent)
 unfolding refusal commonPlaces firstOf
 all-left w lent =
     record {
       is =
           λ call rest lends.
-          ap
-          (λ (b : Bool).
-          elim (not (gridFits (w .grid))) [
-            | true ↦ 1
-            | false ↦ elim (not (eqb (length (w .air)) (worldCells (w .grid)) && eqb (length (w .tracers)) (w .grid .N * worldCells (w .grid)) && b)) [ true ↦ 2 | false ↦ firstOf (fromAir ++ ownPlaces call) w ]
-          ])
-          (lends .fit) ∙
+          let behind = firstOf (fromAir ++ ownPlaces call) w in
+          ap (λ (b : Bool). elim (not (gridFits (w .grid))) [ true ↦ 1 | false ↦ elim (not b) [ true ↦ 2 | false ↦ behind ] ])
+          (lengths-same w lent call (lends .fit)) ∙
           ap (λ (l : List Place). firstOf (fromGrid lent ++ l) w) (sym (lends .own));
     }
 
@@ -133,10 +136,12 @@ module _ {w : World} {lent : Lent} {tested : declared.Tested} {call : Call} wher
             ap (λ (l : List Place). firstOf l w) (like .places);
       }
 
-  pub common-refused : IsTested w lent tested → (numberOf (tested .answer) ≡ 0 → ⊥) → lentFits (w .grid) call ≡ lentServes (w .grid) lent → Agrees w call (tested .answer) w
+  pub common-refused : IsTested w lent tested → (numberOf (tested .answer) ≡ 0 → ⊥) →
+      lentFits (w .grid) call ≡ lentServes (w .grid) lent → Agrees w call (tested .answer) w
   common-refused is refused e = is .refused refused call (ownPlaces call) (record { fit = e; own = refl })
 
-  pub common-placed : {answer : Answer} {Found : Type 0} → IsTested w lent tested → (numberOf (tested .answer) ≡ 0 → ⊥) → lentFits (w .grid) call ≡ lentServes (w .grid) lent → answer ≡ tested .answer → IsPlaced w (Like w call) answer Found
+  pub common-placed : {answer : Answer} {Found : Type 0} → IsTested w lent tested → (numberOf (tested .answer) ≡ 0 → ⊥) →
+      lentFits (w .grid) call ≡ lentServes (w .grid) lent → answer ≡ tested .answer → IsPlaced w (Like w call) answer Found
   common-placed is refused e same =
       record {
         refused =

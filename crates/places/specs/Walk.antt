@@ -1,20 +1,18 @@
 -- The walk through a call's places: the refusal is the first of the places left that applies, and so far none did. What a function that tests places gives.
-use Prim.Native.Nat.{ℕ, zero, suc, _≤_, _<_}
+use Prim.Native.Nat.{ℕ, _≤_, _<_}
 use mathlib.Core.List.{List, [], _∷_, _++_, append-assoc, append-nil}
 use mathlib.Core.Bool.{Bool, true, false, not}
 use mathlib.Core.Path.{_≡_, refl, sym, ap, _∙_}
-use native.Mathlib.Omega.{arith}
 use borrow.Author.Tests.{lt-ltb, le-ltb}
 use lib.Dec.{ltb}
 use Rattle.model.specs.World.{World}
-use Rattle.model.specs.Step.{Call, Place, meaning, firstOf, lentFits, refusal, accepted}
+use Rattle.model.specs.Step.{Call, Place, meaning, firstOf, lentFits, refusal}
 use Rattle.model.specs.Laws.Step.{passes, stops}
 use Rattle.units.specs.declared.Answer.{Answer}
 use Rattle.units.specs.declared.Answer.the-variants.{Refused}
 use Rattle.units.specs.declared.Refusal.{Refusal}
-use Rattle.units.specs.declared.Refusal.the-variants.{GridRange, Lengths, AirRange, Totals, Index, Emission, Withdrawal, Fluxes, Zonal, Meridional, Table, Remap}
-use Rattle.units.specs.Answer.{refusalNumber, numberOf, countOf, Agrees}
-use Rattle.units.specs.Agrees.{place-agrees, accepted-agrees}
+use Rattle.units.specs.Answer.{refusalNumber, numberOf, Agrees}
+use Rattle.units.specs.Agrees.{refusal-nonzero, refused-agrees}
 
 -- the places that are left to test, of `Calls`: calls that are tested alike, each with the places that it has behind these
 pub record Left (w : World) (Calls : Call → List Place → Type 0) (ps : List Place) : Type 0 where
@@ -25,34 +23,19 @@ pub record IsPlaced (w : World) (Calls : Call → List Place → Type 0) (answer
   pub refused : (numberOf answer ≡ 0 → ⊥) → (call : Call) (rest : List Place) → Calls call rest → Agrees w call answer w
   pub found : numberOf answer ≡ 0 → Found
 
--- no refusal has the number of an accepted call
-nonzero : (r : Refusal) → refusalNumber r ≡ 0 → ⊥
-nonzero GridRange e = omega arith
-nonzero Lengths e = omega arith
-nonzero AirRange e = omega arith
-nonzero Totals e = omega arith
-nonzero Index e = omega arith
-nonzero Emission e = omega arith
-nonzero Withdrawal e = omega arith
-nonzero Fluxes e = omega arith
-nonzero Zonal e = omega arith
-nonzero Meridional e = omega arith
-nonzero Table e = omega arith
-nonzero Remap e = omega arith
-
 -- ---- one place: it does not apply, or it refuses
 module _ {w : World} {Calls : Call → List Place → Type 0} {p : Place} {ps : List Place} (left : Left w Calls (p ∷ ps)) where
   pub next : p .applies w ≡ false → Left w Calls ps
   next e = record { is = λ call rest asks. left .is call rest asks ∙ passes p (ps ++ rest) w e }
 
-  pub stop : {answer : Answer} {r : Refusal} {Found : Type 0} → p .applies w ≡ true → answer ≡ Refused r → refusalNumber r ≡ p .number → IsPlaced w Calls answer Found
+  pub stop : {answer : Answer} {r : Refusal} {Found : Type 0} → p .applies w ≡ true → answer ≡ Refused r →
+      refusalNumber r ≡ p .number → IsPlaced w Calls answer Found
   stop {answer} {r} e is number =
       record {
         refused =
             λ _ call rest asks.
-            rw is
-            (place-agrees w call r (left .is call rest asks ∙ stops p (ps ++ rest) w e ∙ sym number) (nonzero r));
-        found = λ z. absurd (nonzero r (rw is at z));
+            rw is (refused-agrees (left .is call rest asks ∙ stops p (ps ++ rest) w e ∙ sym number));
+        found = λ z. absurd (refusal-nonzero r (rw is at z));
       }
 
 -- none applies
@@ -99,15 +82,12 @@ module _ {w : World} {call : Call} where
   none left = left .is call [] itself
 
   -- refused by a place of its own
-  pub refuse : {p : Place} {ps : List Place} {r : Refusal} → Left w (Like w call) (p ∷ ps) → p .applies w ≡ true → refusalNumber r ≡ p .number → Agrees w call (Refused r) w
+  pub refuse : {p : Place} {ps : List Place} {r : Refusal} → Left w (Like w call) (p ∷ ps) → p .applies w ≡ true →
+      refusalNumber r ≡ p .number → Agrees w call (Refused r) w
   refuse {p} {ps} {r} left e number =
-      place-agrees w call r (left .is call [] itself ∙ stops p (ps ++ []) w e ∙ sym number) (nonzero r)
-
-  -- accepted: the count and the world afterwards are the call's
-  pub accept : {answer : Answer} {next : World} → refusal w call ≡ 0 → numberOf answer ≡ 0 → countOf answer ≡ meaning call .count w → next ≡ meaning call .next w → Agrees w call answer next
-  unfolding accepted
-  accept {answer} {next} e number count left = accepted-agrees w call answer next e number count left
+      refused-agrees (left .is call [] itself ∙ stops p (ps ++ []) w e ∙ sym number)
 
 -- what a function that tests places refuses
-pub refuses : {w : World} {call other : Call} {rest : List Place} {answer : Answer} {Found : Type 0} → IsPlaced w (Like w call) answer Found → (numberOf answer ≡ 0 → ⊥) → Like w call other rest → Agrees w other answer w
+pub refuses : {w : World} {call other : Call} {rest : List Place} {answer : Answer} {Found : Type 0} →
+    IsPlaced w (Like w call) answer Found → (numberOf answer ≡ 0 → ⊥) → Like w call other rest → Agrees w other answer w
 refuses {w} {call} {other} {rest} placed refused like = placed .refused refused other rest like

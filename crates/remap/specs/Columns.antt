@@ -58,7 +58,8 @@ module _ (cells : ℕ) (l : List ℕ) (c : ℕ) (f : ℕ → ℕ) where
       (λ (e : i ≡ n). ap (λ (j : ℕ). at (columnSet cells l c f (suc n)) (j * cells + c)) e ∙ getD-set-same (columnSet cells l c f n) (n * cells + c) (f n) 0 (omega (arith, set-length n)) ∙ ap f (sym e))
       (λ (u : i < n).
       let below : suc i * cells ≤ n * cells = mul-le-mul-right cells u in
-      getD-set-other (columnSet cells l c f n) (n * cells + c) (i * cells + c) (f n) 0 (λ (q : i * cells + c ≡ n * cells + c). omega arith) ∙ set-within h n (omega arith) i u)
+      getD-set-other (columnSet cells l c f n) (n * cells + c) (i * cells + c) (f n) 0
+      (λ (q : i * cells + c ≡ n * cells + c). omega arith) ∙ set-within h n (omega arith) i u)
       (eq-or-lt-of-le (omega arith))
 
   pub set-outside : (n : ℕ) (j : ℕ) → ((i : ℕ) → i < n → j ≡ i * cells + c → ⊥) → at (columnSet cells l c f n) j ≡ at l j

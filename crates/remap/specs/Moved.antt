@@ -90,9 +90,11 @@ module _ {gas air table : List ℕ} {cells k : ℕ} (need : ColumnsGasNeed gas a
   module _ {a e : List ℕ} (is : IsColumn air table c cells k a e) (old : List ℕ) (loaded : firsts k old ≡ columnOf k cells now c) where
     column-total : sum k (at old) ≤ totalLimit
     column-total =
-        let own : sum k (at old) ≡ sum k (λ i. at gas (i * cells + c)) = sym (sum-tab k (at old)) ∙ ap (λ (l : List ℕ). sum k (at l)) (loaded ∙ same-gas) ∙ sum-tab k (λ i. at gas (i * cells + c)) in
+        let own : sum k (at old) ≡ sum k (λ i. at gas (i * cells + c)) =
+        sym (sum-tab k (at old)) ∙ ap (λ (l : List ℕ). sum k (at l)) (loaded ∙ same-gas) ∙ sum-tab k (λ i. at gas (i * cells + c)) in
         let whole = sum-columns k cells (at gas) in
-        let term : sum k (λ i. at gas (i * cells + c)) ≤ sum cells (λ c. sum k (λ i. at gas (i * cells + c))) = term-le-sum cells (λ c. sum k (λ i. at gas (i * cells + c))) c h in
+        let term : sum k (λ i. at gas (i * cells + c)) ≤ sum cells (λ c. sum k (λ i. at gas (i * cells + c))) =
+        term-le-sum cells (λ c. sum k (λ i. at gas (i * cells + c))) c h in
         omega (arith, own, whole, term, need .total)
 
     pub gas-need : {q new : List ℕ} → k ≤ length old → k ≤ length q → k ≤ length new → GasNeed k a old q e new
@@ -105,7 +107,8 @@ module _ {gas air table : List ℕ} {cells k : ℕ} (need : ColumnsGasNeed gas a
           room = room;
         }
 
-    pub gas-more : {cap : Bool} {new next : List ℕ} → cap ≡ eqb c 0 || eqb (c + 1) cells → IsRemapped cap k a old e new → next ≡ columnSet cells now c (at new) k → Upto k cells (gasNew k cells table air gas) gas (c + 1) next
+    pub gas-more : {cap : Bool} {new next : List ℕ} → cap ≡ eqb c 0 || eqb (c + 1) cells → IsRemapped cap k a old e new →
+        next ≡ columnSet cells now c (at new) k → Upto k cells (gasNew k cells table air gas) gas (c + 1) next
     gas-more {cap} {new} cap-is made stored =
         upto-more (need .long) h upto (at new) stored
         (λ i p.
@@ -113,4 +116,5 @@ module _ {gas air table : List ℕ} {cells k : ℕ} (need : ColumnsGasNeed gas a
         ap (λ (l : List ℕ). at l i) (made .is table (column-edges (need .moves .columns .fit) (need .moves .columns .some) is (need .moves .edges c h))) ∙
         at-tab k (newTracer table (airAbove (firsts k a) k) (layers mismatch cap k (firsts k a) (firsts k old))) i p ∙
         ap₂ (λ (x y : List ℕ). newTracer table (airAbove x k) (layers mismatch cap k x y) i) (is .airIs) (loaded ∙ same-gas) ∙
-        ap (λ (b : Bool). newTracer table (columnSum k cells air c) (layers mismatch b k (columnOf k cells air c) (columnOf k cells gas c)) i) (cap-is ∙ ap (λ (n : ℕ). eqb c 0 || eqb n cells) (add-one c)))
+        ap (λ (b : Bool). newTracer table (columnSum k cells air c) (layers mismatch b k (columnOf k cells air c) (columnOf k cells gas c)) i)
+        (cap-is ∙ ap (λ (n : ℕ). eqb c 0 || eqb n cells) (add-one c)))

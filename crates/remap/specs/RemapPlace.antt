@@ -12,8 +12,9 @@ use Rattle.model.specs.Laws.Grid.{InRange, in-range, layer-cells-most}
 use Rattle.model.specs.Laws.Step.{Fits}
 use Rattle.model.specs.Laws.Remap.{remap-edges}
 use Rattle.units.specs.Answer.{numberOf, countOf, Agrees}
+use Rattle.units.specs.Agrees.{accepted-agrees}
 use Rattle.places.specs.declared.Placed.{Placed}
-use Rattle.places.specs.Walk.{Left, IsPlaced, Like, none, accept}
+use Rattle.places.specs.Walk.{Left, IsPlaced, Like, none}
 use Rattle.remap.specs.Served.{ColumnsNeed, AreServed}
 use Rattle.remap.specs.Moved.{ColumnsAirNeed, airMoved}
 use Rattle.remap.specs.Tracers.{ColumnsTracersNeed, allMoved}
@@ -77,7 +78,10 @@ module _ {w : World} {table : List ℕ} {p : Placed} (found : ColumnsFound w tab
         totals = rw e (found .fits .totals);
       }
 
-  pub remap-agrees : {newAir newTracers : List ℕ} → numberOf (p .answer) ≡ 0 → newAir ≡ airMoved (w .grid .K) cells table (w .air) → newTracers ≡ allMoved (w .grid .N) (w .grid .K) cells table (w .air) (w .tracers) → Agrees w (remap table) (p .answer) (withAmounts w newAir newTracers)
+  pub remap-agrees : {newAir newTracers : List ℕ} → numberOf (p .answer) ≡ 0 →
+      newAir ≡ airMoved (w .grid .K) cells table (w .air) →
+      newTracers ≡ allMoved (w .grid .N) (w .grid .K) cells table (w .air) (w .tracers) →
+      Agrees w (remap table) (p .answer) (withAmounts w newAir newTracers)
   unfolding remapped remappedAir remappedGas column
   remap-agrees zero isAir isTracers =
-      accept (none (found .left)) zero (found .counted) (ap₂ (withAmounts w) (rw e at isAir) (rw e at isTracers))
+      accepted-agrees (none (found .left)) zero (found .counted) (ap₂ (withAmounts w) (rw e at isAir) (rw e at isTracers))

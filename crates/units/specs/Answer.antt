@@ -1,5 +1,4 @@
 -- Document 01's number and count for each case of the answer enum, and what a public call promises.
--- Assumes nothing.
 use Prim.Native.Nat.{ℕ}
 use mathlib.Core.Path.{_≡_}
 use Rattle.model.specs.World.{World}

@@ -1,4 +1,5 @@
 pub mod Grid
 pub mod Answer
 pub mod Agrees
+pub mod EachTracer
 pub mod The

@@ -1,4 +1,3 @@
 -- The value of a type, where the type says which is meant: `the tie.Start (search)` is the entry of the function, among what a need is handed.
--- Assumes nothing.
 abbrev pub the : (A : Type 0) → A → A
 the A x = x

@@ -22,8 +22,9 @@ use Rattle.model.specs.Scheme.{mismatch}
 use Rattle.model.specs.Laws.Substep.{AirIn}
 use Rattle.units.specs.declared.Answer.the-variants.{Accepted}
 use Rattle.units.specs.Answer.{Agrees}
+use Rattle.units.specs.Agrees.{accepted-agrees}
 use Rattle.places.specs.declared.Placed.{Placed}
-use Rattle.places.specs.Walk.{none, accept}
+use Rattle.places.specs.Walk.{none}
 use Rattle.substep.specs.Lent.{put-back}
 use Rattle.row.specs.Substeps.{rowMesh, RowNeed, chain}
 use Rattle.rows.specs.Gas.{rowOf}
@@ -160,7 +161,7 @@ module _ {w : World} {k r : ℕ} {fluxes : List ℤ} {p : Placed} (found : RowFo
     pub zonal-agrees : Agrees w (zonal k r fluxes) (Accepted (p .found)) (withAmounts w (putMid (p .first) (p .first + w .grid .W - p .first) (w .air) new) after)
     unfolding swept ring
     zonal-agrees =
-        accept (none (found .left)) refl (found .count)
+        accepted-agrees (none (found .left)) refl (found .count)
         (ap₂ (withAmounts w)
         (put-back (w .air) new (p .first) (w .grid .W) new-long ∙
         ap₂ (λ (i : ℕ) (l : List ℕ). written (w .air) i l) (found .row .start) air-end)

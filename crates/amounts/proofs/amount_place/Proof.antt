@@ -38,7 +38,8 @@ returns c =
     common-placed (tested .common-places .ensures) (λ z. no .if1 .left (no .before .number .ensures ∙ z)) refl (c .not-placed .ensures)
 
 -- places 1 to 4 are passed
-passed : (c : tie.Then1) → let s : tie.Start = search needs in let tested : tie.After-common-places = search needs in Passed (world s) Nothing (tested .common-places .result)
+passed : (c : tie.Then1) →
+    let s : tie.Start = search needs in let tested : tie.After-common-places = search needs in Passed (world s) Nothing (tested .common-places .result)
 passed c =
     let tested : tie.After-common-places = search needs in
     tested .common-places .ensures .found (sym (c .before .number .ensures) ∙ c .if1 .taken)
@@ -74,7 +75,8 @@ returns-3 c =
     stop (past-tracer tracer) (missing (rw (cells .world-cells .ensures .0) at (no .if3 .left))) (c .not-placed3 .ensures) refl
 
 -- and so is the cell
-room : (c : tie.Then3) → let s : tie.Start = search needs in let cells : tie.After-world-cells = search needs in (s .args .tracer * cells .world-cells .result + s .args .cell < length (s .args .tracers .now)) × (s .args .tracer * cells .world-cells .result + s .args .cell < mostAmounts)
+room : (c : tie.Then3) →
+    let s : tie.Start = search needs in let cells : tie.After-world-cells = search needs in (s .args .tracer * cells .world-cells .result + s .args .cell < length (s .args .tracers .now)) × (s .args .tracer * cells .world-cells .result + s .args .cell < mostAmounts)
 room c =
     let common : tie.Then1 = search needs in
     let tracer : tie.Then2 = search needs in

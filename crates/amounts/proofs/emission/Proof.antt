@@ -25,7 +25,8 @@ returns c =
 found : (c : tie.Then1) →
     let start : tie.Start = search needs in
     let place : tie.After-amount-place = search needs in
-    CellFound (worldOf (start .args .g) (start .args .air .now) (start .args .tracers .now)) (start .args .tracer) (start .args .cell) (place .amount-place .result)
+    CellFound (worldOf (start .args .g) (start .args .air .now) (start .args .tracers .now)) (start .args .tracer) (start .args .cell)
+    (place .amount-place .result)
 found c =
     let place : tie.After-amount-place = search needs in
     place .amount-place .ensures .found (sym (c .before .number .ensures) ∙ c .if1 .taken)

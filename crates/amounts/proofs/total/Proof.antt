@@ -3,8 +3,9 @@ use mathlib.Core.Path.{refl, sym, _∙_}
 use native.Mathlib.Omega.{arith}
 use Rattle.model.specs.World.{World}
 use Rattle.units.specs.Grid.{worldOf, in-range}
+use Rattle.units.specs.Agrees.{accepted-agrees}
 use Rattle.places.specs.declared.Lent.the-variants.{Nothing}
-use Rattle.places.specs.Walk.{next, there, missing, none, refuse, accept}
+use Rattle.places.specs.Walk.{next, there, missing, none, refuse}
 use Rattle.places.specs.Tested.{Passed, own-left, common-refused}
 use Rattle.amounts.specs.Amount.{total-fits}
 use borrow.Author.Needs.{needs}
@@ -26,7 +27,8 @@ returns c =
     common-refused (tested .common-places .ensures) (λ z. c .if1 .left (c .before .number .ensures ∙ z)) refl
 
 -- places 1 to 4 are passed
-passed : (c : tie.Then1) → let s : tie.Start = search needs in let tested : tie.After-common-places = search needs in Passed (world s) Nothing (tested .common-places .result)
+passed : (c : tie.Then1) →
+    let s : tie.Start = search needs in let tested : tie.After-common-places = search needs in Passed (world s) Nothing (tested .common-places .result)
 passed c =
     let tested : tie.After-common-places = search needs in
     tested .common-places .ensures .found (sym (c .before .number .ensures) ∙ c .if1 .taken)
@@ -58,7 +60,7 @@ returns-3 c =
     let common : tie.Then1 = search needs in
     let named : tie.Then2 = search needs in
     let left = next (own-left (passed common) refl) (there (named .if2 .taken)) in
-    accept (none left) refl (passed common .total (start .args .tracer) (named .if2 .taken)) refl
+    accepted-agrees (none left) refl (passed common .total (start .args .tracer) (named .if2 .taken)) refl
 
 pub total-spec : {M : Type 1} → statement M
 total-spec =

@@ -36,7 +36,8 @@ found : (c : tie.Then1) →
     let place : tie.After-layer-place = search in
     let s : tie.Start = search in
     let parts = place .layer-place .last .1 .1 .1 .1 .1 in
-    LayerFound (worldOf (s .args .g) (s .args .air .now) (s .args .tracers .now)) (s .args .layer) (s .args .fluxes .now) (parts .0) (parts .1 .0) (place .layer-place .result)
+    LayerFound (worldOf (s .args .g) (s .args .air .now) (s .args .tracers .now)) (s .args .layer) (s .args .fluxes .now) (parts .0) (parts .1 .0)
+    (place .layer-place .result)
 found c =
     let place : tie.After-layer-place = search in
     place .layer-place .ensures .found (sym (c .before .number .ensures) ∙ c .if1 .taken)

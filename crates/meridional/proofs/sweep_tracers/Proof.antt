@@ -5,8 +5,9 @@ use lib.ListN.{length}
 use native.Mathlib.Omega.{arith}
 use Rattle.model.specs.Limits.{mostAmounts, mostLayerCells, mostFaces}
 use Rattle.units.specs.Grid.{gridOf}
+use Rattle.units.specs.EachTracer.{changed-none, changed-all, length-up-to}
 use Rattle.substep.specs.Faces.{flowOf}
-use Rattle.meridional.specs.LayerTracers.{sweptUpTo, layer-near, swept-none, swept-more, swept-all, length-up-to, lent-inside, lent-need, step-need}
+use Rattle.meridional.specs.LayerTracers.{sweptUpTo, layer-near, swept-changes, swept-more, lent-inside, lent-need, step-need}
 use borrow.Author.Needs.{needs}
 use Rattle.meridional.proofs.sweep_tracers.Statement.{statement}
 use Rattle.meridional.proofs.sweep_tracers.Tie as tie
@@ -44,7 +45,7 @@ cast-cells c = search needs
 loop-holds : tie.Need-loop-holds Inv-loop μ-loop
 loop-holds c =
     let start : tie.Start Inv-loop μ-loop = search in
-    (search needs, swept-none (start .pre .1), search needs, search needs, search needs)
+    (search needs, changed-none (swept-changes (start .pre .1)), search needs, search needs, search needs)
 
 -- where the layer that is swept next ends
 end-near : (c : tie.In-loop Inv-loop μ-loop) →
@@ -125,21 +126,22 @@ loop-again c =
     let cells : tie.After-world-cells Inv-loop μ-loop = search in
     let wide : tie.After-layer-cells Inv-loop μ-loop = search in
     let start : tie.Start Inv-loop μ-loop = search in
-    let more = swept-more (start .pre .1) (turn .loop-test .taken) (at .loop .inv .1) (cells .world-cells .ensures .0) (wide .layer-cells .ensures .0) (stepped .step-layer-gas .ensures) in
+    let more = swept-more (start .pre .1) (turn .loop-test .taken) (at .loop .inv .1) (cells .world-cells .ensures .0) (wide .layer-cells .ensures .0)
+    (stepped .step-layer-gas .ensures) in
     (search needs, more, search needs, search needs, search needs)
 
 same-length : tie.Need-same-length Inv-loop μ-loop
 same-length c =
     let at : tie.At-loop Inv-loop μ-loop = search in
     let start : tie.Start Inv-loop μ-loop = search in
-    ap length (at .loop .inv .1) ∙ length-up-to (start .pre .1) (at .loop .t) (search needs)
+    ap length (at .loop .inv .1) ∙ length-up-to (swept-changes (start .pre .1)) (at .loop .inv .0)
 
 returns : tie.Need-returns Inv-loop μ-loop
 returns c =
     let at : tie.At-loop Inv-loop μ-loop = search in
     let start : tie.Start Inv-loop μ-loop = search in
     let done : at .loop .t ≡ start .args .g .n = omega arith in
-    swept-all (start .pre .1) (rw done at (at .loop .inv .1))
+    changed-all (swept-changes (start .pre .1)) (rw done at (at .loop .inv .1))
 
 pub sweep-tracers-spec : {M : Type 1} → statement M
 sweep-tracers-spec =

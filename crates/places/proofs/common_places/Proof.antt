@@ -45,7 +45,8 @@ returns-2 c =
     stop (past-grid grid) (fails (no .before .lengths-fit .ensures) (no .if2 .left)) (c .refused2 .ensures) refl
 
 -- place 2
-lengths-served : (c : tie.Then2) → let s : tie.Start = search needs in lengthsServe (gridOf (s .args .g)) (length (s .args .air .now)) (length (s .args .tracers .now)) (s .args .lent) ≡ true
+lengths-served : (c : tie.Then2) →
+    let s : tie.Start = search needs in lengthsServe (gridOf (s .args .g)) (length (s .args .air .now)) (length (s .args .tracers .now)) (s .args .lent) ≡ true
 lengths-served c = sym (c .before .lengths-fit .ensures) ∙ c .if2 .taken
 
 past-lengths : (c : tie.Then2) → let s : tie.Start = search needs in Left (world s) (Lends (world s) (s .args .lent)) fromAir
@@ -120,7 +121,8 @@ returns-5 c =
     record {
       left = next (past-air air) (fits test (c .if4 .taken));
       fits =
-          passed-fits (world start) (start .args .lent) (lengths-served lengths) (sym (grid .before .grid-fits .ensures) ∙ grid .if1 .taken) (sym (air .before .air-fits .ensures) ∙ air .if3 .taken) (sym test ∙ c .if4 .taken);
+          passed-fits (world start) (start .args .lent) (lengths-served lengths) (sym (grid .before .grid-fits .ensures) ∙ grid .if1 .taken)
+          (sym (air .before .air-fits .ensures) ∙ air .if3 .taken) (sym test ∙ c .if4 .taken);
       lentFit = lengths-true (world start) (start .args .lent) (lengths-served lengths) .2;
       count = refl;
       total = gas-totals (world start) _ (cells .world-cells .ensures .0) _ (sums .totals .ensures);

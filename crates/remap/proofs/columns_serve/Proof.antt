@@ -89,7 +89,8 @@ loop-again c =
     let turn : tie.In-loop Inv-loop μ-loop = search in
     let at : tie.At-loop Inv-loop μ-loop = search in
     let start : tie.Start Inv-loop μ-loop = search in
-    let more = one-more (start .pre) (turn .loop-test .taken) (edges .read-edges .ensures) (tested .edges-serve .ensures) (yes .if1 .taken) (at .loop .inv .0) (c .pairs .ensures) in
+    let more = one-more (start .pre) (turn .loop-test .taken) (edges .read-edges .ensures) (tested .edges-serve .ensures) (yes .if1 .taken)
+    (at .loop .inv .0) (c .pairs .ensures) in
     (more, search needs, search needs)
 
 returns-2 : tie.Need-returns-2 Inv-loop μ-loop

@@ -79,7 +79,8 @@ loop-again c =
     let turn : tie.In-loop Inv-loop μ-loop = search in
     let at : tie.At-loop Inv-loop μ-loop = search in
     let start : tie.Start Inv-loop μ-loop = search in
-    let more = air-more (start .pre) (turn .loop-test .taken) (at .loop .inv .0) (edges .read-edges .ensures) (made .new-air .ensures) (written .write-column .ensures) in
+    let more = air-more (start .pre) (turn .loop-test .taken) (at .loop .inv .0) (edges .read-edges .ensures) (made .new-air .ensures)
+    (written .write-column .ensures) in
     (more, search needs, search needs)
 
 same-length : tie.Need-same-length Inv-loop μ-loop

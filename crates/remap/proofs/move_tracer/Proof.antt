@@ -84,7 +84,8 @@ remap-gas-requires c κs =
     let fit = start .pre .moves .columns .fit in
     let inv = at .loop .inv in
     let long = copied .read-column .kept .1 .1 .1 .1 .0 in
-    gas-need (start .pre) (turn .loop-test .taken) (inv .0) (edges .read-edges .ensures) _ (copied .read-column .ensures) (omega (arith, fit, long, inv .3)) (omega (arith, fit, inv .4)) (omega (arith, fit, inv .5))
+    gas-need (start .pre) (turn .loop-test .taken) (inv .0) (edges .read-edges .ensures) _ (copied .read-column .ensures)
+    (omega (arith, fit, long, inv .3)) (omega (arith, fit, inv .4)) (omega (arith, fit, inv .5))
 
 slice-aggregate-write-column : tie.Need-slice-aggregate-write-column Inv-loop μ-loop
 slice-aggregate-write-column c = search needs
@@ -123,7 +124,8 @@ loop-again c =
     let at : tie.At-loop Inv-loop μ-loop = search in
     let start : tie.Start Inv-loop μ-loop = search in
     let inv = at .loop .inv in
-    let more = gas-more (start .pre) (turn .loop-test .taken) (inv .0) (edges .read-edges .ensures) _ (copied .read-column .ensures) (cap .is-cap .ensures) (made .remap-gas .ensures) (written .write-column .ensures) in (
+    let more = gas-more (start .pre) (turn .loop-test .taken) (inv .0) (edges .read-edges .ensures) _ (copied .read-column .ensures)
+    (cap .is-cap .ensures) (made .remap-gas .ensures) (written .write-column .ensures) in (
       more,
       edges .read-edges .kept .1 .1 .1 .1 .1 .0 ∙ inv .1,
       edges .read-edges .kept .1 .1 .1 .1 .1 .1 .0 ∙ inv .2,

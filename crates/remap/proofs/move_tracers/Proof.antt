@@ -4,7 +4,8 @@ use mathlib.Core.Path.{_≡_, ap, _∙_}
 use native.Mathlib.Omega.{arith}
 use lib.ListN.{length}
 use Rattle.model.specs.Limits.{mostAmounts}
-use Rattle.remap.specs.Tracers.{movedUpTo, tracer-room, moved-none, length-up-to, tracer-need, moved-more, moved-all}
+use Rattle.units.specs.EachTracer.{changed-none, changed-all, length-up-to}
+use Rattle.remap.specs.Tracers.{movedUpTo, moved-changes, tracer-room, tracer-need, moved-more}
 use borrow.Author.Needs.{needs}
 use Rattle.remap.proofs.move_tracers.Statement.{statement}
 use Rattle.remap.proofs.move_tracers.Tie as tie
@@ -18,7 +19,7 @@ abbrev μ-loop : tie.MeasureT-loop
 loop-holds : tie.Need-loop-holds Inv-loop μ-loop
 loop-holds c =
     let start : tie.Start Inv-loop μ-loop = search in
-    (search needs, moved-none (start .pre))
+    (search needs, changed-none (moved-changes (start .pre)))
 
 -- where the tracer that is moved next ends
 room : (c : tie.In-loop Inv-loop μ-loop) →
@@ -55,7 +56,7 @@ part-move-tracer-end : tie.Need-part-move-tracer-end Inv-loop μ-loop
 part-move-tracer-end c =
     let at : tie.At-loop Inv-loop μ-loop = search in
     let start : tie.Start Inv-loop μ-loop = search in
-    let long = ap length (at .loop .inv .1) ∙ length-up-to (start .pre) (at .loop .inv .0) in
+    let long = ap length (at .loop .inv .1) ∙ length-up-to (moved-changes (start .pre)) (at .loop .inv .0) in
     omega (arith, room c .0, long)
 
 move-tracer-requires : tie.Need-move-tracer-requires Inv-loop μ-loop
@@ -83,13 +84,14 @@ same-length : tie.Need-same-length Inv-loop μ-loop
 same-length c =
     let at : tie.At-loop Inv-loop μ-loop = search in
     let start : tie.Start Inv-loop μ-loop = search in
-    ap length (at .loop .inv .1) ∙ length-up-to (start .pre) (at .loop .inv .0)
+    ap length (at .loop .inv .1) ∙ length-up-to (moved-changes (start .pre)) (at .loop .inv .0)
 
 returns : tie.Need-returns Inv-loop μ-loop
 returns c =
     let at : tie.At-loop Inv-loop μ-loop = search in
     let start : tie.Start Inv-loop μ-loop = search in
-    moved-all (start .pre) (omega arith) (at .loop .inv .1)
+    let all : at .loop .t ≡ start .args .n = omega arith in
+    changed-all (moved-changes (start .pre)) (rw all at (at .loop .inv .1))
 
 pub move-tracers-spec : {M : Type 1} → statement M
 move-tracers-spec =

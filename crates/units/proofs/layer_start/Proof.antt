@@ -1,11 +1,9 @@
--- `units::layer_start` meets its contract: a layer's cells lie inside the world's.
--- Assumes nothing.
-use Prim.Native.Nat.{ℕ, _+_, _*_, _≤_}
-use mathlib.Core.Path.{_≡_, ap, _∙_}
-use native.Mathlib.Nat.{mul-le-mul}
+-- `units::layer_start` meets its contract: a layer's cells lie inside the world's, of which there are few.
+use Prim.Native.Nat.{ℕ, _*_}
+use mathlib.Core.Path.{_≡_, ap}
 use native.Mathlib.Omega.{arith}
 use Rattle.model.specs.World.{layerStart}
-use Rattle.model.specs.Laws.Grid.{layer-inside}
+use Rattle.model.specs.Laws.Grid.{layer-inside, cells-most}
 use Rattle.units.specs.Grid.{gridOf}
 use borrow.Author.Needs.{needs}
 use Rattle.units.proofs.layer_start.Statement.{statement}
@@ -14,16 +12,18 @@ use Rattle.units.proofs.layer_start.Tie as tie
 layer-cells-requires : tie.Need-layer-cells-requires
 layer-cells-requires c κs = search needs
 
+start-is : (c : tie.After-layer-cells) → c .before .args .k * c .layer-cells .result ≡ layerStart (gridOf (c .before .args .g)) (c .before .args .k)
+start-is c = ap (λ (n : ℕ). c .before .args .k * n) (c .layer-cells .ensures .0)
+
 mul-result : tie.Need-mul-result
 mul-result c =
-    let inLayers : c .before .args .k * c .layer-cells .result ≤ 32 * 3170 = mul-le-mul {n₂ = 32} {m₂ = 3170} (omega arith) (c .layer-cells .ensures .1) in
-    search needs
+    let pre = c .before .pre in
+    omega (arith, start-is c, layer-inside (gridOf (c .before .args .g)) _ (pre .layer), cells-most (pre .range))
 
 returns : tie.Need-returns
 returns c =
-    let args = c .before .args in
-    let is : args .k * c .layer-cells .result ≡ layerStart (gridOf (args .g)) (args .k) = ap (λ (n : ℕ). args .k * n) (c .layer-cells .ensures .0) in
-    (is, omega (arith, is, layer-inside (gridOf (args .g)) (args .k) (c .before .pre .layer)))
+    let inside = layer-inside (gridOf (c .before .args .g)) _ (c .before .pre .layer) in
+    (start-is c, omega (arith, start-is c))
 
 pub layer-start-spec : {M : Type 1} → statement M
 layer-start-spec = tie.close (tie.spec layer-cells-requires mul-result returns)

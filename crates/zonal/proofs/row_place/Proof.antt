@@ -106,7 +106,8 @@ row-start-requires c κs =
     let range = in-range (s .args .g) (passed common .fits .grid) in
     record { range = range; layer = omega (arith, range .lowK); row = search needs }
 
-row-at : (c : tie.After-row-start) → let s : tie.Start = search needs in RowAt (world s) (s .args .layer) (s .args .row) (s .args .fluxes .now) (c .row-start .result)
+row-at : (c : tie.After-row-start) →
+    let s : tie.Start = search needs in RowAt (world s) (s .args .layer) (s .args .row) (s .args .fluxes .now) (c .row-start .result)
 row-at c =
     let s : tie.Start = search needs in
     let common : tie.Then1 = search needs in
@@ -145,7 +146,8 @@ count-requires c κs =
     let row : tie.After-row-start = search needs in
     row-need (row-at row)
 
-counted : (c : tie.After-count) → let s : tie.Start = search needs in c .count .result ≡ zonalCount (world s) (s .args .layer) (s .args .row) (s .args .fluxes .now)
+counted : (c : tie.After-count) →
+    let s : tie.Start = search needs in c .count .result ≡ zonalCount (world s) (s .args .layer) (s .args .row) (s .args .fluxes .now)
 counted c =
     let row : tie.After-row-start = search needs in
     c .count .ensures .is ∙ count-found (row-at row)

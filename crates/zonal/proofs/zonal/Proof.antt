@@ -29,7 +29,8 @@ returns c =
 found : (c : tie.Then1) →
     let s : tie.Start = search needs in
     let place : tie.After-row-place = search needs in
-    RowFound (worldOf (s .args .g) (s .args .air .now) (s .args .tracers .now)) (s .args .layer) (s .args .row) (s .args .fluxes .now) (place .row-place .result)
+    RowFound (worldOf (s .args .g) (s .args .air .now) (s .args .tracers .now)) (s .args .layer) (s .args .row) (s .args .fluxes .now)
+    (place .row-place .result)
 found c =
     let place : tie.After-row-place = search needs in
     place .row-place .ensures .found (sym (c .before .number .ensures) ∙ c .if1 .taken)
