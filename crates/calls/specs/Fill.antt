@@ -1,5 +1,4 @@
 -- A list filled entry by entry is the list of its values; the law of the two decoding loops.
--- Assumes nothing.
 use Prim.Native.Nat.{ℕ, _+_, _≤_, _<_}
 use mathlib.Core.List.{List, [], _∷_, _++_}
 use mathlib.Core.Path.{_≡_, refl, sym, _∙_, ap}

@@ -1,5 +1,4 @@
 -- Laws of a call that was made: it is the one that the command asks for.
--- Assumes nothing.
 use Prim.Native.Nat.{ℕ, _≤_}
 use mathlib.Core.List.{List}
 use mathlib.Core.Path.{_≡_, sym, _∙_, ap, subst}
@@ -11,9 +10,9 @@ use Rattle.units.specs.declared.Answer.{Answer}
 use Rattle.units.specs.Answer.{Agrees}
 use Rattle.units.specs.Grid.{gridOf, worldOf}
 use Rattle.program.specs.Records as program
-use Rattle.records.specs.declared.Command.{Command}
-use Rattle.records.specs.declared.Command.the-variants.{Grid, Load}
-use Rattle.records.specs.Found.{commandIs, kindOfCommand}
+use Rattle.commands.specs.declared.Command.{Command}
+use Rattle.commands.specs.declared.Command.the-variants.{Grid, Load}
+use Rattle.commands.specs.Command.{commandIs, kindOfCommand}
 use Rattle.calls.specs.Makes.{MakeNeed, Makes}
 use Rattle.calls.specs.Room.{agrees-same}
 

@@ -1,5 +1,4 @@
 -- What the functions that make a command's call need and promise.
--- Assumes nothing.
 use Prim.Native.Nat.{ℕ, _+_, _*_, _≤_}
 use mathlib.Core.List.{List}
 use mathlib.Core.Path.{_≡_}
@@ -11,9 +10,9 @@ use Rattle.units.specs.Answer.{Agrees}
 use Rattle.units.specs.Grid.{gridOf, worldOf}
 use Rattle.program.specs.Bytes.{numbersAt}
 use Rattle.program.specs.Records as program
-use Rattle.records.specs.declared.Command.{Command}
-use Rattle.records.specs.Stage.{SmallGrid}
-use Rattle.records.specs.Found.{commandIs, kindOfCommand}
+use Rattle.commands.specs.declared.Command.{Command}
+use Rattle.stages.specs.Stage.{SmallGrid}
+use Rattle.commands.specs.Command.{commandIs, kindOfCommand}
 
 -- a command with its whole body, in a grid that the program takes
 pub record MakeNeed (g : declared.Grid) (c : Command) (body : List ℕ) : Type 0 where

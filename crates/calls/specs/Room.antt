@@ -1,5 +1,4 @@
 -- A list of numbers decoded into the first entries of some room, and a record's numbers counted from its body's start.
--- Assumes nothing.
 use Prim.Native.Nat.{ℕ, _+_, _*_, _-_, _≤_}
 use mathlib.Core.List.{List, _++_}
 use mathlib.Core.Path.{_≡_, sym, _∙_, ap, subst}

@@ -1,5 +1,4 @@
 -- 32 bits as a signed number: the law of the two branches of `signed`.
--- Assumes nothing.
 use Prim.Native.Nat.{ℕ, zero, suc, _-_, _≤_, _<_}
 use mathlib.Core.Path.{_≡_, refl, ap}
 use native.Mathlib.Omega.{arith}

@@ -6,12 +6,12 @@ ghost use Rattle.program.specs.Bytes.{signed as signed-number, numbersAt, fluxe
 ghost use Rattle.model.specs.Step.{zonal, meridional, remap};
 ghost use Rattle.units.specs.Answer.{Agrees};
 ghost use Rattle.units.specs.Grid.{worldOf};
-ghost use Rattle.records.specs.Stage.{SmallGrid};
+ghost use Rattle.stages.specs.Stage.{SmallGrid};
 ghost use Rattle.calls.specs.Makes.{MakeNeed, Makes, LoadNeed, LoadsInto};
-use records::Command;
-use records::LayerOf;
-use records::RowOf;
-use records::number_4;
+use commands::Command;
+use commands::LayerOf;
+use commands::RowOf;
+use fields::number_4;
 use units::Answer;
 use units::Grid;
 

@@ -1,5 +1,4 @@
 -- Laws of a record carried out: from what the reader found to what is left, by the reader's answer.
--- Assumes nothing.
 use Prim.Native.Nat.{ℕ, _-_, _≤_, _<_}
 use mathlib.Core.List.{List, [], _∷_}
 use mathlib.Core.Bool.{true, false≢true}
@@ -14,15 +13,17 @@ use Rattle.units.specs.declared.Grid as declared
 use Rattle.units.specs.Grid.{gridOf}
 use Rattle.program.specs.Records as program
 use Rattle.program.specs.Laws.Totals.{found-loaded}
-use Rattle.records.specs.declared.Stage.{Stage}
-use Rattle.records.specs.declared.Stage.the-variants.{Start, Gridded, Loaded}
-use Rattle.records.specs.declared.Fault.{Fault}
-use Rattle.records.specs.declared.Command.{Command}
+use Rattle.stages.specs.declared.Stage.{Stage}
+use Rattle.stages.specs.declared.Stage.the-variants.{Start, Gridded, Loaded}
+use Rattle.stages.specs.declared.Fault.{Fault}
+use Rattle.commands.specs.declared.Command.{Command}
 use Rattle.records.specs.declared.Found as found
 use Rattle.records.specs.declared.Found.the-variants.{Nothing, Faulty, Record}
-use Rattle.records.specs.Stage.{faultNumber, stageRefusal, plainState, stateOf, gridOfStage, held, IsSettled}
-use Rattle.records.specs.Found.{commandIs, kindOfCommand, readingIs, FoundWhole, IsWhole, Finds}
-use Rattle.records.specs.Laws.{plain-state, grid-any, take-rest}
+use Rattle.stages.specs.Stage.{faultNumber, stageRefusal, plainState, stateOf, gridOfStage, held, IsSettled}
+use Rattle.commands.specs.Command.{commandIs, kindOfCommand}
+use Rattle.records.specs.Found.{readingIs, FoundWhole, IsWhole, Finds}
+use Rattle.stages.specs.Laws.{plain-state, grid-any}
+use Rattle.records.specs.Laws.{take-rest}
 use Rattle.lines.specs.declared.Line as lines
 use Rattle.carry.specs.declared.Outcome as code
 use Rattle.carry.specs.declared.Outcome.the-variants as outcome

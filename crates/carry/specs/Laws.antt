@@ -1,5 +1,4 @@
 -- Laws that the proofs of the carrying functions cite: a grid's record, a load's lists, a command by its case.
--- Assumes nothing.
 use Prim.Native.Nat.{ℕ, zero, suc, _+_, _*_, _-_, _≤_}
 use mathlib.Core.List.{List, []}
 use mathlib.Core.Path.{_≡_, refl, sym, _∙_, ap, ap₂, subst}
@@ -13,12 +12,12 @@ use Rattle.units.specs.declared.Answer.{Answer}
 use Rattle.units.specs.Grid.{gridOf, worldOf, in-range}
 use Rattle.program.specs.Bytes.{numbersAt}
 use Rattle.program.specs.Records as program
-use Rattle.records.specs.declared.Command.{Command}
-use Rattle.records.specs.declared.Command.the-variants.{Grid, Load}
-use Rattle.records.specs.declared.Stage.the-variants.{Gridded}
-use Rattle.records.specs.Stage.{stateOf, held, SmallGrid}
-use Rattle.records.specs.Laws.{takes, taken-small, tracer-cells}
-use Rattle.records.specs.Found.{commandIs, kindOfCommand}
+use Rattle.commands.specs.declared.Command.{Command}
+use Rattle.commands.specs.declared.Command.the-variants.{Grid, Load}
+use Rattle.stages.specs.declared.Stage.the-variants.{Gridded}
+use Rattle.stages.specs.Stage.{stateOf, held, SmallGrid}
+use Rattle.stages.specs.Laws.{takes, taken-small, tracer-cells}
+use Rattle.commands.specs.Command.{commandIs, kindOfCommand}
 use Rattle.calls.specs.Makes.{MakeNeed, LoadsInto}
 use Rattle.carry.specs.declared.Outcome as code
 use Rattle.carry.specs.declared.Outcome.the-variants.{Next, Last}

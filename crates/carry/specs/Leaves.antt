@@ -1,5 +1,4 @@
 -- Laws of what a record leaves in the program's two buffers: a world written over their first entries, or nothing.
--- Assumes nothing.
 use Prim.Native.Nat.{ℕ, zero, suc, _+_, _*_}
 use mathlib.Core.List.{List, [], _++_}
 use mathlib.Core.Path.{_≡_, refl, sym, _∙_, ap, ap₂, subst}
@@ -18,10 +17,10 @@ use Rattle.units.specs.Answer.{numberOf, countOf, Agrees}
 use Rattle.units.specs.Grid.{gridOf, worldOf}
 use Rattle.program.specs.Bytes.{numbersAt}
 use Rattle.program.specs.Records as program
-use Rattle.records.specs.declared.Command.the-variants.{Load}
-use Rattle.records.specs.declared.Stage.the-variants.{Gridded, Loaded}
-use Rattle.records.specs.Stage.{stateOf, held}
-use Rattle.records.specs.Found.{commandIs}
+use Rattle.commands.specs.declared.Command.the-variants.{Load}
+use Rattle.stages.specs.declared.Stage.the-variants.{Gridded, Loaded}
+use Rattle.stages.specs.Stage.{stateOf, held}
+use Rattle.commands.specs.Command.{commandIs}
 use Rattle.lines.specs.declared.Line as lines
 use Rattle.carry.specs.declared.Outcome.the-variants.{Next}
 use Rattle.carry.specs.Outcome.{lineIs, Leaves, bodyWorld, AnswersLoad}

@@ -1,5 +1,4 @@
 -- What comes of a record in the code, as the model's, and what is left in the program's two buffers.
--- Assumes nothing.
 use Prim.Native.Nat.{ℕ, _+_, _*_, _≤_}
 use mathlib.Core.List.{List}
 use mathlib.Core.Path.{_≡_}
@@ -13,11 +12,11 @@ use Rattle.units.specs.Answer.{numberOf, countOf}
 use Rattle.units.specs.Grid.{gridOf}
 use Rattle.program.specs.Bytes.{numbersAt}
 use Rattle.program.specs.Records as program
-use Rattle.records.specs.declared.Stage.{Stage}
-use Rattle.records.specs.declared.Command.{Command}
-use Rattle.records.specs.declared.Command.the-variants.{Load}
-use Rattle.records.specs.Stage.{stateOf, held}
-use Rattle.records.specs.Found.{commandIs, kindOfCommand}
+use Rattle.stages.specs.declared.Stage.{Stage}
+use Rattle.commands.specs.declared.Command.{Command}
+use Rattle.commands.specs.declared.Command.the-variants.{Load}
+use Rattle.stages.specs.Stage.{stateOf, held}
+use Rattle.commands.specs.Command.{commandIs, kindOfCommand}
 use Rattle.lines.specs.declared.Line as lines
 use Rattle.carry.specs.declared.Outcome as code
 use Rattle.carry.specs.declared.Outcome.the-variants.{Nothing, Next, Last}

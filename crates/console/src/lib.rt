@@ -10,8 +10,8 @@ use libc::STDIN_FILENO;
 use libc::STDOUT_FILENO;
 use lines::Line;
 use lines::line_text;
-use records::Stage;
 use records::body_bytes;
+use stages::Stage;
 
 // Room for the longest record, a kind and the load of 2,048 cells with two tracers.
 fn record_space() -> [u8; 24577]

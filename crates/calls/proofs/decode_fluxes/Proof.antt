@@ -1,5 +1,4 @@
 -- `calls::decode_fluxes` meets its contract: each entry is the flux of its own four bytes.
--- Assumes nothing.
 use Prim.Native.Nat.{ℕ, _+_, _*_, _-_, _≤_}
 use mathlib.Core.Path.{_≡_, refl, sym, _∙_, ap}
 use native.Mathlib.Nat.{zero-add}

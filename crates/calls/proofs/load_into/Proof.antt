@@ -1,5 +1,4 @@
 -- `calls::load_into` meets its contract: both lists are the body's numbers, one after the other.
--- Assumes nothing.
 use Prim.Native.Nat.{ℕ, _*_}
 use mathlib.Core.Path.{_∙_, ap}
 use lib.ListN.{length}

@@ -1,12 +1,11 @@
 -- `calls::make` meets its contract: each command's call, with the lists that its body holds.
--- Assumes nothing.
 use Prim.Native.Nat.{_+_, _*_}
 use mathlib.Core.Path.{ap}
 use Rattle.model.specs.Step.{emission, withdrawal, zonal, meridional, remap, total, cell}
 use Rattle.units.specs.Grid.{gridOf}
 use Rattle.program.specs.Bytes.{numbersAt, fluxesAt}
-use Rattle.records.specs.declared.Command.the-variants.{Zonal, Meridional, Remap}
-use Rattle.records.specs.Found.{commandIs}
+use Rattle.commands.specs.declared.Command.the-variants.{Zonal, Meridional, Remap}
+use Rattle.commands.specs.Command.{commandIs}
 use Rattle.calls.specs.Laws.{makes-call, makes-grid, makes-load, whole-of}
 use borrow.Author.Needs.{needs}
 use Rattle.calls.proofs.make.Statement.{statement}

@@ -1,12 +1,11 @@
 -- `calls::make_meridional` meets its contract: the fluxes decoded from the body are those that the call is made with.
--- Assumes nothing.
 use Prim.Native.Nat.{_+_, _*_}
 use mathlib.Core.Path.{sym, _∙_, ap}
 use native.Mathlib.Omega.{arith}
 use lib.Seq.{length-take-le}
 use Rattle.model.specs.Step.{meridional}
 use Rattle.program.specs.Bytes.{fluxesAt}
-use Rattle.records.specs.Laws.{few-faces}
+use Rattle.stages.specs.Laws.{few-faces}
 use Rattle.calls.specs.Room.{take-short, rest-long, flux-of, room-back, room-long, room-sized, fluxes-from, agrees-same}
 use borrow.Author.Needs.{needs}
 use Rattle.calls.proofs.make_meridional.Statement.{statement}

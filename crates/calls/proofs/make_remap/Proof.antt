@@ -1,5 +1,4 @@
 -- `calls::make_remap` meets its contract: the table decoded from the body is that which the call is made with.
--- Assumes nothing.
 use Prim.Native.Nat.{_+_, _*_}
 use mathlib.Core.Path.{sym, ap}
 use native.Mathlib.Omega.{arith}

@@ -1,5 +1,4 @@
 -- `calls::make_zonal` meets its contract: the fluxes decoded from the body are those that the call is made with.
--- Assumes nothing.
 use mathlib.Core.Path.{sym, _∙_, ap}
 use native.Mathlib.Omega.{arith}
 use lib.Seq.{length-take-le}

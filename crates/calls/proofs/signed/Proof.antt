@@ -1,5 +1,4 @@
 -- `calls::signed` meets its contract: below 2^31 the number itself, else -1 less what is missing to 2^32 - 1.
--- Assumes nothing.
 use Prim.Native.Nat.{_-_}
 use mathlib.Core.Path.{sym, _∙_}
 use native.Mathlib.Omega.{arith}

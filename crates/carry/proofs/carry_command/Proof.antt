@@ -1,5 +1,4 @@
 -- `carry::carry_command` meets its contract: a grid, a load, or a call.
--- Assumes nothing.
 use Prim.Native.Nat.{ℕ, _+_, _*_}
 use mathlib.Core.List.{[], _∷_}
 use mathlib.Core.Path.{_≡_, refl}
@@ -9,9 +8,9 @@ use denote.Enum.Declared.{tagOf}
 use Rattle.model.specs.Step as step
 use Rattle.program.specs.Records as program
 use Rattle.program.specs.Bytes.{numbersAt, fluxesAt}
-use Rattle.records.proofs.Command.{the-type}
-use Rattle.records.specs.declared.Command.{Command}
-use Rattle.records.specs.declared.Command.the-variants.{Grid, Load, Emission, Withdrawal, Zonal, Meridional, Remap, Total, Cell}
+use Rattle.commands.proofs.Command.{the-type}
+use Rattle.commands.specs.declared.Command.{Command}
+use Rattle.commands.specs.declared.Command.the-variants.{Grid, Load, Emission, Withdrawal, Zonal, Meridional, Remap, Total, Cell}
 use Rattle.carry.specs.Laws.{IsCall, take-need, carries-grid, carries-load, carries-call}
 use borrow.Author.Needs.{needs}
 use Rattle.carry.proofs.carry_command.Statement.{statement}

@@ -1,5 +1,4 @@
 -- `carry::carry_out` meets its contract: by the reader's answer: nothing, a fault's line, or its command.
--- Assumes nothing.
 use native.Mathlib.Omega.{arith}
 use Rattle.carry.specs.Carry.{carries-nothing, carries-none, carries-fault, carry-need, carries-record}
 use borrow.Author.Needs.{needs}

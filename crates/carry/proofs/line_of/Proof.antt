@@ -1,5 +1,4 @@
 -- `carry::line_of` meets its contract: an accepted answer's count, else the refusal's number with count 0.
--- Assumes nothing.
 use mathlib.Core.Path.{sym, ap, ap₂}
 use Rattle.units.specs.declared.Answer.{Answer}
 use Rattle.units.specs.Answer.{numberOf, countOf}

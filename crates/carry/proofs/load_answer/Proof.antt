@@ -1,5 +1,4 @@
 -- `carry::load_answer` meets its contract: the lists decoded into room of its own are the body's.
--- Assumes nothing.
 use mathlib.Core.Path.{sym}
 use native.Mathlib.Omega.{arith}
 use lib.Seq.{length-take-le}

@@ -1,5 +1,4 @@
 -- `carry::take_call` meets its contract: the call is made in the first entries of both buffers.
--- Assumes nothing.
 use Prim.Native.Nat.{_*_}
 use mathlib.Core.Path.{sym, _∙_}
 use native.Mathlib.Omega.{arith}

@@ -1,5 +1,4 @@
 -- `carry::take_grid` meets its contract: the two outcomes of a grid's record.
--- Assumes nothing.
 use Rattle.carry.specs.Laws.{grid-taken, grid-refused}
 use borrow.Author.Needs.{needs}
 use Rattle.carry.proofs.take_grid.Statement.{statement}

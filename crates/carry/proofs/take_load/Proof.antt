@@ -1,5 +1,4 @@
 -- `carry::take_load` meets its contract: a refused load leaves both buffers and nothing loaded; an accepted one is decoded into them.
--- Assumes nothing.
 use Prim.Native.Nat.{ℕ, _*_}
 use mathlib.Core.Path.{sym, _∙_, ap, ap₂}
 use native.Mathlib.Omega.{arith}
@@ -7,7 +6,7 @@ use lib.ListN.{length}
 use lib.Seq.{length-take-le}
 use Rattle.model.specs.Laws.Basic.{length-tab}
 use Rattle.program.specs.Bytes.{numbersAt}
-use Rattle.records.specs.declared.Command.the-variants.{Load}
+use Rattle.commands.specs.declared.Command.the-variants.{Load}
 use Rattle.calls.specs.Room.{take-short}
 use Rattle.carry.specs.Laws.{small, amounts-few, air-room, tracers-room, load-whole}
 use Rattle.carry.specs.Leaves.{load-leaves, load-refused}

@@ -1,5 +1,4 @@
 -- `console::run` meets its contract: the turns fall.
--- Assumes nothing.
 use mathlib.Core.Path.{_≡_}
 use lib.ListN.{length}
 use borrow.Author.Needs.{needs}

@@ -1,10 +1,10 @@
 -- `records::read` meets its contract: the tests in their order, and the body after the kind byte handed to the parser.
--- Assumes nothing.
 use mathlib.Core.Path.{sym, _∙_}
 use native.Mathlib.Omega.{arith}
 use Rattle.units.specs.Grid.{gridOf}
-use Rattle.records.specs.Stage.{kindIs}
-use Rattle.records.specs.Laws.{stage-small, parse-need, finds-nothing, finds-misplaced, finds-short, finds-record}
+use Rattle.kinds.specs.Kind.{kindIs}
+use Rattle.stages.specs.Laws.{stage-small}
+use Rattle.records.specs.Laws.{parse-need, finds-nothing, finds-misplaced, finds-short, finds-record}
 use borrow.Author.Needs.{needs}
 use Rattle.records.proofs.read.Statement.{statement}
 use Rattle.records.proofs.read.Tie as tie
