@@ -2,14 +2,14 @@
 // are proved in the crates below; here it is read and written.
 ghost use mathlib.Core.Path.{_≡_};
 ghost use lib.ListN.{length};
-use carry::Outcome;
-use carry::air_space;
-use carry::carry_out;
-use carry::tracer_space;
 use libc::STDIN_FILENO;
 use libc::STDOUT_FILENO;
 use lines::Line;
 use lines::line_text;
+use record_to_line::Outcome;
+use record_to_line::air_space;
+use record_to_line::carry_out;
+use record_to_line::tracer_space;
 use records::body_bytes;
 use stages::Stage;
 
