@@ -3,17 +3,23 @@ ghost use mathlib.Core.Path.{_≡_};
 ghost use Prim.Native.Nat.{_+_, _*_, _≤_};
 ghost use lib.ListN.{length};
 ghost use Rattle.program.specs.Bytes.{signed as signed-number, numbersAt, fluxesAt};
+ghost use Rattle.model.specs.Limits.{mostColumns, mostLayers};
 ghost use Rattle.model.specs.Step.{zonal, meridional, remap};
 ghost use Rattle.units.specs.Answer.{Agrees};
 ghost use Rattle.units.specs.Grid.{worldOf};
+ghost use Rattle.stages.specs.Buffers.{buffers};
+ghost use Rattle.stages.specs.Limits.{programFaces};
 ghost use Rattle.stages.specs.Stage.{SmallGrid};
 ghost use Rattle.command_to_answer.specs.Makes.{MakeNeed, Makes, LoadNeed, MakesLoad};
 use commands::Command;
 use commands::LayerOf;
 use commands::RowOf;
 use fields::number_4;
+use stages::PROGRAM_FACES;
 use units::Answer;
 use units::Grid;
+use units::MOST_COLUMNS;
+use units::MOST_EDGES;
 
 // The numbers of 4 bytes each that fill `out`.
 fn decode(bytes: &[u8], out: &mut [u32])
@@ -45,28 +51,29 @@ fn decode_fluxes(bytes: &[u8], out: &mut [i32])
 {
     let mut i = 0;
     while i < out.len() {
-        out[i] = signed(number_4(bytes, 4 * i));
+        let flux = signed(number_4(bytes, 4 * i));
+        out[i] = flux;
         i += 1;
     }
 }
 
 // Room for the fluxes of a row, of a layer in a grid that the program takes, and for a table.
-fn row_space() -> [i32; 72]
-    ensures { λ r. ⌜ length r ≡ 72 ⌝ }
+fn row_space() -> [i32; MOST_COLUMNS]
+    ensures { λ r. ⌜ length r ≡ mostColumns ⌝ }
 {
-    [0; 72]
+    [0; MOST_COLUMNS]
 }
 
-fn layer_space() -> [i32; 2118]
-    ensures { λ r. ⌜ length r ≡ 2118 ⌝ }
+fn layer_space() -> [i32; PROGRAM_FACES]
+    ensures { λ r. ⌜ length r ≡ programFaces ⌝ }
 {
-    [0; 2118]
+    [0; PROGRAM_FACES]
 }
 
-fn table_space() -> [u32; 66]
-    ensures { λ r. ⌜ length r ≡ 66 ⌝ }
+fn table_space() -> [u32; 2 * MOST_EDGES]
+    ensures { λ r. ⌜ length r ≡ 2 * (mostLayers + 1) ⌝ }
 {
-    [0; 66]
+    [0; 2 * MOST_EDGES]
 }
 
 // A zonal sweep with the fluxes of a record's body.
@@ -102,10 +109,10 @@ fn make_remap(g: Grid, body: &[u8], air: &mut [u32], tracers: &mut [u32]) -> Ans
     remap::remap(g, air, tracers, &table[..numbers])
 }
 
-// Makes the call that a command asks for, in the world of exactly these two slices.
+// Makes the call that a command asks for, in the world of exactly these slices.
 pub fn make(g: Grid, c: Command, body: &[u8], air: &mut [u32], tracers: &mut [u32]) -> Answer
     requires { ⌜ MakeNeed g c (now body) ⌝ }
-    ensures { λ x. ⌜ Makes g c (now (body .entry)) x (now (air .entry)) (now (tracers .entry)) (now (air .exit)) (now (tracers .exit)) ⌝ }
+    ensures { λ x. ⌜ Makes g c (now (body .entry)) x (buffers (now (air .entry)) (now (tracers .entry))) (buffers (now (air .exit)) (now (tracers .exit))) ⌝ }
 {
     match c {
         Command::Grid(_) => Answer::Accepted(0), // never: no call
@@ -122,10 +129,10 @@ pub fn make(g: Grid, c: Command, body: &[u8], air: &mut [u32], tracers: &mut [u3
     }
 }
 
-// Decodes a load's body into exactly these two slices, and tests them.
+// A load with the lists of a record's body, decoded into exactly these slices.
 pub fn make_load(g: Grid, body: &[u8], air: &mut [u32], tracers: &mut [u32]) -> Answer
-    requires { ⌜ LoadNeed (now body) (now air) (now tracers) ⌝ }
-    ensures { λ x. ⌜ MakesLoad g (now (body .entry)) (length (now (air .entry))) (length (now (tracers .entry))) x (now (air .exit)) (now (tracers .exit)) ⌝ }
+    requires { ⌜ LoadNeed (now body) (buffers (now air) (now tracers)) ⌝ }
+    ensures { λ x. ⌜ MakesLoad g (now (body .entry)) (buffers (now (air .entry)) (now (tracers .entry))) x (buffers (now (air .exit)) (now (tracers .exit))) ⌝ }
 {
     decode(body, air);
     let at = 4 * air.len();

@@ -1,11 +1,11 @@
 -- Laws of kinds: which byte names one, and where a record of it may stand.
 use Prim.Native.Nat.{ℕ, zero, suc}
-use mathlib.Core.List.{List, []}
 use mathlib.Core.Bool.{not}
 use mathlib.Core.Path.{_≡_, refl, ap}
 use Rattle.program.specs.Records as program
 use Rattle.stages.specs.declared.Stage.{Stage}
 use Rattle.stages.specs.declared.Stage.the-variants.{Start, Gridded, Loaded}
+use Rattle.stages.specs.Buffers.{Buffers, empty}
 use Rattle.stages.specs.Stage.{plainState}
 
 -- ---- a byte other than 1 to 9 names no kind
@@ -23,24 +23,24 @@ no-kind (suc (suc (suc (suc (suc (suc (suc (suc (suc zero))))))))) n1 n2 n3 n4 n
 no-kind (suc (suc (suc (suc (suc (suc (suc (suc (suc (suc n)))))))))) n1 n2 n3 n4 n5 n6 n7 n8 n9 = refl
 
 -- ---- what a stage says of kinds and lengths, whatever the buffers hold
-module _ (r : Stage) (air tracers : List ℕ) where
-  start-any : program.isStart (plainState r air tracers) ≡ program.isStart (plainState r [] [])
+module _ (r : Stage) (b : Buffers) where
+  start-any : program.isStart (plainState r b) ≡ program.isStart (plainState r empty)
   start-any = go r
     where
-      go : (r : Stage) → program.isStart (plainState r air tracers) ≡ program.isStart (plainState r [] [])
+      go : (r : Stage) → program.isStart (plainState r b) ≡ program.isStart (plainState r empty)
       go Start = refl
       go (Gridded g) = refl
       go (Loaded g) = refl
 
-  loaded-any : program.isLoaded (plainState r air tracers) ≡ program.isLoaded (plainState r [] [])
+  loaded-any : program.isLoaded (plainState r b) ≡ program.isLoaded (plainState r empty)
   loaded-any = go r
     where
-      go : (r : Stage) → program.isLoaded (plainState r air tracers) ≡ program.isLoaded (plainState r [] [])
+      go : (r : Stage) → program.isLoaded (plainState r b) ≡ program.isLoaded (plainState r empty)
       go Start = refl
       go (Gridded g) = refl
       go (Loaded g) = refl
 
-  pub place-any : (k : program.Kind) → program.inPlace (plainState r air tracers) k ≡ program.inPlace (plainState r [] []) k
+  pub place-any : (k : program.Kind) → program.inPlace (plainState r b) k ≡ program.inPlace (plainState r empty) k
   place-any program.unknown = refl
   place-any program.gridKind = start-any
   place-any program.loadKind = ap not start-any

@@ -1,9 +1,9 @@
 // The kinds of records: where each may stand, and how long its body is.
 ghost use mathlib.Core.Path.{_≡_};
-ghost use mathlib.Core.List.{[]};
 ghost use Prim.Native.Nat.{_≤_};
 ghost use Rattle.program.specs.Records.{kindOf, isStart, isLoaded, inPlace, bodyLength};
 ghost use Rattle.units.specs.Grid.{gridOf};
+ghost use Rattle.stages.specs.Buffers.{empty};
 ghost use Rattle.stages.specs.Limits.{programBody};
 ghost use Rattle.stages.specs.Stage.{plainState, SmallGrid};
 ghost use Rattle.kinds.specs.Kind.{kindIs};
@@ -43,7 +43,7 @@ pub fn kind_of(byte: u8) -> Kind
 }
 
 fn is_start(stage: Stage) -> bool
-    ensures { λ r. ⌜ r ≡ isStart (plainState stage [] []) ⌝ }
+    ensures { λ r. ⌜ r ≡ isStart (plainState stage empty) ⌝ }
 {
     match stage {
         Stage::Start => true,
@@ -53,7 +53,7 @@ fn is_start(stage: Stage) -> bool
 }
 
 fn is_loaded(stage: Stage) -> bool
-    ensures { λ r. ⌜ r ≡ isLoaded (plainState stage [] []) ⌝ }
+    ensures { λ r. ⌜ r ≡ isLoaded (plainState stage empty) ⌝ }
 {
     match stage {
         Stage::Start => false,
@@ -64,7 +64,7 @@ fn is_loaded(stage: Stage) -> bool
 
 // Place 13: whether a record of this kind may come now.
 pub fn in_place(stage: Stage, kind: Kind) -> bool
-    ensures { λ r. ⌜ r ≡ inPlace (plainState stage [] []) (kindIs kind) ⌝ }
+    ensures { λ r. ⌜ r ≡ inPlace (plainState stage empty) (kindIs kind) ⌝ }
 {
     match kind {
         Kind::Unknown => false,

@@ -1,6 +1,9 @@
-// Carries out a record of the runner in the program's two buffers.
+// Carries out a record of the runner in the program's buffers.
 ghost use mathlib.Core.Path.{_≡_};
 ghost use lib.ListN.{length};
+ghost use Rattle.model.specs.Limits.{programCells};
+ghost use Rattle.stages.specs.Buffers.{buffers};
+ghost use Rattle.stages.specs.Limits.{programAmounts};
 ghost use Rattle.units.specs.Answer.{numberOf, countOf};
 ghost use Rattle.program.specs.Records.{line};
 ghost use Rattle.record_to_line.specs.Outcome.{lineIs, TakesGrid, AnswerNeed, AnswersLoad, TakeNeed, TakesLoad, TakesCall, CarryNeed, CarriesCommand, Carries};
@@ -10,6 +13,7 @@ use commands::Command;
 use lines::Line;
 use records::Found;
 use records::read;
+use stages::PROGRAM_AMOUNTS;
 use stages::Stage;
 use stages::cells_of;
 use stages::fault_number;
@@ -18,6 +22,7 @@ use stages::grid_refusal;
 use stages::settled;
 use units::Answer;
 use units::Grid;
+use units::PROGRAM_CELLS;
 use units::number;
 
 // What comes of a record: nothing, a line and the next stage, or the program's last line.
@@ -63,19 +68,19 @@ fn take_grid(kind: u32, wanted: Grid) -> Outcome
 }
 
 // Room for the air and the tracers of a grid that the program takes.
-pub fn air_space() -> [u32; 2048]
-    ensures { λ r. ⌜ length r ≡ 2048 ⌝ }
+pub fn air_space() -> [u32; PROGRAM_CELLS]
+    ensures { λ r. ⌜ length r ≡ programCells ⌝ }
 {
-    [0; 2048]
+    [0; PROGRAM_CELLS]
 }
 
-pub fn tracer_space() -> [u32; 4096]
-    ensures { λ r. ⌜ length r ≡ 4096 ⌝ }
+pub fn tracer_space() -> [u32; PROGRAM_AMOUNTS]
+    ensures { λ r. ⌜ length r ≡ programAmounts ⌝ }
 {
-    [0; 4096]
+    [0; PROGRAM_AMOUNTS]
 }
 
-// The answer to a load, decoded and tested beside the program's buffers, so that a refused one changes neither.
+// The answer to a load, decoded and tested beside the program's buffers, so that a refused one changes none of them.
 fn answer_to_load(g: Grid, body: &[u8], cells: usize, amounts: usize) -> Answer
     requires { ⌜ AnswerNeed (now body) cells amounts ⌝ }
     ensures { λ x. ⌜ AnswersLoad g (now (body .entry)) cells amounts x ⌝ }
@@ -87,8 +92,8 @@ fn answer_to_load(g: Grid, body: &[u8], cells: usize, amounts: usize) -> Answer
 
 // A load's record.
 fn take_load(g: Grid, kind: u32, body: &[u8], air: &mut [u32], tracers: &mut [u32]) -> Outcome
-    requires { ⌜ TakeNeed g Command.Load (now body) (now air) (now tracers) ⌝ }
-    ensures { λ o. ⌜ TakesLoad g kind (now (body .entry)) o (now (air .entry)) (now (tracers .entry)) (now (air .exit)) (now (tracers .exit)) ⌝ }
+    requires { ⌜ TakeNeed g Command.Load (now body) (buffers (now air) (now tracers)) ⌝ }
+    ensures { λ o. ⌜ TakesLoad g kind (now (body .entry)) o (buffers (now (air .entry)) (now (tracers .entry))) (buffers (now (air .exit)) (now (tracers .exit))) ⌝ }
 {
     let cells = cells_of(g);
     let amounts = (g.n as usize) * cells;
@@ -110,8 +115,8 @@ fn take_call(
     air: &mut [u32],
     tracers: &mut [u32],
 ) -> Outcome
-    requires { ⌜ TakeNeed g c (now body) (now air) (now tracers) ⌝ }
-    ensures { λ o. ⌜ TakesCall g kind c (now (body .entry)) o (now (air .entry)) (now (tracers .entry)) (now (air .exit)) (now (tracers .exit)) ⌝ }
+    requires { ⌜ TakeNeed g c (now body) (buffers (now air) (now tracers)) ⌝ }
+    ensures { λ o. ⌜ TakesCall g kind c (now (body .entry)) o (buffers (now (air .entry)) (now (tracers .entry))) (buffers (now (air .exit)) (now (tracers .exit))) ⌝ }
 {
     let cells = cells_of(g);
     let amounts = (g.n as usize) * cells;
@@ -128,8 +133,8 @@ fn carry_command(
     air: &mut [u32],
     tracers: &mut [u32],
 ) -> Outcome
-    requires { ⌜ CarryNeed g c (now body) (now air) (now tracers) ⌝ }
-    ensures { λ o. ⌜ CarriesCommand g kind c (now (body .entry)) o (now (air .entry)) (now (tracers .entry)) (now (air .exit)) (now (tracers .exit)) ⌝ }
+    requires { ⌜ CarryNeed g c (now body) (buffers (now air) (now tracers)) ⌝ }
+    ensures { λ o. ⌜ CarriesCommand g kind c (now (body .entry)) o (buffers (now (air .entry)) (now (tracers .entry))) (buffers (now (air .exit)) (now (tracers .exit))) ⌝ }
 {
     match c {
         Command::Grid(wanted) => take_grid(kind, wanted),
@@ -138,14 +143,14 @@ fn carry_command(
     }
 }
 
-// Carries out the record at the start of some bytes, in the program's two buffers: its line, the next stage, whether the program ends.
+// Carries out the record at the start of some bytes, in the program's buffers: its line, the next stage, whether the program ends.
 pub fn carry_out(
     stage: Stage,
     input: &[u8],
-    air: &mut [u32; 2048],
-    tracers: &mut [u32; 4096],
+    air: &mut [u32; PROGRAM_CELLS],
+    tracers: &mut [u32; PROGRAM_AMOUNTS],
 ) -> Outcome
-    ensures { λ o. ⌜ Carries stage (now (input .entry)) o (now (air .entry)) (now (tracers .entry)) (now (air .exit)) (now (tracers .exit)) ⌝ }
+    ensures { λ o. ⌜ Carries stage (now (input .entry)) o (buffers (now (air .entry)) (now (tracers .entry))) (buffers (now (air .exit)) (now (tracers .exit))) ⌝ }
 {
     if input.len() == 0 {
         return Outcome::Nothing;

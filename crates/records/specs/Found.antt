@@ -6,6 +6,7 @@ use mathlib.Core.Path.{_≡_}
 use lib.ListN.{length, drop}
 use Rattle.model.specs.World as model
 use Rattle.program.specs.Records as program
+use Rattle.stages.specs.Buffers.{Buffers}
 use Rattle.stages.specs.Limits.{programBody}
 use Rattle.stages.specs.declared.Stage.{Stage}
 use Rattle.stages.specs.Stage.{faultNumber, stateOf}
@@ -16,7 +17,7 @@ use Rattle.records.specs.declared.Found.the-variants.{Nothing, Faulty, R
 
 -- how many bytes a kind needs, whatever the buffers hold
 pub record NeedsBytes (stage : Stage) (byte n : ℕ) : Type 0 where
-  pub number : (air tracers : List ℕ) → n ≡ program.needed (stateOf stage air tracers) byte
+  pub number : (b : Buffers) → n ≡ program.needed (stateOf stage b) byte
   pub few : n ≤ programBody
 
 -- the number and the command of each case of the reader's answer; the body is what follows the kind byte
@@ -37,5 +38,5 @@ FoundWhole s body (Record c) = IsWhole s body c
 
 -- the reader finds what the model finds, whatever the buffers hold
 pub record Finds (stage : Stage) (input : List ℕ) (r : found.Found) : Type 0 where
-  pub cell : (air tracers : List ℕ) → readingIs (program.gridOf (stateOf stage air tracers)) input r ≡ program.found (stateOf stage air tracers) input
-  pub whole : (air tracers : List ℕ) → FoundWhole (stateOf stage air tracers) (drop 1 input) r
+  pub cell : (b : Buffers) → readingIs (program.gridOf (stateOf stage b)) input r ≡ program.found (stateOf stage b) input
+  pub whole : (b : Buffers) → FoundWhole (stateOf stage b) (drop 1 input) r

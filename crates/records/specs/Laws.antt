@@ -10,6 +10,7 @@ use Rattle.model.specs.Basic.{at}
 use Rattle.model.specs.World as model
 use Rattle.program.specs.Records as program
 use Rattle.program.specs.Laws.Records.{needed-none, needed-body, found-misplaced, found-short, found-command}
+use Rattle.stages.specs.Buffers.{Buffers, empty}
 use Rattle.stages.specs.Limits.{programBody}
 use Rattle.stages.specs.declared.Stage.{Stage}
 use Rattle.stages.specs.declared.Fault.the-variants as fault
@@ -23,24 +24,24 @@ use Rattle.records.specs.Found.{NeedsBytes, Finds}
 
 -- ---- the bytes that a kind needs, from what the tests tell
 module _ (stage r : Stage) (byte : ℕ) (k : program.Kind) (settled : IsSettled stage r) (kind : k ≡ program.kindOf byte) where
-  place-is : (b : Bool) → program.inPlace (plainState r [] []) k ≡ b → (air tracers : List ℕ) → program.inPlace (stateOf stage air tracers) (program.kindOf byte) ≡ b
-  place-is b e air tracers = rw (settled .same air tracers, ← kind) (place-any r air tracers k ∙ e)
+  place-is : (v : Bool) → program.inPlace (plainState r empty) k ≡ v → (b : Buffers) → program.inPlace (stateOf stage b) (program.kindOf byte) ≡ v
+  place-is v e b = rw (settled .same b, ← kind) (place-any r b k ∙ e)
 
-  pub needs-none : program.inPlace (plainState r [] []) k ≡ false → NeedsBytes stage byte 0
+  pub needs-none : program.inPlace (plainState r empty) k ≡ false → NeedsBytes stage byte 0
   needs-none e =
       record {
-        number = λ air tracers. sym (needed-none (stateOf stage air tracers) byte [] (place-is false e air tracers));
+        number = λ b. sym (needed-none (stateOf stage b) byte [] (place-is false e b));
         few = omega arith;
       }
 
-  pub needs-body : (g : model.Grid) (n : ℕ) → program.inPlace (plainState r [] []) k ≡ true → g ≡ gridOfStage r → n ≡ program.bodyLength g k → n ≤ programBody → NeedsBytes stage byte n
+  pub needs-body : (g : model.Grid) (n : ℕ) → program.inPlace (plainState r empty) k ≡ true → g ≡ gridOfStage r → n ≡ program.bodyLength g k → n ≤ programBody → NeedsBytes stage byte n
   needs-body g n e same length few =
       record {
         number =
-            λ air tracers.
+            λ b.
             length ∙
-            ap₂ program.bodyLength (same ∙ sym (ap program.gridOf (settled .same air tracers) ∙ grid-any r air tracers)) kind ∙
-            sym (needed-body (stateOf stage air tracers) byte [] (place-is true e air tracers));
+            ap₂ program.bodyLength (same ∙ sym (ap program.gridOf (settled .same b) ∙ grid-any r b)) kind ∙
+            sym (needed-body (stateOf stage b) byte [] (place-is true e b));
         few = few;
       }
 
@@ -69,43 +70,43 @@ parse-need k input s g placed whole =
 
 pub finds-nothing : (stage : Stage) (input : List ℕ) → length input ≡ 0 → Finds stage input Nothing
 unfolding program.found
-finds-nothing stage [] e = record { cell = λ air tracers. refl; whole = λ air tracers. tt }
+finds-nothing stage [] e = record { cell = λ b. refl; whole = λ b. tt }
 finds-nothing stage (byte ∷ body) e = absurd (omega (arith, e))
 
 module _ (stage r : Stage) (input : List ℕ) (k : program.Kind) (settled : IsSettled stage r) (kind : k ≡ program.kindOf (at input 0)) (some : 0 < length input) where
   split : input ≡ at input 0 ∷ drop 1 input
   split = drop-cons input 0 0 some
 
-  module _ (air tracers : List ℕ) where
-    in-state : (b : Bool) → program.inPlace (plainState r [] []) k ≡ b → program.inPlace (stateOf stage air tracers) (program.kindOf (at input 0)) ≡ b
-    in-state b e = place-is stage r (at input 0) k settled kind b e air tracers
+  module _ (b : Buffers) where
+    in-state : (v : Bool) → program.inPlace (plainState r empty) k ≡ v → program.inPlace (stateOf stage b) (program.kindOf (at input 0)) ≡ v
+    in-state v e = place-is stage r (at input 0) k settled kind v e b
 
-    grid-in-state : gridOfStage r ≡ program.gridOf (stateOf stage air tracers)
-    grid-in-state = sym (ap program.gridOf (settled .same air tracers) ∙ grid-any r air tracers)
+    grid-in-state : gridOfStage r ≡ program.gridOf (stateOf stage b)
+    grid-in-state = sym (ap program.gridOf (settled .same b) ∙ grid-any r b)
 
-    length-in-state : (g : model.Grid) → g ≡ gridOfStage r → program.bodyLength g k ≡ program.bodyLength (program.gridOf (stateOf stage air tracers)) (program.kindOf (at input 0))
+    length-in-state : (g : model.Grid) → g ≡ gridOfStage r → program.bodyLength g k ≡ program.bodyLength (program.gridOf (stateOf stage b)) (program.kindOf (at input 0))
     length-in-state g e = ap₂ program.bodyLength (e ∙ grid-in-state) kind
 
-  pub finds-misplaced : program.inPlace (plainState r [] []) k ≡ false → Finds stage input (Faulty fault.Kind)
+  pub finds-misplaced : program.inPlace (plainState r empty) k ≡ false → Finds stage input (Faulty fault.Kind)
   finds-misplaced e =
       record {
         cell =
-            λ air tracers.
-            sym (ap (program.found (stateOf stage air tracers)) split ∙ found-misplaced _ (at input 0) (drop 1 input) (in-state air tracers false e));
-        whole = λ air tracers. tt;
+            λ b.
+            sym (ap (program.found (stateOf stage b)) split ∙ found-misplaced _ (at input 0) (drop 1 input) (in-state b false e));
+        whole = λ b. tt;
       }
 
-  module _ (g : model.Grid) (same : g ≡ gridOfStage r) (placed : program.inPlace (plainState r [] []) k ≡ true) where
+  module _ (g : model.Grid) (same : g ≡ gridOfStage r) (placed : program.inPlace (plainState r empty) k ≡ true) where
     pub finds-short : length input - 1 < program.bodyLength g k → Finds stage input (Faulty fault.Length)
     finds-short h =
         record {
           cell =
-              λ air tracers.
+              λ b.
               sym
-              (ap (program.found (stateOf stage air tracers)) split ∙
-              found-short _ (at input 0) (drop 1 input) (in-state air tracers true placed)
-              (omega (arith, length-drop 1 input, length-in-state air tracers g same)));
-          whole = λ air tracers. tt;
+              (ap (program.found (stateOf stage b)) split ∙
+              found-short _ (at input 0) (drop 1 input) (in-state b true placed)
+              (omega (arith, length-drop 1 input, length-in-state b g same)));
+          whole = λ b. tt;
         }
 
     module _ (h : program.bodyLength g k ≤ length input - 1) (c : command.Command) (parsed : Parses k (take (length input - 1) (drop 1 input)) c) where
@@ -116,16 +117,16 @@ module _ (stage r : Stage) (input : List ℕ) (k : program.Kind) (settled : IsSe
       finds-record =
           record {
             cell =
-                λ air tracers.
-                ap program.command (commands _ ∙ ap (λ (x : program.Kind). program.commandOf (program.gridOf (stateOf stage air tracers)) x (drop 1 input)) kind) ∙
+                λ b.
+                ap program.command (commands _ ∙ ap (λ (x : program.Kind). program.commandOf (program.gridOf (stateOf stage b)) x (drop 1 input)) kind) ∙
                 sym
-                (ap (program.found (stateOf stage air tracers)) split ∙
-                found-command _ (at input 0) (drop 1 input) (in-state air tracers true placed)
-                (omega (arith, length-drop 1 input, length-in-state air tracers g same)));
+                (ap (program.found (stateOf stage b)) split ∙
+                found-command _ (at input 0) (drop 1 input) (in-state b true placed)
+                (omega (arith, length-drop 1 input, length-in-state b g same)));
             whole =
-                λ air tracers.
+                λ b.
                 record {
-                  placed = ap (program.inPlace (stateOf stage air tracers)) (parsed .sameKind ∙ kind) ∙ in-state air tracers true placed;
-                  whole = rw (parsed .sameKind, ← grid-in-state air tracers, ← same) (omega (arith, length-drop 1 input));
+                  placed = ap (program.inPlace (stateOf stage b)) (parsed .sameKind ∙ kind) ∙ in-state b true placed;
+                  whole = rw (parsed .sameKind, ← grid-in-state b, ← same) (omega (arith, length-drop 1 input));
                 };
           }

@@ -1,6 +1,5 @@
 -- Laws of stages and of the grids that the program takes.
 use Prim.Native.Nat.{ℕ, zero, suc, _+_, _*_, _≤_, _<_}
-use mathlib.Core.List.{List}
 use mathlib.Core.Bool.{Bool, true, false}
 use mathlib.Core.Path.{_≡_, refl, sym, ap, subst}
 use native.Mathlib.Omega.{arith}
@@ -14,6 +13,7 @@ use Rattle.units.specs.declared.Grid as declared
 use Rattle.units.specs.Grid.{gridOf, in-range}
 use Rattle.program.specs.Records as program
 use Rattle.stages.specs.Limits.{programAmounts, programFaces}
+use Rattle.stages.specs.Buffers.{Buffers}
 use Rattle.stages.specs.declared.Stage.{Stage}
 use Rattle.stages.specs.declared.Stage.the-variants.{Start, Gridded, Loaded}
 use Rattle.stages.specs.Stage.{plainState, stageRefusal, stateOf, gridOfStage, IsSettled, SmallGrid}
@@ -33,15 +33,15 @@ module _ (g : model.Grid) where
   taken-grid e h k = rw (e, program.gridRefusal, le-ltb programCells (model.worldCells g) h, le-ltb programTracers (g .N) k)
 
 -- ---- a settled stage
-pub plain-state : (r : Stage) → stageRefusal r ≡ 0 → (air tracers : List ℕ) → stateOf r air tracers ≡ plainState r air tracers
-plain-state r taken air tracers = rw (taken, stateOf)
+pub plain-state : (r : Stage) → stageRefusal r ≡ 0 → (b : Buffers) → stateOf r b ≡ plainState r b
+plain-state r taken b = rw (taken, stateOf)
 
 pub settled-same : (stage r : Stage) → stage ≡ r → stageRefusal r ≡ 0 → IsSettled stage r
-settled-same stage r e taken = record { same = λ air tracers. rw e (plain-state r taken air tracers); taken = taken }
+settled-same stage r e taken = record { same = λ b. rw e (plain-state r taken b); taken = taken }
 
 pub settled-back : (stage : Stage) (n : ℕ) → stageRefusal stage ≡ n → (n ≡ 0 → ⊥) → IsSettled stage Start
 settled-back stage zero e nonzero = absurd (nonzero refl)
-settled-back stage (suc n) e nonzero = record { same = λ air tracers. rw (e, stateOf); taken = refl }
+settled-back stage (suc n) e nonzero = record { same = λ b. rw (e, stateOf); taken = refl }
 
 -- ---- the products in the lengths of a small grid's bodies
 module _ (g : declared.Grid) (small : SmallGrid g) where
@@ -96,11 +96,11 @@ stage-small (Gridded h) g e taken = same-small g h e (taken-small h taken)
 stage-small (Loaded h) g e taken = same-small g h e (taken-small h taken)
 
 -- ---- the grid of a stage, whatever the buffers hold
-module _ (r : Stage) (air tracers : List ℕ) where
-  pub grid-any : program.gridOf (plainState r air tracers) ≡ gridOfStage r
+module _ (r : Stage) (b : Buffers) where
+  pub grid-any : program.gridOf (plainState r b) ≡ gridOfStage r
   grid-any = go r
     where
-      go : (r : Stage) → program.gridOf (plainState r air tracers) ≡ gridOfStage r
+      go : (r : Stage) → program.gridOf (plainState r b) ≡ gridOfStage r
       go Start = refl
       go (Gridded g) = refl
       go (Loaded g) = refl

@@ -1,3 +1,4 @@
 pub mod Limits
+pub mod Buffers
 pub mod Stage
 pub mod Laws

@@ -41,21 +41,22 @@ loop-less c = search needs
 
 loop-again : tie.Need-loop-again Inv-loop μ-loop
 loop-again c =
-    let start = c .before .before .before .before .before in
-    let turn = c .before .before .loop in
+    let start : tie.Start Inv-loop μ-loop = search in
+    let turn = (let p : tie.At-loop Inv-loop μ-loop = search in p .loop) in
+    let again = (let p : tie.In-loop Inv-loop μ-loop = search in p .loop-test) in
     let bytes = start .args .bytes .now in
     let is = c .number-4 .ensures ∙ sym (ap (λ (a : ℕ). numberAt bytes a 4) (zero-add (4 * turn .i))) in
-    (omega (arith, length-set (turn .out) (turn .i) (c .number-4 .result)), length-set (turn .out) (turn .i) (c .number-4 .result) ∙ turn .inv .1, filled-more (turn .out) (λ (j : ℕ). numberAt bytes (0 + 4 * j) 4) (turn .i) _ is (c .before .loop-test .taken) (turn .inv .2))
+    let size = length-set (turn .out) (turn .i) (c .number-4 .result) in
+    (omega arith, size ∙ turn .inv .1, filled-more (turn .out) (λ (j : ℕ). numberAt bytes (0 + 4 * j) 4) (turn .i) _ is (again .taken) (turn .inv .2))
 
 same-length : tie.Need-same-length Inv-loop μ-loop
 same-length c = search needs
 
 returns : tie.Need-returns Inv-loop μ-loop
 returns c =
-    let start = c .before .before .before .before in
-    let end = c .before .loop in
-    let bytes = start .args .bytes .now in
-    filled (end .out) (λ (j : ℕ). numberAt bytes (0 + 4 * j) 4) (end .i) _ (end .inv .2) (omega arith) (end .inv .0) (end .inv .1)
+    let start : tie.Start Inv-loop μ-loop = search in
+    let end = (let p : tie.At-loop Inv-loop μ-loop = search in p .loop) in
+    filled (end .out) (λ (j : ℕ). numberAt (start .args .bytes .now) (0 + 4 * j) 4) (end .i) _ (end .inv .2) (omega arith) (end .inv .0) (end .inv .1)
 
 pub decode-spec : {M : Type 1} → statement M
 decode-spec =

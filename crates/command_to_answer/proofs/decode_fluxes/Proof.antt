@@ -4,6 +4,7 @@ use mathlib.Core.Path.{_≡_, refl, sym, _∙_, ap}
 use native.Mathlib.Nat.{zero-add}
 use lib.ListN.{length, take, length-set}
 use native.Mathlib.Omega.{arith}
+use lib.IntN.{ℤ}
 use mir.Syntax.{w32}
 use mir.Val.{toZ, ofZ}
 use Rattle.program.specs.Bytes.{numberAt, signed, fluxesAt}
@@ -30,11 +31,11 @@ number-4-requires c κs = search needs
 signed-requires : tie.Need-signed-requires Inv-loop μ-loop
 signed-requires c κs = search needs
 
-mul-t8 : tie.Need-mul-t8 Inv-loop μ-loop
-mul-t8 c = search needs
+mul-flux : tie.Need-mul-flux Inv-loop μ-loop
+mul-flux c = search needs
 
-slice-set-from-out : tie.Need-slice-set-from-out Inv-loop μ-loop
-slice-set-from-out c = search needs
+slice-set-from-flux : tie.Need-slice-set-from-flux Inv-loop μ-loop
+slice-set-from-flux c = search needs
 
 add-i : tie.Need-add-i Inv-loop μ-loop
 add-i c = search needs
@@ -44,26 +45,27 @@ loop-less c = search needs
 
 loop-again : tie.Need-loop-again Inv-loop μ-loop
 loop-again c =
-    let turn = c .before .before .before .loop in
-    let bytes = c .before .before .before .before .before .args .bytes .now in
+    let start : tie.Start Inv-loop μ-loop = search in
+    let turn = (let p : tie.At-loop Inv-loop μ-loop = search in p .loop) in
+    let again = (let p : tie.In-loop Inv-loop μ-loop = search in p .loop-test) in
+    let number = (let p : tie.After-number-4 Inv-loop μ-loop = search in p .number-4) in
+    let bytes = start .args .bytes .now in
     let flux = c .signed .result in
     let read : toZ w32 (ofZ w32 flux) ≡ flux = search needs in
-    let is =
-    read ∙ c .signed .ensures ∙
-    ap signed (c .before .number-4 .ensures ∙ sym (ap (λ (a : ℕ). numberAt bytes a 4) (zero-add (4 * turn .i)))) in (
-      omega (arith, length-set (turn .out) (turn .i) (toZ w32 (ofZ w32 flux))),
-      length-set (turn .out) (turn .i) (toZ w32 (ofZ w32 flux)) ∙ turn .inv .1,
-      filled-more (turn .out) (λ (j : ℕ). signed (numberAt bytes (0 + 4 * j) 4)) (turn .i) _ is (c .before .before .loop-test .taken) (turn .inv .2),
-    )
+    let four = number .ensures ∙ sym (ap (λ (a : ℕ). numberAt bytes a 4) (zero-add (4 * turn .i))) in
+    let is = read ∙ c .signed .ensures ∙ ap signed four in
+    let size = length-set (turn .out) (turn .i) (toZ w32 (ofZ w32 flux)) in
+    (omega arith, size ∙ turn .inv .1, filled-more (turn .out) (λ (j : ℕ). signed (numberAt bytes (0 + 4 * j) 4)) (turn .i) _ is (again .taken) (turn .inv .2))
 
 same-length : tie.Need-same-length Inv-loop μ-loop
 same-length c = search needs
 
 returns : tie.Need-returns Inv-loop μ-loop
 returns c =
-    let end = c .before .loop in
-    let bytes = c .before .before .before .args .bytes .now in
-    filled (end .out) (λ (j : ℕ). signed (numberAt bytes (0 + 4 * j) 4)) (end .i) _ (end .inv .2) (omega arith) (end .inv .0) (end .inv .1)
+    let start : tie.Start Inv-loop μ-loop = search in
+    let end = (let p : tie.At-loop Inv-loop μ-loop = search in p .loop) in
+    let flux-at : ℕ → ℤ = λ j. signed (numberAt (start .args .bytes .now) (0 + 4 * j) 4) in
+    filled (end .out) flux-at (end .i) _ (end .inv .2) (omega arith) (end .inv .0) (end .inv .1)
 
 pub decode-fluxes-spec : {M : Type 1} → statement M
 decode-fluxes-spec =
@@ -75,8 +77,8 @@ decode-fluxes-spec =
     mul-number-4
     number-4-requires
     signed-requires
-    mul-t8
-    slice-set-from-out
+    mul-flux
+    slice-set-from-flux
     add-i
     loop-less
     loop-again

@@ -1,8 +1,9 @@
 -- `command_to_answer::make_load` meets its contract: both lists are the body's numbers, one after the other.
 use Prim.Native.Nat.{ℕ, _*_}
-use mathlib.Core.Path.{_∙_, ap}
+use mathlib.Core.Path.{_∙_, ap, ap₂}
 use lib.ListN.{length}
 use Rattle.model.specs.Laws.Basic.{length-tab}
+use Rattle.units.specs.Grid.{worldOf}
 use Rattle.program.specs.Bytes.{numbersAt}
 use Rattle.command_to_answer.specs.Room.{numbers-from}
 use borrow.Author.Needs.{needs}
@@ -38,17 +39,15 @@ same-length-2 c = search needs
 
 returns : tie.Need-returns
 returns c =
-    let decode = c .before .before .before .before .before .before .before .before .before .before .decode in
-    let decode2 = c .before .before .before .before .before .decode2 in
-    let start = c .before .before .before .before .before .before .before .before .before .before .before .before .before .before .before in
+    let start : tie.Start = search in
+    let first = (let p : tie.After-decode = search in p .decode .ensures) in
+    let second = (let p : tie.After-decode2 = search in p .decode2 .ensures) in
     let body = start .args .body .now in
-    let first = decode .ensures in
     let amounts = length (start .args .tracers .now) in
     record {
-      airIs = first;
-      tracersIs =
-          decode2 .ensures ∙ numbers-from body _ amounts ∙
-          ap (λ (n : ℕ). numbersAt body (4 * n) amounts) (ap length first ∙ length-tab _ _);
+      is =
+          ap₂ (worldOf (start .args .g)) first
+          (second ∙ numbers-from body _ amounts ∙ ap (λ (n : ℕ). numbersAt body (4 * n) amounts) (ap length first ∙ length-tab _ _));
       agrees = c .load .ensures;
     }
 

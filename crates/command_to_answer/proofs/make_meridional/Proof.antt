@@ -1,12 +1,11 @@
 -- `command_to_answer::make_meridional` meets its contract: the fluxes decoded from the body are those that the call is made with.
 use Prim.Native.Nat.{_+_, _*_}
-use mathlib.Core.Path.{sym, _∙_, ap}
+use mathlib.Core.Path.{sym, ap}
 use native.Mathlib.Omega.{arith}
 use lib.Seq.{length-take-le}
 use Rattle.model.specs.Step.{meridional}
-use Rattle.program.specs.Bytes.{fluxesAt}
 use Rattle.stages.specs.Laws.{few-faces}
-use Rattle.command_to_answer.specs.Room.{take-short, rest-long, flux-of, room-back, room-long, room-sized, fluxes-from, agrees-same}
+use Rattle.command_to_answer.specs.Room.{take-short, rest-long, filled-fluxes, agrees-same}
 use borrow.Author.Needs.{needs}
 use Rattle.command_to_answer.proofs.make_meridional.Statement.{statement}
 use Rattle.command_to_answer.proofs.make_meridional.Tie as tie
@@ -36,28 +35,37 @@ part-decode-fluxes-end : tie.Need-part-decode-fluxes-end
 part-decode-fluxes-end c = search needs
 
 array-borrow-prefix-fluxes : tie.Need-array-borrow-prefix-fluxes
-array-borrow-prefix-fluxes c = let start = c .before .before .before .before .before .before .before in omega (arith, c .before .layer-space .ensures, few-faces (start .args .g) (start .pre .0) (start .pre .1))
+array-borrow-prefix-fluxes c =
+    let start : tie.Start = search in
+    let space = (let p : tie.After-layer-space = search in p .layer-space) in
+    omega (arith, space .ensures, few-faces (start .args .g) (start .pre .0) (start .pre .1))
 
 slice-aggregate-decode-fluxes : tie.Need-slice-aggregate-decode-fluxes
-slice-aggregate-decode-fluxes c = let start = c .before .before .before .before .before .before .before .before in sym (length-take-le (start .args .g .w * (start .args .g .r + 1)) _ (omega (arith, c .before .before .layer-space .ensures, few-faces (start .args .g) (start .pre .0) (start .pre .1))))
+slice-aggregate-decode-fluxes c =
+    let start : tie.Start = search in
+    let space = (let p : tie.After-layer-space = search in p .layer-space) in
+    sym (length-take-le (start .args .g .w * (start .args .g .r + 1)) _ (omega (arith, space .ensures, few-faces (start .args .g) (start .pre .0) (start .pre .1))))
 
 decode-fluxes-requires : tie.Need-decode-fluxes-requires
 decode-fluxes-requires c κs =
-    let start = c .before .before .before .before .before .before .before .before in
-    omega (arith, take-short (start .args .g .w * (start .args .g .r + 1)) (c .before .before .layer-space .result), rest-long (start .args .body .now) 1, start .pre .2)
+    let start : tie.Start = search in
+    let space = (let p : tie.After-layer-space = search in p .layer-space) in
+    let faces = start .args .g .w * (start .args .g .r + 1) in
+    omega (arith, take-short faces (space .result), rest-long (start .args .body .now) 1, start .pre .2)
 
 array-share-prefix-fluxes : tie.Need-array-share-prefix-fluxes
 array-share-prefix-fluxes c =
-    let layer-space = c .before .before .before .before .before .before .layer-space in
-    let start = c .before .before .before .before .before .before .before .before .before .before .before .before in
-    room-long (layer-space .result) _ (start .args .g .w * (start .args .g .r + 1)) (flux-of (start .args .body .now) 1) (omega (arith, layer-space .ensures, few-faces (start .args .g) (start .pre .0) (start .pre .1))) (c .before .before .before .decode-fluxes .ensures)
+    let start : tie.Start = search in
+    let space = (let p : tie.After-layer-space = search in p .layer-space) in
+    let decoded = (let p : tie.After-decode-fluxes = search in p .decode-fluxes) in
+    filled-fluxes (space .result) (start .args .g .w * (start .args .g .r + 1)) (start .args .body .now) 1 (omega (arith, space .ensures, few-faces (start .args .g) (start .pre .0) (start .pre .1))) (decoded .ensures) .long
 
 slice-aggregate-meridional : tie.Need-slice-aggregate-meridional
 slice-aggregate-meridional c =
-    let layer-space = c .before .before .before .before .before .before .before .layer-space in
-    let decode-fluxes = c .before .before .before .before .decode-fluxes in
-    let start = c .before .before .before .before .before .before .before .before .before .before .before .before .before in
-    room-sized (layer-space .result) _ (start .args .g .w * (start .args .g .r + 1)) (flux-of (start .args .body .now) 1) (omega (arith, layer-space .ensures, few-faces (start .args .g) (start .pre .0) (start .pre .1))) (decode-fluxes .ensures)
+    let start : tie.Start = search in
+    let space = (let p : tie.After-layer-space = search in p .layer-space) in
+    let decoded = (let p : tie.After-decode-fluxes = search in p .decode-fluxes) in
+    filled-fluxes (space .result) (start .args .g .w * (start .args .g .r + 1)) (start .args .body .now) 1 (omega (arith, space .ensures, few-faces (start .args .g) (start .pre .0) (start .pre .1))) (decoded .ensures) .sized
 
 meridional-requires : tie.Need-meridional-requires
 meridional-requires c κs = search needs
@@ -70,16 +78,12 @@ same-length-2 c = search needs
 
 returns : tie.Need-returns
 returns c =
-    let layer-space = c .before .before .before .before .before .before .before .before .before .before .before .before .layer-space in
-    let decode-fluxes = c .before .before .before .before .before .before .before .before .before .decode-fluxes in
-    let start = c .before .before .before .before .before .before .before .before .before .before .before .before .before .before .before .before .before .before in
-    let faces = start .args .g .w * (start .args .g .r + 1) in
-    let sweep = c .before .before .before .before in
-    agrees-same _ _ (meridional (start .args .p .layer) (fluxesAt (start .args .body .now) 1 faces)) _ _
-    (ap (meridional (start .args .p .layer))
-    (room-back (layer-space .result) _ faces (flux-of (start .args .body .now) 1) (omega (arith, layer-space .ensures, few-faces (start .args .g) (start .pre .0) (start .pre .1))) (decode-fluxes .ensures) ∙
-    fluxes-from (start .args .body .now) 1 faces))
-    (sweep .meridional .ensures)
+    let start : tie.Start = search in
+    let space = (let p : tie.After-layer-space = search in p .layer-space) in
+    let decoded = (let p : tie.After-decode-fluxes = search in p .decode-fluxes) in
+    let swept = (let p : tie.After-meridional = search in p .meridional) in
+    let fluxes = filled-fluxes (space .result) (start .args .g .w * (start .args .g .r + 1)) (start .args .body .now) 1 (omega (arith, space .ensures, few-faces (start .args .g) (start .pre .0) (start .pre .1))) (decoded .ensures) .back in
+    agrees-same _ _ _ _ _ (ap (meridional (start .args .p .layer)) fluxes) (swept .ensures)
 
 pub make-meridional-spec : {M : Type 1} → statement M
 make-meridional-spec =

@@ -4,8 +4,7 @@ use mathlib.Core.Path.{sym, ap}
 use native.Mathlib.Omega.{arith}
 use lib.Seq.{length-take-le}
 use Rattle.model.specs.Step.{remap}
-use Rattle.program.specs.Bytes.{numbersAt}
-use Rattle.command_to_answer.specs.Room.{take-short, number-of, room-back, room-long, room-sized, agrees-same}
+use Rattle.command_to_answer.specs.Room.{take-short, filled-numbers, agrees-same}
 use borrow.Author.Needs.{needs}
 use Rattle.command_to_answer.proofs.make_remap.Statement.{statement}
 use Rattle.command_to_answer.proofs.make_remap.Tie as tie
@@ -26,25 +25,30 @@ array-borrow-prefix-table : tie.Need-array-borrow-prefix-table
 array-borrow-prefix-table c = search needs
 
 slice-aggregate-decode : tie.Need-slice-aggregate-decode
-slice-aggregate-decode c = let start = c .before .before .before .before .before .before in sym (length-take-le (2 * (start .args .g .k + 1)) _ (omega (arith, c .before .table-space .ensures, start .pre .0 .highK)))
+slice-aggregate-decode c =
+    let start : tie.Start = search in
+    let space = (let p : tie.After-table-space = search in p .table-space) in
+    sym (length-take-le (2 * (start .args .g .k + 1)) _ (omega (arith, space .ensures, start .pre .0 .highK)))
 
 decode-requires : tie.Need-decode-requires
 decode-requires c κs =
-    let start = c .before .before .before .before .before .before in
-    omega (arith, take-short (2 * (start .args .g .k + 1)) (c .before .table-space .result), start .pre .1)
+    let start : tie.Start = search in
+    let space = (let p : tie.After-table-space = search in p .table-space) in
+    omega (arith, take-short (2 * (start .args .g .k + 1)) (space .result), start .pre .1)
 
 array-share-prefix-table : tie.Need-array-share-prefix-table
 array-share-prefix-table c =
-    let table-space = c .before .before .before .before .before .table-space in
-    let start = c .before .before .before .before .before .before .before .before .before .before in
-    room-long (table-space .result) _ (2 * (start .args .g .k + 1)) (number-of (start .args .body .now)) (omega (arith, table-space .ensures, start .pre .0 .highK)) (c .before .before .before .decode .ensures)
+    let start : tie.Start = search in
+    let space = (let p : tie.After-table-space = search in p .table-space) in
+    let decoded = (let p : tie.After-decode = search in p .decode) in
+    filled-numbers (space .result) (2 * (start .args .g .k + 1)) (start .args .body .now) (omega (arith, space .ensures, start .pre .0 .highK)) (decoded .ensures) .long
 
 slice-aggregate-remap : tie.Need-slice-aggregate-remap
 slice-aggregate-remap c =
-    let table-space = c .before .before .before .before .before .before .table-space in
-    let decode = c .before .before .before .before .decode in
-    let start = c .before .before .before .before .before .before .before .before .before .before .before in
-    room-sized (table-space .result) _ (2 * (start .args .g .k + 1)) (number-of (start .args .body .now)) (omega (arith, table-space .ensures, start .pre .0 .highK)) (decode .ensures)
+    let start : tie.Start = search in
+    let space = (let p : tie.After-table-space = search in p .table-space) in
+    let decoded = (let p : tie.After-decode = search in p .decode) in
+    filled-numbers (space .result) (2 * (start .args .g .k + 1)) (start .args .body .now) (omega (arith, space .ensures, start .pre .0 .highK)) (decoded .ensures) .sized
 
 remap-requires : tie.Need-remap-requires
 remap-requires c κs = search needs
@@ -57,15 +61,12 @@ same-length-2 c = search needs
 
 returns : tie.Need-returns
 returns c =
-    let table-space = c .before .before .before .before .before .before .before .before .before .before .before .table-space in
-    let decode = c .before .before .before .before .before .before .before .before .before .decode in
-    let remap-here = c .before .before .before .before .remap in
-    let start = c .before .before .before .before .before .before .before .before .before .before .before .before .before .before .before .before in
-    let numbers = 2 * (start .args .g .k + 1) in
-    agrees-same _ _ (remap (numbersAt (start .args .body .now) 0 numbers)) _ _
-    (ap remap
-    (room-back (table-space .result) _ numbers (number-of (start .args .body .now)) (omega (arith, table-space .ensures, start .pre .0 .highK)) (decode .ensures)))
-    (remap-here .ensures)
+    let start : tie.Start = search in
+    let space = (let p : tie.After-table-space = search in p .table-space) in
+    let decoded = (let p : tie.After-decode = search in p .decode) in
+    let made = (let p : tie.After-remap = search in p .remap) in
+    let table = filled-numbers (space .result) (2 * (start .args .g .k + 1)) (start .args .body .now) (omega (arith, space .ensures, start .pre .0 .highK)) (decoded .ensures) .back in
+    agrees-same _ _ _ _ _ (ap remap table) (made .ensures)
 
 pub make-remap-spec : {M : Type 1} → statement M
 make-remap-spec =

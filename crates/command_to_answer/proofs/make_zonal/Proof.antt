@@ -1,10 +1,9 @@
 -- `command_to_answer::make_zonal` meets its contract: the fluxes decoded from the body are those that the call is made with.
-use mathlib.Core.Path.{sym, _∙_, ap}
+use mathlib.Core.Path.{sym, ap}
 use native.Mathlib.Omega.{arith}
 use lib.Seq.{length-take-le}
 use Rattle.model.specs.Step.{zonal}
-use Rattle.program.specs.Bytes.{fluxesAt}
-use Rattle.command_to_answer.specs.Room.{take-short, rest-long, flux-of, room-back, room-long, room-sized, fluxes-from, agrees-same}
+use Rattle.command_to_answer.specs.Room.{take-short, rest-long, filled-fluxes, agrees-same}
 use borrow.Author.Needs.{needs}
 use Rattle.command_to_answer.proofs.make_zonal.Statement.{statement}
 use Rattle.command_to_answer.proofs.make_zonal.Tie as tie
@@ -29,26 +28,29 @@ array-borrow-prefix-fluxes c = search needs
 
 slice-aggregate-decode-fluxes : tie.Need-slice-aggregate-decode-fluxes
 slice-aggregate-decode-fluxes c =
-    let start = c .before .before .before .before .before .before .before in
-    sym (length-take-le _ _ (omega (arith, c .before .before .row-space .ensures, start .pre .0 .highW)))
+    let start : tie.Start = search in
+    let space = (let p : tie.After-row-space = search in p .row-space) in
+    sym (length-take-le _ _ (omega (arith, space .ensures, start .pre .0 .highW)))
 
 decode-fluxes-requires : tie.Need-decode-fluxes-requires
 decode-fluxes-requires c κs =
-    let start = c .before .before .before .before .before .before .before in
-    omega (arith, take-short (start .args .g .w) (c .before .before .row-space .result), rest-long (start .args .body .now) 2, start .pre .1)
+    let start : tie.Start = search in
+    let space = (let p : tie.After-row-space = search in p .row-space) in
+    omega (arith, take-short (start .args .g .w) (space .result), rest-long (start .args .body .now) 2, start .pre .1)
 
 array-share-prefix-fluxes : tie.Need-array-share-prefix-fluxes
 array-share-prefix-fluxes c =
-    let row-space = c .before .before .before .before .before .before .row-space in
-    let start = c .before .before .before .before .before .before .before .before .before .before .before in
-    room-long (row-space .result) _ (start .args .g .w) (flux-of (start .args .body .now) 2) (omega (arith, row-space .ensures, start .pre .0 .highW)) (c .before .before .before .decode-fluxes .ensures)
+    let start : tie.Start = search in
+    let space = (let p : tie.After-row-space = search in p .row-space) in
+    let decoded = (let p : tie.After-decode-fluxes = search in p .decode-fluxes) in
+    filled-fluxes (space .result) (start .args .g .w) (start .args .body .now) 2 (omega (arith, space .ensures, start .pre .0 .highW)) (decoded .ensures) .long
 
 slice-aggregate-zonal : tie.Need-slice-aggregate-zonal
 slice-aggregate-zonal c =
-    let row-space = c .before .before .before .before .before .before .before .row-space in
-    let decode-fluxes = c .before .before .before .before .decode-fluxes in
-    let start = c .before .before .before .before .before .before .before .before .before .before .before .before in
-    room-sized (row-space .result) _ (start .args .g .w) (flux-of (start .args .body .now) 2) (omega (arith, row-space .ensures, start .pre .0 .highW)) (decode-fluxes .ensures)
+    let start : tie.Start = search in
+    let space = (let p : tie.After-row-space = search in p .row-space) in
+    let decoded = (let p : tie.After-decode-fluxes = search in p .decode-fluxes) in
+    filled-fluxes (space .result) (start .args .g .w) (start .args .body .now) 2 (omega (arith, space .ensures, start .pre .0 .highW)) (decoded .ensures) .sized
 
 zonal-requires : tie.Need-zonal-requires
 zonal-requires c κs = search needs
@@ -61,15 +63,12 @@ same-length-2 c = search needs
 
 returns : tie.Need-returns
 returns c =
-    let row-space = c .before .before .before .before .before .before .before .before .before .before .before .before .row-space in
-    let decode-fluxes = c .before .before .before .before .before .before .before .before .before .decode-fluxes in
-    let start = c .before .before .before .before .before .before .before .before .before .before .before .before .before .before .before .before .before in
-    let sweep = c .before .before .before .before in
-    agrees-same _ _ (zonal (start .args .p .layer) (start .args .p .row) (fluxesAt (start .args .body .now) 2 (start .args .g .w))) _ _
-    (ap (zonal (start .args .p .layer) (start .args .p .row))
-    (room-back (row-space .result) _ (start .args .g .w) (flux-of (start .args .body .now) 2) (omega (arith, row-space .ensures, start .pre .0 .highW)) (decode-fluxes .ensures) ∙
-    fluxes-from (start .args .body .now) 2 (start .args .g .w)))
-    (sweep .zonal .ensures)
+    let start : tie.Start = search in
+    let space = (let p : tie.After-row-space = search in p .row-space) in
+    let decoded = (let p : tie.After-decode-fluxes = search in p .decode-fluxes) in
+    let swept = (let p : tie.After-zonal = search in p .zonal) in
+    let fluxes = filled-fluxes (space .result) (start .args .g .w) (start .args .body .now) 2 (omega (arith, space .ensures, start .pre .0 .highW)) (decoded .ensures) .back in
+    agrees-same _ _ _ _ _ (ap (zonal (start .args .p .layer) (start .args .p .row)) fluxes) (swept .ensures)
 
 pub make-zonal-spec : {M : Type 1} → statement M
 make-zonal-spec =

@@ -18,32 +18,36 @@ array-borrow-prefix-air : tie.Need-array-borrow-prefix-air
 array-borrow-prefix-air c = search needs
 
 slice-aggregate-make-load : tie.Need-slice-aggregate-make-load
-slice-aggregate-make-load c = let start = c .before .before .before .before in sym (length-take-le (start .args .cells) _ (omega (arith, c .before .before .air-space .ensures, start .pre .fewCells)))
+slice-aggregate-make-load c =
+    let start : tie.Start = search in
+    let airs = (let p : tie.After-air-space = search in p .air-space) in
+    sym (length-take-le (start .args .cells) _ (omega (arith, airs .ensures, start .pre .fewCells)))
 
 array-borrow-prefix-tracers : tie.Need-array-borrow-prefix-tracers
 array-borrow-prefix-tracers c = search needs
 
 slice-aggregate-make-load-2 : tie.Need-slice-aggregate-make-load-2
-slice-aggregate-make-load-2 c = let start = c .before .before .before .before .before in sym (length-take-le (start .args .amounts) _ (omega (arith, c .before .before .tracer-space .ensures, start .pre .fewAmounts)))
+slice-aggregate-make-load-2 c =
+    let start : tie.Start = search in
+    let amounts = (let p : tie.After-tracer-space = search in p .tracer-space) in
+    sym (length-take-le (start .args .amounts) _ (omega (arith, amounts .ensures, start .pre .fewAmounts)))
 
 make-load-requires : tie.Need-make-load-requires
 make-load-requires c κs =
-    let start = c .before .before .before .before .before in
-    record {
-      whole =
-          omega
-          (arith, take-short (start .args .cells) (c .before .before .before .air-space .result), take-short (start .args .amounts) (c .before .before .tracer-space .result), start .pre .whole);
-    }
+    let start : tie.Start = search in
+    let airs = (let p : tie.After-air-space = search in p .air-space) in
+    let amounts = (let p : tie.After-tracer-space = search in p .tracer-space) in
+    let cells = take-short (start .args .cells) (airs .result) in
+    let numbers = take-short (start .args .amounts) (amounts .result) in
+    record { whole = omega (arith, start .pre .whole) }
 
 returns : tie.Need-returns
 returns c =
-    let air-space = c .before .before .before .before .before .before .air-space in
-    let tracer-space = c .before .before .before .before .before .tracer-space in
-    let start = c .before .before .before .before .before .before .before .before in
-    answers-load (start .args .g) (start .args .body .now) (start .args .cells) (start .args .amounts) _ _ _ _ _
-    (length-take-le (start .args .cells) (air-space .result) (omega (arith, air-space .ensures, start .pre .fewCells)))
-    (length-take-le (start .args .amounts) (tracer-space .result) (omega (arith, tracer-space .ensures, start .pre .fewAmounts)))
-    (c .before .before .make-load .ensures)
+    let start : tie.Start = search in
+    let airs = (let p : tie.After-air-space = search in p .air-space) in
+    let amounts = (let p : tie.After-tracer-space = search in p .tracer-space) in
+    let made = (let p : tie.After-make-load = search in p .make-load) in
+    answers-load (length-take-le (start .args .cells) (airs .result) (omega (arith, airs .ensures, start .pre .fewCells))) (length-take-le (start .args .amounts) (amounts .result) (omega (arith, amounts .ensures, start .pre .fewAmounts))) (made .ensures)
 
 pub answer-to-load-spec : {M : Type 1} → statement M
 answer-to-load-spec =

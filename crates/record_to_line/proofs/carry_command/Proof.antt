@@ -73,13 +73,21 @@ enum-told : tie.Need-enum-told
 enum-told c = search needs
 
 take-load-requires : tie.Need-take-load-requires
-take-load-requires c κs = let start = c .before .before .before .before .before .before .before in take-need (start .args .g) (start .args .c) (start .args .body .now) (start .args .air .now) (start .args .tracers .now) (start .pre) Load (c .before .before .enum-told .given .1) (λ e. let z : _≡_ {A = ℕ} 0 1 = cc in omega arith)
+take-load-requires c κs =
+    let start : tie.Start = search in
+    let told = (let p : tie.After-enum-told = search in p .enum-told) in
+    take-need (start .pre) (told .given .1) (λ e. let z : _≡_ {A = ℕ} 0 1 = cc in omega arith)
 
 take-call-requires : tie.Need-take-call-requires
-take-call-requires c κs = let start = c .before .before .before .before .before .before in take-need (start .args .g) (start .args .c) (start .args .body .now) (start .args .air .now) (start .args .tracers .now) (start .pre) (start .args .c) refl (is-call (start .args .c) (c .before .before .match .keys3) .noGrid)
+take-call-requires c κs =
+    let start : tie.Start = search in
+    let arm = (let p : tie.At-match-keys3 = search in p .match) in
+    take-need (start .pre) refl (is-call (start .args .c) (arm .keys3) .noGrid)
 
 returns : tie.Need-returns
-returns c = let start = c .before .before .before .before .before .before .before in carries-grid (start .args .g) (start .args .kind) (start .args .c) (start .args .body .now) _ _ _ _ _ _ (c .before .before .c .given .1) (c .take-grid .ensures) refl refl
+returns c =
+    let told = (let p : tie.After-c = search in p .c) in
+    carries-grid (told .given .1) (c .take-grid .ensures)
 
 same-length : tie.Need-same-length
 same-length c = search needs
@@ -89,9 +97,9 @@ same-length-2 c = search needs
 
 returns-2 : tie.Need-returns-2
 returns-2 c =
-    let enum-told-here = c .before .before .before .before .before .before .before .enum-told in
-    let take-load = c .before .before .before .before .take-load in
-    let start = c .before .before .before .before .before .before .before .before .before .before .before .before in carries-load (start .args .g) (start .args .kind) (start .args .c) (start .args .body .now) _ _ _ _ _ (enum-told-here .given .1) (take-load .ensures)
+    let told = (let p : tie.After-enum-told = search in p .enum-told) in
+    let taken = (let p : tie.After-take-load = search in p .take-load) in
+    carries-load (told .given .1) (taken .ensures)
 
 same-length-3 : tie.Need-same-length-3
 same-length-3 c = search needs
@@ -101,8 +109,10 @@ same-length-4 c = search needs
 
 returns-3 : tie.Need-returns-3
 returns-3 c =
-    let take-call = c .before .before .before .before .take-call in
-    let start = c .before .before .before .before .before .before .before .before .before .before .before in carries-call (start .args .g) (start .args .kind) (start .args .c) (start .args .body .now) _ _ _ _ _ (is-call (start .args .c) (c .before .before .before .before .before .before .before .match .keys3)) (take-call .ensures)
+    let start : tie.Start = search in
+    let arm = (let p : tie.At-match-keys3 = search in p .match) in
+    let taken = (let p : tie.After-take-call = search in p .take-call) in
+    carries-call (is-call (start .args .c) (arm .keys3)) (taken .ensures)
 
 pub carry-command-spec : {M : Type 1} → statement M
 carry-command-spec =

@@ -1,12 +1,15 @@
--- `record_to_line::carry_out` meets its contract: by the reader's answer: nothing, a fault's line, or its command.
+-- `record_to_line::carry_out` meets its contract: what the reader finds, and what comes of it.
 use native.Mathlib.Omega.{arith}
+use Rattle.stages.specs.Buffers.{buffers}
 use Rattle.record_to_line.specs.Carry.{carries-nothing, carries-none, carries-fault, carry-need, carries-record}
 use borrow.Author.Needs.{needs}
 use Rattle.record_to_line.proofs.carry_out.Statement.{statement}
 use Rattle.record_to_line.proofs.carry_out.Tie as tie
 
 returns : tie.Need-returns
-returns c = let start = c .before .before in carries-nothing (start .args .stage) (start .args .input .now) (start .args .air .now) (start .args .tracers .now) (c .if1 .taken)
+returns c =
+    let start : tie.Start = search in
+    carries-nothing (start .args .stage) (start .args .input .now) (buffers _ _) (c .if1 .taken)
 
 shared-slice-read-kind : tie.Need-shared-slice-read-kind
 shared-slice-read-kind c = search needs
@@ -46,27 +49,34 @@ part-carry-command-end c = search needs
 
 carry-command-requires : tie.Need-carry-command-requires
 carry-command-requires c κs =
-    let start = c .before .before .before .before .before .before .before .before .before .before .before .before in
-    let read = c .before .before .before .before .before .before .before in
-    carry-need (start .args .stage) (read .before .settled .result) (read .before .settled .ensures) (start .args .input .now) (read .read .result) (read .read .ensures) (start .args .air .now) (start .args .tracers .now) (search needs) (c .before .before .before .grid-of .result) (c .before .before .before .grid-of .ensures) _ (c .before .before .before .before .before .found2 .given .1) (search needs) (search needs)
+    let sound = (let p : tie.After-settled = search in p .settled) in
+    let reading = (let p : tie.After-read = search in p .read) in
+    let grid = (let p : tie.After-grid-of = search in p .grid-of) in
+    let told = (let p : tie.After-found2 = search in p .found2) in
+    carry-need (sound .ensures) (reading .ensures) (buffers _ _) (search needs) (grid .result) (grid .ensures) (told .given .1)
+    (record { air = search needs; tracers = search needs })
 
 returns-2 : tie.Need-returns-2
 returns-2 c =
-    let start = c .before .before .before .before .before .before .before in
-    let read = c .before .before in
-    carries-none (start .args .stage) (read .before .settled .result) (read .before .settled .ensures) (start .args .input .now) (read .read .result) (read .read .ensures) (start .args .air .now) (start .args .tracers .now) (c .enum-told .given .1)
+    let sound = (let p : tie.After-settled = search in p .settled) in
+    let reading = (let p : tie.After-read = search in p .read) in
+    carries-none (sound .ensures) (reading .ensures) (buffers _ _) (c .enum-told .given .1)
 
 returns-3 : tie.Need-returns-3
 returns-3 c =
-    let start = c .before .before .before .before .before .before .before .before .before in
-    let read = c .before .before .before .before in
-    carries-fault (start .args .stage) (read .before .settled .result) (read .before .settled .ensures) (start .args .input .now) (read .read .result) (read .read .ensures) (start .args .air .now) (start .args .tracers .now) _ _ (c .before .before .found .given .1) (c .fault-number .ensures)
+    let sound = (let p : tie.After-settled = search in p .settled) in
+    let reading = (let p : tie.After-read = search in p .read) in
+    let told = (let p : tie.After-found = search in p .found) in
+    carries-fault (sound .ensures) (reading .ensures) (buffers _ _) (told .given .1) (c .fault-number .ensures)
 
 returns-4 : tie.Need-returns-4
 returns-4 c =
-    let start = c .before .before .before .before .before .before .before .before .before .before .before .before .before in
-    let read = c .before .before .before .before .before .before .before .before in
-    carries-record (start .args .stage) (read .before .settled .result) (read .before .settled .ensures) (start .args .input .now) (read .read .result) (read .read .ensures) (start .args .air .now) (start .args .tracers .now) (search needs) (c .before .before .before .before .grid-of .result) (c .before .before .before .before .grid-of .ensures) _ (c .before .before .before .before .before .before .found2 .given .1) _ _ _ (c .carry-command .ensures)
+    let sound = (let p : tie.After-settled = search in p .settled) in
+    let reading = (let p : tie.After-read = search in p .read) in
+    let grid = (let p : tie.After-grid-of = search in p .grid-of) in
+    let told = (let p : tie.After-found2 = search in p .found2) in
+    carries-record (sound .ensures) (reading .ensures) (buffers _ _) (search needs) (grid .result) (grid .ensures) (told .given .1)
+    (c .carry-command .ensures)
 
 pub carry-out-spec : {M : Type 1} → statement M
 carry-out-spec =
