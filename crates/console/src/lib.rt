@@ -1,23 +1,28 @@
 // The runner's loop over standard input and standard output. What a record is, what comes of it and its line's text
 // are proved in the crates below; here it is read and written.
 ghost use mathlib.Core.Path.{_≡_};
+ghost use Prim.Native.Nat.{_+_};
 ghost use lib.ListN.{length};
-use carry::Outcome;
-use carry::air_space;
-use carry::carry_out;
-use carry::tracer_space;
+ghost use Rattle.stages.specs.Limits.{programBody};
 use libc::STDIN_FILENO;
 use libc::STDOUT_FILENO;
 use lines::Line;
 use lines::line_text;
-use records::Stage;
+use record_to_line::Outcome;
+use record_to_line::air_space;
+use record_to_line::carry_out;
+use record_to_line::tracer_space;
 use records::body_bytes;
+use stages::PROGRAM_AMOUNTS;
+use stages::PROGRAM_BODY;
+use stages::Stage;
+use units::PROGRAM_CELLS;
 
-// Room for the longest record, a kind and the load of 2,048 cells with two tracers.
-fn record_space() -> [u8; 24577]
-    ensures { λ r. ⌜ length r ≡ 24577 ⌝ }
+// Room for the longest record, a kind and its body.
+fn record_space() -> [u8; PROGRAM_BODY + 1]
+    ensures { λ r. ⌜ length r ≡ programBody + 1 ⌝ }
 {
-    [0; 24577]
+    [0; PROGRAM_BODY + 1]
 }
 
 // Prints a line, and answers whether all of it was written.
@@ -34,8 +39,13 @@ enum After {
 }
 
 // One byte, then the bytes that it needs or what is left of them, then the record carried out, then its line.
-fn turn(stage: Stage, bytes: &mut [u8], air: &mut [u32; 2048], tracers: &mut [u32; 4096]) -> After
-    requires { ⌜ length (now bytes) ≡ 24577 ⌝ }
+fn turn(
+    stage: Stage,
+    bytes: &mut [u8],
+    air: &mut [u32; PROGRAM_CELLS],
+    tracers: &mut [u32; PROGRAM_AMOUNTS],
+) -> After
+    requires { ⌜ length (now bytes) ≡ programBody + 1 ⌝ }
 {
     let first = io::read_full(STDIN_FILENO, &mut bytes[..1]);
     if first == 0 {

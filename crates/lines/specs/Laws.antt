@@ -1,5 +1,4 @@
 -- Laws of a number's decimal digits, the last one apart, and of how many there are; of bytes put before a place of a list; and of a line's text.
--- Assumes nothing.
 use Prim.Native.Nat.{ℕ, zero, suc, _+_, _-_, _*_, _/_, _%_, _^_, _≤_, _<_}
 use mathlib.Core.List.{List, [], _∷_, _++_, append-assoc}
 use mathlib.Core.Logic.{⊎-elim}

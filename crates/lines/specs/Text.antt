@@ -1,5 +1,4 @@
 -- What the functions of this crate write: some bytes before others, and a line's text at the end of an array.
--- Assumes nothing.
 use Prim.Native.Nat.{ℕ, _+_, _≤_}
 use mathlib.Core.List.{List, _++_}
 use mathlib.Core.Path.{_≡_}

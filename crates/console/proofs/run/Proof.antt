@@ -1,13 +1,14 @@
 -- `console::run` meets its contract: the turns fall.
--- Assumes nothing.
+use Prim.Native.Nat.{_+_}
 use mathlib.Core.Path.{_≡_}
 use lib.ListN.{length}
+use Rattle.stages.specs.Limits.{programBody}
 use borrow.Author.Needs.{needs}
 use Rattle.console.proofs.run.Statement.{statement}
 use Rattle.console.proofs.run.Tie as tie
 
 abbrev Inv-loop : tie.InvT-loop
-Inv-loop bytes₀ air₀ tracers₀ stage₀ turns₀ bytes air tracers stage turns = length bytes ≡ 24577
+Inv-loop bytes₀ air₀ tracers₀ stage₀ turns₀ bytes air tracers stage turns = length bytes ≡ programBody + 1
 
 abbrev μ-loop : tie.MeasureT-loop
 μ-loop bytes₀ air₀ tracers₀ stage₀ turns₀ bytes air tracers stage turns = turns

@@ -1,5 +1,4 @@
--- `console::turn` meets its contract: the body read fits the room, since no body is longer than 24,576 bytes.
--- Assumes nothing.
+-- `console::turn` meets its contract: the body read fits the room, since no body is longer than `programBody`.
 use mathlib.Core.Path.{sym}
 use native.Mathlib.Omega.{arith}
 use lib.Seq.{length-take-le}

@@ -1,5 +1,4 @@
 -- `lines::line_text` meets its contract: each part stands before the next one, and nothing after the line's end.
--- Assumes nothing.
 use mathlib.Core.List.{[]}
 use mathlib.Core.Path.{_≡_, _∙_}
 use native.Mathlib.Omega.{arith}

@@ -1,5 +1,4 @@
 -- `lines::put_byte` meets its contract: the byte stands before what stood at `end`.
--- Assumes nothing.
 use borrow.Author.Needs.{needs}
 use Rattle.lines.specs.Laws.{put-byte}
 use Rattle.lines.proofs.put_byte.Statement.{statement}

@@ -1,5 +1,4 @@
 -- `lines::put_decimal` meets its contract. The loop's invariant: the digits of `rest`, put before what stands at `at`, give those of `n` before what stood at `end`.
--- Assumes nothing.
 use Prim.Native.Nat.{_≤_, _<_, _+_}
 use mathlib.Core.List.{_++_}
 use mathlib.Core.Path.{_≡_, _∙_, ap}

@@ -1,9 +1,9 @@
 -- `records::body_bytes` meets its contract: in place and its length, or none.
--- Assumes nothing.
 use mathlib.Core.Path.{sym, _∙_}
 use Rattle.units.specs.Grid.{gridOf}
-use Rattle.records.specs.Stage.{kindIs}
-use Rattle.records.specs.Laws.{stage-small, needs-none, needs-body}
+use Rattle.kinds.specs.Kind.{kindIs}
+use Rattle.stages.specs.Laws.{stage-small}
+use Rattle.records.specs.Laws.{needs-none, needs-body}
 use borrow.Author.Needs.{needs}
 use Rattle.records.proofs.body_bytes.Statement.{statement}
 use Rattle.records.proofs.body_bytes.Tie as tie

@@ -1,11 +1,10 @@
 -- `records::read` meets its contract: the tests in their order, and the body after the kind byte handed to the parser.
--- Assumes nothing.
 use mathlib.Core.Path.{sym, _∙_}
 use native.Mathlib.Omega.{arith}
 use Rattle.units.specs.Grid.{gridOf}
-use Rattle.records.specs.Stage.{kindIs}
-use Rattle.records.specs.Laws.{stage-small, parse-need, finds-nothing, finds-misplaced, finds-short, finds-record}
-use Rattle.units.specs.The.{the}
+use Rattle.kinds.specs.Kind.{kindIs}
+use Rattle.stages.specs.Laws.{stage-small}
+use Rattle.records.specs.Laws.{parse-need, finds-nothing, finds-misplaced, finds-short, finds-record}
 use borrow.Author.Needs.{needs}
 use Rattle.records.proofs.read.Statement.{statement}
 use Rattle.records.proofs.read.Tie as tie
@@ -29,8 +28,8 @@ in-place-requires c κs = search needs
 
 returns-2 : tie.Need-returns-2
 returns-2 c =
-    let start : tie.Start = search in
     let tests = c .before in
+    let start = tests .before .before .before .before .before .before in
     finds-misplaced (start .args .stage) (tests .before .settled .result) (start .args .input .now) (kindIs (tests .before .before .kind-of .result)) (tests .before .settled .ensures) (tests .before .before .kind-of .ensures) (search needs) (sym (tests .in-place .ensures) ∙ c .if2 .left)
 
 grid-of-requires : tie.Need-grid-of-requires
@@ -46,11 +45,9 @@ sub-if3 c = search needs
 
 returns-3 : tie.Need-returns-3
 returns-3 c =
-    let start : tie.Start = search in
-    let kind = the tie.After-kind-of (search) .kind-of in
-    let settled = the tie.After-settled (search) .settled in
-    let placing = the tie.After-in-place (search) .in-place .ensures in
-    finds-short (start .args .stage) (settled .result) (start .args .input .now) (kindIs (kind .result)) (settled .ensures) (kind .ensures) (search needs) (gridOf (c .before .before .grid-of .result)) (c .before .before .grid-of .ensures) (sym placing ∙ c .before .before .before .if2 .taken) (omega (arith, c .before .body-length .ensures .0, c .if3 .left))
+    let tests = c .before .before .before .before in
+    let start = tests .before .before .before .before .before .before in
+    finds-short (start .args .stage) (tests .before .settled .result) (start .args .input .now) (kindIs (tests .before .before .kind-of .result)) (tests .before .settled .ensures) (tests .before .before .kind-of .ensures) (search needs) (gridOf (c .before .before .grid-of .result)) (c .before .before .grid-of .ensures) (sym (tests .in-place .ensures) ∙ c .before .before .before .if2 .taken) (omega (arith, c .before .body-length .ensures .0, c .if3 .left))
 
 sub-parse : tie.Need-sub-parse
 sub-parse c = search needs
@@ -63,21 +60,15 @@ part-parse-end c = search needs
 
 parse-requires : tie.Need-parse-requires
 parse-requires c κs =
-    let start : tie.Start = search in
-    let kind = the tie.After-kind-of (search) .kind-of .result in
-    let placing = the tie.After-in-place (search) .in-place .ensures in
-    let in-place = the tie.Then2 (search) .if2 .taken in
-    parse-need (kindIs kind) (start .args .input .now) _ (gridOf (c .before .before .before .grid-of .result)) (sym placing ∙ in-place) (omega (arith, c .before .before .body-length .ensures .0, c .before .if3 .taken))
+    let tests = c .before .before .before .before .before in
+    let start = tests .before .before .before .before .before .before in
+    parse-need (kindIs (tests .before .before .kind-of .result)) (start .args .input .now) _ (gridOf (c .before .before .before .grid-of .result)) (sym (tests .in-place .ensures) ∙ c .before .before .before .before .if2 .taken) (omega (arith, c .before .before .body-length .ensures .0, c .before .if3 .taken))
 
 returns-4 : tie.Need-returns-4
 returns-4 c =
-    let start : tie.Start = search in
-    let kind = the tie.After-kind-of (search) .kind-of in
-    let settled = the tie.After-settled (search) .settled in
-    let placing = the tie.After-in-place (search) .in-place .ensures in
-    let in-place = the tie.Then2 (search) .if2 .taken in
-    let grid = the tie.After-grid-of (search) .grid-of in
-    finds-record (start .args .stage) (settled .result) (start .args .input .now) (kindIs (kind .result)) (settled .ensures) (kind .ensures) (search needs) (gridOf (grid .result)) (grid .ensures) (sym placing ∙ in-place) (omega (arith, c .before .before .before .body-length .ensures .0, c .before .before .if3 .taken)) (c .parse .result) (c .parse .ensures)
+    let tests = c .before .before .before .before .before .before in
+    let start = tests .before .before .before .before .before .before in
+    finds-record (start .args .stage) (tests .before .settled .result) (start .args .input .now) (kindIs (tests .before .before .kind-of .result)) (tests .before .settled .ensures) (tests .before .before .kind-of .ensures) (search needs) (gridOf (c .before .before .before .before .grid-of .result)) (c .before .before .before .before .grid-of .ensures) (sym (tests .in-place .ensures) ∙ c .before .before .before .before .before .if2 .taken) (omega (arith, c .before .before .before .body-length .ensures .0, c .before .before .if3 .taken)) (c .parse .result) (c .parse .ensures)
 
 pub read-spec : {M : Type 1} → statement M
 read-spec =

@@ -1,0 +1,41 @@
+-- What the functions that make a command's call need and promise.
+use Prim.Native.Nat.{ℕ, _+_, _*_, _≤_}
+use mathlib.Core.List.{List}
+use mathlib.Core.Path.{_≡_}
+use lib.ListN.{length}
+use Rattle.model.specs.World as model
+use Rattle.model.specs.Step.{Call, load}
+use Rattle.units.specs.declared.Grid as declared
+use Rattle.units.specs.declared.Answer.{Answer}
+use Rattle.units.specs.Answer.{Agrees}
+use Rattle.units.specs.Grid.{gridOf}
+use Rattle.program.specs.Bytes.{numbersAt}
+use Rattle.program.specs.Records as program
+use Rattle.commands.specs.declared.Command.{Command}
+use Rattle.stages.specs.Buffers.{Buffers, worldIn}
+use Rattle.stages.specs.Stage.{SmallGrid}
+use Rattle.commands.specs.Command.{commandIs, kindOfCommand}
+
+-- a command with its whole body, in a grid that the program takes
+pub record MakeNeed (g : declared.Grid) (c : Command) (body : List ℕ) : Type 0 where
+  pub small : SmallGrid g
+  pub layers : 1 ≤ g .k
+  pub whole : program.bodyLength (gridOf g) (kindOfCommand c) ≤ length body
+
+-- what `step` gives of the call that the command asks for, in the world of the buffers before
+pub record Makes (g : declared.Grid) (c : Command) (body : List ℕ) (answer : Answer) (before left : Buffers) : Type 0 where
+  pub made : (call : Call) → commandIs (gridOf g) body c ≡ program.make call → Agrees (worldIn g before) call answer (worldIn g left)
+
+-- the world that a load's body holds
+abbrev pub bodyWorld : model.Grid → List ℕ → ℕ → ℕ → model.World
+bodyWorld g body cells amounts =
+    record { grid = g; air = numbersAt body 0 cells; tracers = numbersAt body (4 * cells) amounts }
+
+-- a load's body holds the numbers of all buffers
+pub record LoadNeed (body : List ℕ) (b : Buffers) : Type 0 where
+  pub whole : 4 * length (b .air) + 4 * length (b .tracers) ≤ length body
+
+-- the buffers are left with the body's numbers, and are tested
+pub record MakesLoad (g : declared.Grid) (body : List ℕ) (before : Buffers) (answer : Answer) (left : Buffers) : Type 0 where
+  pub is : worldIn g left ≡ bodyWorld (gridOf g) body (length (before .air)) (length (before .tracers))
+  pub agrees : Agrees (worldIn g left) load answer (worldIn g left)

@@ -1,0 +1,87 @@
+-- `record_to_line::take_call` meets its contract: the call made in the world at the start of the buffers.
+use mathlib.Core.Path.{sym, _∙_}
+use Rattle.stages.specs.Buffers.{buffers}
+use Rattle.record_to_line.specs.Laws.{small, make-need, amounts-few, tracers-room, parts-sized}
+use Rattle.record_to_line.specs.Leaves.{call-leaves}
+use borrow.Author.Needs.{needs}
+use Rattle.record_to_line.proofs.take_call.Statement.{statement}
+use Rattle.record_to_line.proofs.take_call.Tie as tie
+
+cells-of-requires : tie.Need-cells-of-requires
+cells-of-requires c κs =
+    let start : tie.Start = search in
+    small (start .pre)
+
+cast-amounts : tie.Need-cast-amounts
+cast-amounts c = search needs
+
+mul-amounts : tie.Need-mul-amounts
+mul-amounts c =
+    let start : tie.Start = search in
+    let cells = (let p : tie.After-cells-of = search in p .cells-of) in
+    let few = amounts-few (start .pre) (cells .ensures .1) in
+    search needs
+
+slice-relend-prefix-make : tie.Need-slice-relend-prefix-make
+slice-relend-prefix-make c = search needs
+
+slice-aggregate-make : tie.Need-slice-aggregate-make
+slice-aggregate-make c =
+    let start : tie.Start = search in
+    let cells = (let p : tie.After-cells-of = search in p .cells-of) in
+    sym (parts-sized (start .pre) (cells .ensures .1) .air)
+
+slice-relend-prefix-make-2 : tie.Need-slice-relend-prefix-make-2
+slice-relend-prefix-make-2 c =
+    let start : tie.Start = search in
+    let cells = (let p : tie.After-cells-of = search in p .cells-of) in
+    tracers-room (start .pre) (cells .ensures .1)
+
+slice-aggregate-make-2 : tie.Need-slice-aggregate-make-2
+slice-aggregate-make-2 c =
+    let start : tie.Start = search in
+    let cells = (let p : tie.After-cells-of = search in p .cells-of) in
+    sym (parts-sized (start .pre) (cells .ensures .1) .tracers)
+
+make-requires : tie.Need-make-requires
+make-requires c κs =
+    let start : tie.Start = search in
+    make-need (start .pre)
+
+line-of-requires : tie.Need-line-of-requires
+line-of-requires c κs = search needs
+
+same-length : tie.Need-same-length
+same-length c = search needs
+
+same-length-2 : tie.Need-same-length-2
+same-length-2 c = search needs
+
+returns : tie.Need-returns
+returns c =
+    let start : tie.Start = search in
+    let cells = (let p : tie.After-cells-of = search in p .cells-of) in
+    let made = (let p : tie.After-make = search in p .make) in
+    let parts = parts-sized (start .pre) (cells .ensures .1) in
+    let kept = made .kept .1 .1 .1 in
+    λ call asked.
+    call-leaves (cells .ensures .0) (buffers _ _) (buffers _ _)
+    (record { air = kept .0 ∙ parts .air; tracers = kept .1 .0 ∙ parts .tracers }) (start .pre .taken) (start .args .kind) call (made .result) _
+    (c .line-of .ensures) (made .ensures .made call asked)
+
+pub take-call-spec : {M : Type 1} → statement M
+take-call-spec =
+    tie.close
+    (tie.spec
+    cells-of-requires
+    cast-amounts
+    mul-amounts
+    slice-relend-prefix-make
+    slice-aggregate-make
+    slice-relend-prefix-make-2
+    slice-aggregate-make-2
+    make-requires
+    line-of-requires
+    same-length
+    same-length-2
+    returns)

@@ -1,0 +1,128 @@
+-- `record_to_line::take_load` meets its contract: a refused load leaves the buffers, an accepted one is decoded into them.
+use Prim.Native.Nat.{_*_}
+use mathlib.Core.Path.{sym, _∙_, ap₂}
+use native.Mathlib.Omega.{arith}
+use Rattle.units.specs.Grid.{gridOf}
+use Rattle.stages.specs.Buffers.{buffers}
+use Rattle.command_to_answer.specs.Makes.{bodyWorld}
+use Rattle.command_to_answer.specs.Room.{take-short}
+use Rattle.record_to_line.specs.Laws.{small, amounts-few, tracers-room, parts-sized, load-whole}
+use Rattle.record_to_line.specs.Leaves.{load-leaves, load-refused}
+use borrow.Author.Needs.{needs}
+use Rattle.record_to_line.proofs.take_load.Statement.{statement}
+use Rattle.record_to_line.proofs.take_load.Tie as tie
+
+cells-of-requires : tie.Need-cells-of-requires
+cells-of-requires c κs =
+    let start : tie.Start = search in
+    small (start .pre)
+
+cast-amounts : tie.Need-cast-amounts
+cast-amounts c = search needs
+
+mul-amounts : tie.Need-mul-amounts
+mul-amounts c =
+    let start : tie.Start = search in
+    let cells = (let p : tie.After-cells-of = search in p .cells-of) in
+    let few = amounts-few (start .pre) (cells .ensures .1) in
+    search needs
+
+answer-to-load-requires : tie.Need-answer-to-load-requires
+answer-to-load-requires c κs =
+    let start : tie.Start = search in
+    let cells = (let p : tie.After-cells-of = search in p .cells-of) in
+    record {
+      fewCells = cells .ensures .1;
+      fewAmounts = amounts-few (start .pre) (cells .ensures .1);
+      whole = load-whole (start .args .g) _ (start .args .body .now) (cells .ensures .0) (start .pre .whole);
+    }
+
+line-of-requires : tie.Need-line-of-requires
+line-of-requires c κs = search needs
+
+number-requires : tie.Need-number-requires
+number-requires c κs = search needs
+
+returns : tie.Need-returns
+returns c =
+    let start : tie.Start = search in
+    let cells = (let p : tie.After-cells-of = search in p .cells-of) in
+    let answer = (let p : tie.After-answer-to-load = search in p .answer-to-load) in
+    let line = (let p : tie.After-line-of = search in p .line-of) in
+    let number = (let p : tie.After-number = search in p .number) in
+    λ s.
+    load-refused (start .args .g) (cells .ensures .0) (start .args .kind) (start .args .body .now) (answer .result) _ s (line .ensures) (answer .ensures)
+    (buffers _ _) (start .pre .taken) (λ e. omega (arith, e, number .ensures, c .if1 .left))
+
+slice-relend-prefix-make-load : tie.Need-slice-relend-prefix-make-load
+slice-relend-prefix-make-load c = search needs
+
+slice-aggregate-make-load : tie.Need-slice-aggregate-make-load
+slice-aggregate-make-load c =
+    let start : tie.Start = search in
+    let cells = (let p : tie.After-cells-of = search in p .cells-of) in
+    sym (parts-sized (start .pre) (cells .ensures .1) .air)
+
+slice-relend-prefix-make-load-2 : tie.Need-slice-relend-prefix-make-load-2
+slice-relend-prefix-make-load-2 c =
+    let start : tie.Start = search in
+    let cells = (let p : tie.After-cells-of = search in p .cells-of) in
+    tracers-room (start .pre) (cells .ensures .1)
+
+slice-aggregate-make-load-2 : tie.Need-slice-aggregate-make-load-2
+slice-aggregate-make-load-2 c =
+    let start : tie.Start = search in
+    let cells = (let p : tie.After-cells-of = search in p .cells-of) in
+    sym (parts-sized (start .pre) (cells .ensures .1) .tracers)
+
+make-load-requires : tie.Need-make-load-requires
+make-load-requires c κs =
+    let start : tie.Start = search in
+    let cells = (let p : tie.After-cells-of = search in p .cells-of) in
+    let airs = take-short (cells .result) (start .args .air .now) in
+    let amounts = take-short (start .args .g .n * cells .result) (start .args .tracers .now) in
+    let whole = load-whole (start .args .g) _ (start .args .body .now) (cells .ensures .0) (start .pre .whole) in
+    record { whole = omega arith }
+
+same-length : tie.Need-same-length
+same-length c = search needs
+
+same-length-2 : tie.Need-same-length-2
+same-length-2 c = search needs
+
+returns-2 : tie.Need-returns-2
+returns-2 c =
+    let start : tie.Start = search in
+    let cells = (let p : tie.After-cells-of = search in p .cells-of) in
+    let answer = (let p : tie.After-answer-to-load = search in p .answer-to-load) in
+    let line = (let p : tie.After-line-of = search in p .line-of) in
+    let number = (let p : tie.After-number = search in p .number) in
+    let accepted = (let p : tie.Then1 = search in p .if1) in
+    let made = (let p : tie.After-make-load = search in p .make-load) in
+    let parts = parts-sized (start .pre) (cells .ensures .1) in
+    let kept = made .kept .1 .1 in
+    let is = made .ensures .is ∙ ap₂ (bodyWorld (gridOf (start .args .g)) (start .args .body .now)) (parts .air) (parts .tracers) in
+    λ s.
+    load-leaves (cells .ensures .0) (buffers _ _) (buffers _ _)
+    (record { air = kept .0 ∙ parts .air; tracers = kept .1 .0 ∙ parts .tracers }) (start .pre .taken) (start .args .kind) (start .args .body .now) (answer .result) _ s
+    (line .ensures) (answer .ensures) (sym (number .ensures) ∙ accepted .taken) is
+
+pub take-load-spec : {M : Type 1} → statement M
+take-load-spec =
+    tie.close
+    (tie.spec
+    cells-of-requires
+    cast-amounts
+    mul-amounts
+    answer-to-load-requires
+    line-of-requires
+    number-requires
+    returns
+    slice-relend-prefix-make-load
+    slice-aggregate-make-load
+    slice-relend-prefix-make-load-2
+    slice-aggregate-make-load-2
+    make-load-requires
+    same-length
+    same-length-2
+    returns-2)

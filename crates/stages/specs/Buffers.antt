@@ -1,0 +1,42 @@
+-- The program's buffers as one value: a list for each, the world at the start of the lists, and the room in them.
+use Prim.Native.Nat.{ℕ, _*_, _≤_}
+use mathlib.Core.List.{List, []}
+use lib.ListN.{length, take}
+use Rattle.model.specs.Limits.{programCells}
+use Rattle.model.specs.Basic.{written}
+use Rattle.model.specs.World as model
+use Rattle.units.specs.declared.Grid as declared
+use Rattle.units.specs.Grid.{worldOf}
+use Rattle.stages.specs.Limits.{programAmounts}
+
+pub record Buffers : Type 0 where
+  pub air : List ℕ
+  pub tracers : List ℕ
+
+abbrev pub buffers : List ℕ → List ℕ → Buffers
+buffers air tracers = record { air = air; tracers = tracers }
+
+abbrev pub empty : Buffers
+empty = buffers [] []
+
+-- the world whose lists are the whole buffers
+abbrev pub worldIn : declared.Grid → Buffers → model.World
+worldIn g b = worldOf g (b .air) (b .tracers)
+
+-- the world that a grid has at the start of the buffers
+abbrev pub held : model.Grid → Buffers → model.World
+held g b =
+    record {
+      grid = g;
+      air = take (model.worldCells g) (b .air);
+      tracers = take (g .N * model.worldCells g) (b .tracers);
+    }
+
+-- the buffers with a world written over their first entries
+abbrev pub over : Buffers → model.World → Buffers
+over b w = buffers (written (b .air) 0 (w .air)) (written (b .tracers) 0 (w .tracers))
+
+-- room for every world that the program takes
+pub record Room (b : Buffers) : Type 0 where
+  pub air : programCells ≤ length (b .air)
+  pub tracers : programAmounts ≤ length (b .tracers)

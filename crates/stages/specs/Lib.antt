@@ -1,0 +1,4 @@
+pub mod Limits
+pub mod Buffers
+pub mod Stage
+pub mod Laws

@@ -1,0 +1,14 @@
+-- The greatest sizes in a grid that the program takes, each once.
+use Prim.Native.Nat.{ℕ}
+
+-- the amounts of all tracers, 2,048 for each of two
+abbrev pub programAmounts : ℕ
+programAmounts = 4096
+
+-- the faces of a layer: 72 columns and a layer of 2,048 cells
+abbrev pub programFaces : ℕ
+programFaces = 2118
+
+-- the bytes of a body, those of a load: 4 for each cell's air and for each amount
+abbrev pub programBody : ℕ
+programBody = 24576
