@@ -51,7 +51,9 @@ pub record WalkNeed (k : ℕ) (air gas q e new : List ℕ) : Type 0 where
 
 -- r has the new layers' tracer, whatever table the edges are of
 pub record IsRemapped (cap : Bool) (k : ℕ) (air gas e r : List ℕ) : Type 0 where
-  pub is : (table : List ℕ) → AreEdges table (airAbove (firsts k air) k) k e → firsts k r ≡ tab k (newTracer table (airAbove (firsts k air) k) (layers mismatch cap k (firsts k air) (firsts k gas)))
+  pub is :
+      (table : List ℕ) → AreEdges table (airAbove (firsts k air) k) k e →
+      firsts k r ≡ tab k (newTracer table (airAbove (firsts k air) k) (layers mismatch cap k (firsts k air) (firsts k gas)))
 
 -- ---- pairs
 -- r counts the pairs of an old and a new layer that share air, whatever table the edges are of

@@ -1,4 +1,5 @@
--- The pairs of an old and a new layer that share air, as the walk counts them: those of the new layers passed, and of this one with the old layers passed.
+-- The pairs of an old and a new layer that share air, as the walk counts them:
+-- those of the new layers passed, and of this one with the old layers passed.
 -- Assumes nothing.
 use Prim.Native.Nat.{ℕ, zero, suc, _+_, _-_, _≤_, _<_, min, max}
 use mathlib.Core.List.{List}
@@ -46,9 +47,12 @@ how-many-none n p none = how-many-past n 0 p (omega arith) (λ t a b. none t b) 
 -- one more, where the test is `x < y`
 how-many-more : (n x y : ℕ) (p : ℕ → Bool) → p n ≡ ltb x y → howMany (n + 1) p ≡ howMany n p + min 1 (y - x)
 unfolding howMany
-how-many-more n x y p is = ap (λ (i : ℕ). howMany i p) (add-one n) ∙ ap (λ (b : Bool). elim b [ true ↦ suc (howMany n p) | false ↦ howMany n p ]) is ∙ go (ltb x y) refl
+how-many-more n x y p is = ap (λ (i : ℕ). howMany i p) (add-one n) ∙ ap with-one is ∙ go (ltb x y) refl
   where
-    go : (b : Bool) → ltb x y ≡ b → elim b [ true ↦ suc (howMany n p) | false ↦ howMany n p ] ≡ howMany n p + min 1 (y - x)
+    with-one : Bool → ℕ
+    with-one b = elim b [ true ↦ suc (howMany n p) | false ↦ howMany n p ]
+
+    go : (b : Bool) → ltb x y ≡ b → with-one b ≡ howMany n p + min 1 (y - x)
     go true e = omega (arith, ltb-true x y e)
     go false e = omega (arith, ltb-false x y e)
 
@@ -66,7 +70,11 @@ sharesAt air e j i = ltb (top air e j i) (end air e j i)
 abbrev pub pairsTo : ℕ → List ℕ → List ℕ → ℕ → ℕ
 pairsTo k air e j = sum j (λ t. howMany k (sharesAt air e t))
 
-pub pairs-start : (k : ℕ) (air : List ℕ) (e : List ℕ) → pairsTo k air e 0 + howMany 0 (sharesAt air e 0) ≡ 0
+-- what the walk has counted, with n old layers compared with new layer j
+abbrev pub countTo : ℕ → List ℕ → List ℕ → ℕ → ℕ → ℕ
+countTo k air e j n = pairsTo k air e j + howMany n (sharesAt air e j)
+
+pub pairs-start : (k : ℕ) (air e : List ℕ) → countTo k air e 0 0 ≡ 0
 pairs-start k air e = ap₂ _+_ (sum-none _) (how-many-zero _)
 
 -- an old layer that ends at or before the upper edge, and one that starts at or past the lower
@@ -89,20 +97,32 @@ module _ {k : ℕ} {air : List ℕ} {e : List ℕ} (spans : Spans k air e) {i j 
     here = go (ltb (at e j) (passed + at air i)) refl
       where
         go : (b : Bool) → ltb (at e j) (passed + at air i) ≡ b → sharesAt air e j i ≡ b
-        go true u = lt-ltb (top air e j i) (end air e j i) (omega (arith, ltb-true (at e j) (passed + at air i) u, next-is spans p, p .is, p .ahead h, rises-next spans j h, spans .least i (p .layer)))
-        go false u = le-ltb (top air e j i) (end air e j i) (omega (arith, ltb-false (at e j) (passed + at air i) u, next-is spans p))
+        go true u =
+            let past : at e j < passed + at air i = ltb-true _ _ u in
+            let some = spans .least i (p .layer) in
+            lt-ltb (top air e j i) (end air e j i) (omega (arith, next-is spans p, p .is, p .ahead h, rises-next spans j h))
+        go false u =
+            let before : passed + at air i ≤ at e j = ltb-false _ _ u in
+            le-ltb (top air e j i) (end air e j i) (omega (arith, next-is spans p))
 
-    pub pairs-more : {count more : ℕ} → count ≡ pairsTo k air e j + howMany i (sharesAt air e j) → more ≡ min 1 (passed + at air i - at e j) → count + more ≡ pairsTo k air e j + howMany (i + 1) (sharesAt air e j)
+    pub pairs-more :
+        {count more : ℕ} → count ≡ countTo k air e j i → more ≡ min 1 (passed + at air i - at e j) →
+        count + more ≡ countTo k air e j (i + 1)
     pairs-more is more = omega (arith, is, more, how-many-more i (at e j) (passed + at air i) (sharesAt air e j) here)
 
     -- past the lower edge there is nothing left to count in new layer j, and nothing yet in the next
-    pub pairs-edge : {count : ℕ} → at e (j + 1) ≤ passed + at air i → count ≡ pairsTo k air e j + howMany (i + 1) (sharesAt air e j) → count ≡ pairsTo k air e (j + 1) + howMany i (sharesAt air e (j + 1))
+    pub pairs-edge :
+        {count : ℕ} → at e (j + 1) ≤ passed + at air i → count ≡ countTo k air e j (i + 1) → count ≡ countTo k air e (j + 1) i
     pairs-edge le is =
-        let rest = how-many-past k (i + 1) (sharesAt air e j) (omega (arith, p .layer)) (λ t a b. starts-past air e j t (omega (arith, sum-fewer (at air) (i + 1) t a, next-is spans p))) in
+        let none : (t : ℕ) → i + 1 ≤ t → t < k → sharesAt air e j t ≡ false =
+        λ t a b. starts-past air e j t (omega (arith, sum-fewer (at air) (i + 1) t a, next-is spans p)) in
+        let rest = how-many-past k (i + 1) (sharesAt air e j) (omega (arith, p .layer)) none in
         omega (arith, is, rest, sum-more j (λ t. howMany k (sharesAt air e t)), none-above (j + 1) (omega (arith, p .ahead h)))
 
   -- the model's count
-  share-is : (table : List ℕ) → AreEdges table (airAbove (firsts k air) k) k e → (x t : ℕ) → x < k → t < k → sharesAt air e x t ≡ shareAir table (firsts k air) (airAbove (firsts k air) k) x t
+  share-is :
+      (table : List ℕ) → AreEdges table (airAbove (firsts k air) k) k e → (x t : ℕ) → x < k → t < k →
+      sharesAt air e x t ≡ shareAir table (firsts k air) (airAbove (firsts k air) k) x t
   unfolding shareAir
   share-is table are x t hx ht =
       λ n.
@@ -112,13 +132,15 @@ module _ {k : ℕ} {air : List ℕ} {e : List ℕ} (spans : Spans k air e) {i j 
       upto : (t : ℕ) → t ≤ k → sum t (at air) ≡ airAbove (firsts k air) t
       upto t q = sum-ext t (at air) (at (firsts k air)) (λ u r. sym (at-tab k (at air) u (omega arith)))
 
-  pub pairs-all : {count : ℕ} → j ≡ k → count ≡ pairsTo k air e j + howMany i (sharesAt air e j) → count ≤ i + j → IsPairs k air e count
+  pub pairs-all : {count : ℕ} → j ≡ k → count ≡ countTo k air e j i → count ≤ i + j → IsPairs k air e count
   unfolding columnCount
   pairs-all done is small =
+      let at-end = ap (at e) done ∙ last-is spans in
+      let none = none-above j (omega (arith, p .is, at-end, sum-fewer (at air) i k (omega (arith, p .layer)))) in
       record {
         is =
             λ table are.
-            is ∙ omega (arith, none-above j (omega (arith, p .is, ap (at e) done, last-is spans, sum-fewer (at air) i k (omega (arith, p .layer))))) ∙
+            is ∙ omega (arith, none) ∙
             ap (pairsTo k air e) done ∙
             sum-ext k _ _ (λ x hx. how-many-ext k _ _ (λ t ht. share-is table are x t hx ht));
         most = omega (arith, p .layer);

@@ -15,8 +15,9 @@ use Rattle.model.specs.Limits.{airLimit, totalLimit}
 use Rattle.model.specs.Basic.{at, sum, tab}
 use Rattle.model.specs.Scheme.{Mismatch, ratio, lowPiece, mismatch}
 use Rattle.model.specs.Remap.{ColumnLayer, airAbove, edge, layers, amountAbove}
-use Rattle.model.specs.Laws.Basic.{le-or-lt, sum-none, sum-more, sum-ext, sum-zero, sum-le, sum-same, sum-split, sum-fewer, sum-tab, steps-rise, tab-ext}
-use Rattle.model.specs.Laws.Scheme.{ratio-safe}
+use Rattle.model.specs.Laws.Basic.{le-or-lt, steps-rise, tab-ext}
+use Rattle.model.specs.Laws.Basic.{sum-none, sum-more, sum-ext, sum-zero, sum-le, sum-same, sum-split, sum-fewer, sum-tab}
+use Rattle.model.specs.Laws.Scheme.{Safe, ratio-safe}
 use Rattle.model.specs.Laws.Above.{layerPiece, airOf, tracerOf, layerPart, amount-is, amount-none, amount-rises, part-is, part-none, parts-whole}
 use Rattle.scheme.specs.Leaves.{mismatchOf, Giver}
 use Rattle.column.specs.Column.{firsts, AreEdges}
@@ -25,13 +26,18 @@ use Rattle.column.specs.Slopes.{layerAt, layers-are, slope-small}
 
 -- ---- G at a point of layer i: the whole layers above it, and the low-end piece of what is left
 module _ (f : ℕ → ColumnLayer) (n : ℕ) (has : (k : ℕ) → k < n → 1 ≤ f k .air) where
-  pub amount-at : (i x : ℕ) → i < n → airOf f i ≤ x → x ≤ airOf f (suc i) → amountAbove (tab n f) x ≡ tracerOf f i + layerPiece (f i) (x - airOf f i)
+  pub amount-at :
+      (i x : ℕ) → i < n → airOf f i ≤ x → x ≤ airOf f (suc i) →
+      amountAbove (tab n f) x ≡ tracerOf f i + layerPiece (f i) (x - airOf f i)
   amount-at i x h low high =
       let part : ℕ → ℕ = λ k. layerPart f k x in
       let r : ℕ = n - (i + 1) in
       let e : n ≡ i + 1 + r = omega arith in
-      let none : sum r (λ t. part (i + 1 + t)) ≡ 0 =
-      sum-ext r _ (λ t. 0) (λ t p. part-none f n has (i + 1 + t) x (omega arith) (le-trans high (sum-fewer (λ k. f k .air) (suc i) (i + 1 + t) (omega arith)))) ∙ sum-zero r in
+      let beyond : (t : ℕ) → t < r → part (i + 1 + t) ≡ 0 =
+      λ t p.
+      let below = sum-fewer (λ k. f k .air) (suc i) (i + 1 + t) (omega arith) in
+      part-none f n has (i + 1 + t) x (omega arith) (le-trans high below) in
+      let none : sum r (λ t. part (i + 1 + t)) ≡ 0 = sum-ext r _ (λ t. 0) beyond ∙ sum-zero r in
       omega (
         arith,
         amount-is f n has x,
@@ -85,14 +91,16 @@ module _ {k : ℕ} {air : List ℕ} {e : List ℕ} (spans : Spans k air e) where
     pub pass-layer : j < k → passed + at air i < at e (j + 1) → Place k air e (i + 1) j (passed + at air i)
     pass-layer h lt =
         record {
-          layer = ⊎-elim (λ (last : k ≤ i + 1). absurd (omega (arith, edge-most (j + 1) (omega arith), next-is, ap (λ (n : ℕ). sum n (at air)) (all last)))) (λ (q : i + 1 < k). q) (le-or-lt k (i + 1));
+          layer = ⊎-elim (λ (last : k ≤ i + 1). absurd (not-last last)) (λ (q : i + 1 < k). q) (le-or-lt k (i + 1));
           edge = p .edge;
           is = next-is;
           ahead = λ _. lt;
         }
       where
-        all : k ≤ i + 1 → k ≡ i + 1
-        all last = omega (arith, p .layer)
+        not-last : k ≤ i + 1 → ⊥
+        not-last last =
+            let all : k ≡ i + 1 = omega (arith, p .layer) in
+            omega (arith, lt, edge-most (j + 1) (omega (arith, h)), next-is, ap (λ (n : ℕ). sum n (at air)) all)
 
     pub pass-edge : j < k → Place k air e i (j + 1) passed
     pass-edge h =
@@ -112,6 +120,10 @@ module _ (cap : Bool) {k : ℕ} {air gas q e new : List ℕ} (need : WalkNeed k 
   small : (i : ℕ) → i < k → slopeAt cap k q i .size ≤ 2 * ratio (at air i) (at gas i)
   small = slope-small cap k air gas q (need .ratios)
 
+  safe : (i : ℕ) → i < k → Safe (slopeAt cap k q i) (at air i) (at gas i)
+  safe i p = ratio-safe (slopeAt cap k q i) (at air i) (at gas i) (small i p)
+
+  -- G at the first edge, and from each to the next
   pub above-none : above cap k air gas q (at e 0) ≡ 0
   above-none =
       ap (amountAbove (tab k (layerAt cap k air gas q))) (need .column .spans .first) ∙
@@ -119,7 +131,8 @@ module _ (cap : Bool) {k : ℕ} {air gas q e new : List ℕ} (need : WalkNeed k 
 
   pub above-rises : (j : ℕ) → j < k → above cap k air gas q (at e j) ≤ above cap k air gas q (at e (j + 1))
   above-rises j h =
-      amount-rises (layerAt cap k air gas q) k (need .column .spans .least) (λ i p. ratio-safe (slopeAt cap k q i) (at air i) (at gas i) (small i p)) (at e j) (at e (j + 1)) (omega (arith, rises-next (need .column .spans) j h))
+      let spans = need .column .spans in
+      amount-rises (layerAt cap k air gas q) k (spans .least) safe (at e j) (at e (j + 1)) (omega (arith, rises-next spans j h))
 
   -- the tracer of i layers, and of one more
   pub gas-fits : (i : ℕ) → i < k → sum i (at gas) + at gas i ≤ totalLimit
@@ -128,7 +141,8 @@ module _ (cap : Bool) {k : ℕ} {air gas q e new : List ℕ} (need : WalkNeed k 
   -- the edge passed lies in layer i
   module _ {i j passed : ℕ} (p : Place k air e i j passed) (h : j < k) (le : at e (j + 1) ≤ passed + at air i) where
     module _ (d : code.Mismatch) (is : mismatchOf d ≡ slopeAt cap k q i) where
-      pub walk-giver : (have : Air) (t : Tracer) (m : Air) → have .0 ≡ at air i → t .0 ≡ at gas i → m .0 ≡ at e (j + 1) - passed → Giver d have t m
+      pub walk-giver :
+          (have : Air) (t : Tracer) (m : Air) → have .0 ≡ at air i → t .0 ≡ at gas i → m .0 ≡ at e (j + 1) - passed → Giver d have t m
       walk-giver have t m isAir isGas isPart =
           record {
             some = rw isAir (need .column .spans .least i (p .layer));
@@ -138,25 +152,39 @@ module _ (cap : Bool) {k : ℕ} {air gas q e new : List ℕ} (need : WalkNeed k 
             small = rw (isAir, isGas) (rw (ap (λ (D : Mismatch). D .size) is) (small i (p .layer)));
           }
 
-    above-is : above cap k air gas q (at e (j + 1)) ≡ sum i (at gas) + lowPiece (slopeAt cap k q i) (at air i) (at gas i) (at e (j + 1) - passed)
+    -- the piece of layer i above the edge
+    abbrev pieceBy : Mismatch → ℕ
+    pieceBy D = lowPiece D (at air i) (at gas i) (at e (j + 1) - passed)
+
+    above-is : above cap k air gas q (at e (j + 1)) ≡ sum i (at gas) + pieceBy (slopeAt cap k q i)
     above-is =
-        rw (p .is)
-        (amount-at (layerAt cap k air gas q) k (need .column .spans .least) i (at e (j + 1)) (p .layer) (omega (arith, p .is, p .ahead h)) (rw (← add-one i) (omega (arith, next-is (need .column .spans) p))))
+        let spans = need .column .spans in
+        let low : sum i (at air) ≤ at e (j + 1) = omega (arith, p .is, p .ahead h) in
+        let high : at e (j + 1) ≤ sum (suc i) (at air) = rw (← add-one i) (omega (arith, next-is spans p)) in
+        rw (p .is) (amount-at (layerAt cap k air gas q) k (spans .least) i (at e (j + 1)) (p .layer) low high)
 
     -- what the code adds up is G at the edge
-    pub next-above : {d : code.Mismatch} {whole piece next : ℕ} → mismatchOf d ≡ slopeAt cap k q i → whole ≡ sum i (at gas) → piece ≡ lowPiece (mismatchOf d) (at air i) (at gas i) (at e (j + 1) - passed) → next ≡ whole + piece → next ≡ above cap k air gas q (at e (j + 1))
-    next-above isSlope isWhole isPiece isNext =
-        isNext ∙ ap₂ _+_ isWhole (isPiece ∙ ap (λ (D : Mismatch). lowPiece D (at air i) (at gas i) (at e (j + 1) - passed)) isSlope) ∙ sym above-is
+    pub next-above :
+        {d : code.Mismatch} {whole piece next : ℕ} → mismatchOf d ≡ slopeAt cap k q i → whole ≡ sum i (at gas) →
+        piece ≡ pieceBy (mismatchOf d) → next ≡ whole + piece → next ≡ above cap k air gas q (at e (j + 1))
+    next-above isSlope isWhole isPiece isNext = isNext ∙ ap₂ _+_ isWhole (isPiece ∙ ap pieceBy isSlope) ∙ sym above-is
 
   -- the amounts between the edges are the model's
-  pub remapped-is : (r : List ℕ) → ((j : ℕ) → j < k → at r j ≡ above cap k air gas q (at e (j + 1)) - above cap k air gas q (at e j)) → IsRemapped cap k air gas e r
+  pub remapped-is :
+      (r : List ℕ) → ((j : ℕ) → j < k → at r j ≡ above cap k air gas q (at e (j + 1)) - above cap k air gas q (at e j)) →
+      IsRemapped cap k air gas e r
   remapped-is r walked =
       record {
         is =
             λ table are.
             tab-ext k (at r) _
-            (λ j h. walked j h ∙ ap₂ _-_ (ap (λ (n : ℕ). above cap k air gas q (at e n)) (add-one j) ∙ at-edge table are (suc j) h) (at-edge table are j (omega arith)));
+            (λ j h.
+            let next = ap (λ (n : ℕ). above cap k air gas q (at e n)) (add-one j) ∙ at-edge table are (suc j) h in
+            walked j h ∙ ap₂ _-_ next (at-edge table are j (omega arith)));
       }
     where
-      at-edge : (table : List ℕ) → AreEdges table (airAbove (firsts k air) k) k e → (j : ℕ) → j ≤ k → above cap k air gas q (at e j) ≡ amountAbove (layers mismatch cap k (firsts k air) (firsts k gas)) (edge table (airAbove (firsts k air) k) j)
+      at-edge :
+          (table : List ℕ) → AreEdges table (airAbove (firsts k air) k) k e → (j : ℕ) → j ≤ k →
+          above cap k air gas q (at e j) ≡
+          amountAbove (layers mismatch cap k (firsts k air) (firsts k gas)) (edge table (airAbove (firsts k air) k) j)
       at-edge table are j h = ap₂ amountAbove (layers-are cap k air gas q (need .ratios)) (are .is j h)

@@ -1,4 +1,5 @@
--- `column::new_tracer` meets its contract. The loop's invariant: where the walk stands, the tracer of the old layers passed, G at the edge passed last, and what the new layers passed have.
+-- `column::new_tracer` meets its contract. The loop's invariant: where the walk stands, the tracer of the old layers passed,
+-- G at the edge passed last, and what the new layers passed have.
 -- The measure is what is left of old and new layers. Assumes nothing.
 use Prim.Native.Nat.{ℕ, _+_, _-_, _<_}
 use mathlib.Core.Path.{_≡_, refl, sym, ap₂, _∙_}
@@ -8,7 +9,8 @@ use Rattle.model.specs.Basic.{at, sum}
 use Rattle.model.specs.Laws.Basic.{sum-none, sum-more}
 use Rattle.model.specs.Laws.Entries.{entries-more}
 use Rattle.column.specs.Walk as walk
-use Rattle.column.specs.Walk.{Place, place-start, pass-layer, pass-edge, next-fits, above-none, above-rises, next-above, gas-fits, walk-giver, remapped-is}
+use Rattle.column.specs.Walk.{Place, place-start, pass-layer, pass-edge, next-fits}
+use Rattle.column.specs.Walk.{above-none, above-rises, next-above, gas-fits, walk-giver, remapped-is}
 use Rattle.units.specs.The.{the}
 use borrow.Author.Needs.{needs}
 use Rattle.column.proofs.new_tracer.Statement.{statement}
@@ -28,7 +30,8 @@ abbrev μ-loop : tie.MeasureT-loop
 loop-holds : tie.Need-loop-holds Inv-loop μ-loop
 loop-holds c =
     let start : tie.Start Inv-loop μ-loop = search in
-    (place-start (start .pre .column .spans), sym (sum-none _), sym (above-none (start .args .cap) (start .pre)), search needs, λ t h. absurd (omega arith))
+    let none = above-none (start .args .cap) (start .pre) in
+    (place-start (start .pre .column .spans), sym (sum-none _), sym none, search needs, λ t h. absurd (omega arith))
 
 mul-m : tie.Need-mul-m Inv-loop μ-loop
 mul-m c = search needs
@@ -45,12 +48,14 @@ shared-slice-read-t c = search needs
 cast-lower : tie.Need-cast-lower Inv-loop μ-loop
 cast-lower c =
     let start : tie.Start Inv-loop μ-loop = search in
-    omega (arith, start .pre .column .spans .most (c .before .before .before .loop .i) (c .before .before .before .loop .inv .0 .layer))
+    let l = the (tie.At-loop Inv-loop μ-loop) (search) .loop in
+    omega (arith, start .pre .column .spans .most (l .i) (l .inv .0 .layer))
 
 add-lower : tie.Need-add-lower Inv-loop μ-loop
 add-lower c =
     let start : tie.Start Inv-loop μ-loop = search in
-    omega (arith, next-fits (start .pre .column .spans) (c .before .before .before .loop .inv .0))
+    let l = the (tie.At-loop Inv-loop μ-loop) (search) .loop in
+    omega (arith, next-fits (start .pre .column .spans) (l .inv .0))
 
 add-edge : tie.Need-add-edge Inv-loop μ-loop
 add-edge c = search needs
@@ -102,7 +107,8 @@ low-piece-requires : tie.Need-low-piece-requires Inv-loop μ-loop
 low-piece-requires c κs =
     let start : tie.Start Inv-loop μ-loop = search in
     let l = the (tie.At-loop Inv-loop μ-loop) (search) .loop in
-    walk-giver (start .args .cap) (start .pre) (l .inv .0) (omega arith) (c .before .if1 .left) _ (c .mismatch-at .ensures) _ _ _ refl refl refl
+    let reached = c .before .if1 .left in
+    walk-giver (start .args .cap) (start .pre) (l .inv .0) (omega arith) reached _ (c .mismatch-at .ensures) _ _ _ refl refl refl
 
 plus-requires-2 : tie.Need-plus-requires-2 Inv-loop μ-loop
 plus-requires-2 c κs =
@@ -110,12 +116,25 @@ plus-requires-2 c κs =
     let l = the (tie.At-loop Inv-loop μ-loop) (search) .loop in
     omega (arith, gas-fits (start .args .cap) (start .pre) (l .i) (l .inv .0 .layer), l .inv .1, c .low-piece .ensures .within)
 
+-- what the code has added up is G at the edge passed
+next-is :
+    (c : tie.After-plus2 Inv-loop μ-loop) →
+    let a = the (tie.Start Inv-loop μ-loop) (search) .args in
+    let l = the (tie.At-loop Inv-loop μ-loop) (search) .loop in
+    c .plus2 .result .0 ≡ walk.above (a .cap) (a .k) (a .air .now) (a .gas .now) (a .q .now) (at (a .e .now) (l .j + 1))
+next-is c =
+    let start : tie.Start Inv-loop μ-loop = search in
+    let l = the (tie.At-loop Inv-loop μ-loop) (search) .loop in
+    let reached = the (tie.Else1 Inv-loop μ-loop) (search) .if1 .left in
+    let slope = the (tie.After-mismatch-at Inv-loop μ-loop) (search) .mismatch-at .ensures in
+    let piece = the (tie.After-low-piece Inv-loop μ-loop) (search) .low-piece .ensures .is in
+    next-above (start .args .cap) (start .pre) (l .inv .0) (omega arith) reached slope (l .inv .1) piece (c .plus2 .ensures)
+
 minus-requires : tie.Need-minus-requires Inv-loop μ-loop
 minus-requires c κs =
     let start : tie.Start Inv-loop μ-loop = search in
     let l = the (tie.At-loop Inv-loop μ-loop) (search) .loop in
-    let next = next-above (start .args .cap) (start .pre) (l .inv .0) (omega arith) (c .before .before .before .if1 .left) (c .before .before .mismatch-at .ensures) (l .inv .1) (c .before .low-piece .ensures .is) (c .plus2 .ensures) in
-    omega (arith, next, l .inv .2, above-rises (start .args .cap) (start .pre) (l .j) (omega arith))
+    omega (arith, next-is c, l .inv .2, above-rises (start .args .cap) (start .pre) (l .j) (omega arith))
 
 mul-new : tie.Need-mul-new Inv-loop μ-loop
 mul-new c = search needs
@@ -133,15 +152,16 @@ loop-again-2 : tie.Need-loop-again-2 Inv-loop μ-loop
 loop-again-2 c =
     let start : tie.Start Inv-loop μ-loop = search in
     let l = the (tie.At-loop Inv-loop μ-loop) (search) .loop in
-    let edge-reached = the (tie.Else1 Inv-loop μ-loop) (search) .if1 .left in
-    let next = next-above (start .args .cap) (start .pre) (l .inv .0) (omega arith) edge-reached (c .before .before .before .mismatch-at .ensures) (l .inv .1) (c .before .before .low-piece .ensures .is) (c .before .plus2 .ensures) in
+    let next = next-is (c .before) in
     let a = start .args in
-    let G : ℕ → ℕ = walk.above (a .cap) (a .k) (a .air .now) (a .gas .now) (a .q .now) in (
+    let e = a .e .now in
+    let G : ℕ → ℕ = walk.above (a .cap) (a .k) (a .air .now) (a .gas .now) (a .q .now) in
+    let is-amount : ℕ → ℕ → Type 0 = λ t x. x ≡ G (at e (t + 1)) - G (at e t) in (
       pass-edge (start .pre .column .spans) (l .inv .0) (omega arith),
       l .inv .1,
       next,
       search needs,
-      entries-more _ (l .new) (l .j) _ (λ t x. x ≡ G (at (a .e .now) (t + 1)) - G (at (a .e .now) t)) (search needs) (l .inv .4) (c .minus .ensures ∙ ap₂ _-_ next (l .inv .2)),
+      entries-more _ (l .new) (l .j) _ is-amount (search needs) (l .inv .4) (c .minus .ensures ∙ ap₂ _-_ next (l .inv .2)),
     )
 
 same-length : tie.Need-same-length Inv-loop μ-loop

@@ -1,18 +1,19 @@
--- `column::pairs` meets its contract. The loop's invariant: where the walk stands, and the pairs counted: those of the new layers passed, and of this one with the old layers passed.
+-- `column::pairs` meets its contract. The loop's invariant: where the walk stands, and the pairs counted:
+-- those of the new layers passed, and of this one with the old layers passed.
 -- The measure is what is left of old and new layers. Assumes nothing.
 use Prim.Native.Nat.{_+_, _-_, _≤_}
 use mathlib.Core.Path.{_≡_, sym}
 use native.Mathlib.Omega.{arith}
-use Rattle.model.specs.Basic.{howMany}
 use Rattle.column.specs.Walk.{Place, place-start, pass-layer, pass-edge, next-fits}
-use Rattle.column.specs.Pairs.{sharesAt, pairsTo, pairs-start, pairs-more, pairs-edge, pairs-all}
+use Rattle.column.specs.Pairs.{countTo, pairs-start, pairs-more, pairs-edge, pairs-all}
 use Rattle.units.specs.The.{the}
 use borrow.Author.Needs.{needs}
 use Rattle.column.proofs.pairs.Statement.{statement}
 use Rattle.column.proofs.pairs.Tie as tie
 
 abbrev Inv-loop : tie.InvT-loop
-Inv-loop air e k count₀ i₀ j₀ above₀ count i j above = Place k air e i j above × (count ≡ pairsTo k air e j + howMany i (sharesAt air e j)) × (count ≤ i + j)
+Inv-loop air e k count₀ i₀ j₀ above₀ count i j above =
+    Place k air e i j above × (count ≡ countTo k air e j i) × (count ≤ i + j)
 
 abbrev μ-loop : tie.MeasureT-loop
 μ-loop air e k count₀ i₀ j₀ above₀ count i j above = (k - i) + (k - j)
@@ -31,12 +32,14 @@ shared-slice-read-lower c = search needs
 cast-lower : tie.Need-cast-lower Inv-loop μ-loop
 cast-lower c =
     let start : tie.Start Inv-loop μ-loop = search in
-    omega (arith, start .pre .most (c .before .before .loop .i) (c .before .before .loop .inv .0 .layer))
+    let l = the (tie.At-loop Inv-loop μ-loop) (search) .loop in
+    omega (arith, start .pre .most (l .i) (l .inv .0 .layer))
 
 add-lower : tie.Need-add-lower Inv-loop μ-loop
 add-lower c =
     let start : tie.Start Inv-loop μ-loop = search in
-    omega (arith, next-fits (start .pre) (c .before .before .loop .inv .0))
+    let l = the (tie.At-loop Inv-loop μ-loop) (search) .loop in
+    omega (arith, next-fits (start .pre) (l .inv .0))
 
 mul-shared : tie.Need-mul-shared Inv-loop μ-loop
 mul-shared c = search needs
@@ -68,10 +71,11 @@ loop-less c = search needs
 loop-again : tie.Need-loop-again Inv-loop μ-loop
 loop-again c =
     let start : tie.Start Inv-loop μ-loop = search in
-    let l = the (tie.At-loop Inv-loop μ-loop) (search) .loop in (
+    let l = the (tie.At-loop Inv-loop μ-loop) (search) .loop in
+    let more = the (tie.After-shared Inv-loop μ-loop) (search) .shared .ensures in (
       pass-layer (start .pre) (l .inv .0) (omega arith) (c .if1 .taken),
-      pairs-more (start .pre) (l .inv .0) (omega arith) (l .inv .1) (c .before .before .shared .ensures),
-      omega (arith, c .before .before .shared .ensures),
+      pairs-more (start .pre) (l .inv .0) (omega arith) (l .inv .1) more,
+      omega (arith, more),
     )
 
 add-j : tie.Need-add-j Inv-loop μ-loop
@@ -83,10 +87,12 @@ loop-less-2 c = search needs
 loop-again-2 : tie.Need-loop-again-2 Inv-loop μ-loop
 loop-again-2 c =
     let start : tie.Start Inv-loop μ-loop = search in
-    let l = the (tie.At-loop Inv-loop μ-loop) (search) .loop in (
+    let l = the (tie.At-loop Inv-loop μ-loop) (search) .loop in
+    let more = the (tie.After-shared Inv-loop μ-loop) (search) .shared .ensures in
+    let counted = pairs-more (start .pre) (l .inv .0) (omega arith) (l .inv .1) more in (
       pass-edge (start .pre) (l .inv .0) (omega arith),
-      pairs-edge (start .pre) (l .inv .0) (omega arith) (c .if1 .left) (pairs-more (start .pre) (l .inv .0) (omega arith) (l .inv .1) (c .before .before .shared .ensures)),
-      omega (arith, c .before .before .shared .ensures),
+      pairs-edge (start .pre) (l .inv .0) (omega arith) (c .if1 .left) counted,
+      omega (arith, more),
     )
 
 returns : tie.Need-returns Inv-loop μ-loop

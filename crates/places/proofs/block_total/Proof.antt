@@ -1,4 +1,5 @@
--- `places::block_total` meets its contract. The loop's invariant: where no amount passed has a bit above the last 20, each half's sum is that of its amounts passed.
+-- `places::block_total` meets its contract. The loop's invariant: where no amount passed has a bit above the last 20,
+-- each half's sum is that of its amounts passed.
 -- Assumes nothing.
 use Prim.Native.Nat.{ℕ, _+_, _-_, _/_, _≤_, _<_}
 use mathlib.Core.Path.{_≡_, refl}
@@ -54,13 +55,14 @@ loop-again c =
     let l = the (tie.At-loop Inv-loop μ-loop) (search) .loop in
     let inside = the (tie.In-loop Inv-loop μ-loop) (search) .loop-test .taken in
     let gas = start .args .gas .now in
-    let half : ℕ = length gas / 2 in (
+    let half : ℕ = length gas / 2 in
+    let few : l .i < 4096 = omega (arith, inside, start .pre) in (
       search needs,
       λ h.
           let below = bits-below (l .all) (at gas (l .i)) (at gas (half + l .i)) h in
           let old = l .inv .1 (below .0) in (
-            rw (c .before .wrapping-add-u32 .ensures) (block-more (l .first) (at gas (l .i)) (l .i) (at gas) (omega (arith, inside, start .pre)) (old .0) refl (below .1)),
-            rw (c .wrapping-add-u322 .ensures) (block-more (l .second) (at gas (half + l .i)) (l .i) (λ k. at gas (half + k)) (omega (arith, inside, start .pre)) (old .1) refl (below .2)),
+            rw (c .before .wrapping-add-u32 .ensures) (block-more (at gas) few (old .0) refl (below .1)),
+            rw (c .wrapping-add-u322 .ensures) (block-more (λ k. at gas (half + k)) few (old .1) refl (below .2)),
           ),
     )
 
@@ -115,7 +117,7 @@ returns-2 c =
     let l = turn .loop in
     let end : l .i ≡ length gas / 2 = omega arith in
     let done = rw end at (l .inv .1 (c .before .before .if1 .taken)) in
-    halves-total gas (length gas / 2) (l .first) (l .second) _ (omega arith) (done .0) (done .1) (c .wide-total2 .ensures)
+    halves-total gas (length gas / 2) (omega arith) (done .0) (done .1) (c .wide-total2 .ensures)
 
 pub block-total-spec : {M : Type 1} → statement M
 block-total-spec =

@@ -5,11 +5,12 @@ use mathlib.Core.Bool.{_&&_}
 use mathlib.Core.Path.{_≡_, sym, _∙_, ap, ap₂}
 use native.Mathlib.Omega.{arith}
 use lib.Dec.{leb}
-use lib.IntN.{pos, natAbs}
-use lib.ListN.{length, getD}
+use lib.IntN.{natAbs}
+use lib.ListN.{length}
 use mir.Syntax.{w32}
-use mir.Val.{toZ, ofZ}
-use borrow.Author.Needs.{needs}
+use mir.Facts.{toZ-ofZ}
+use Rattle.units.specs.The.{the}
+use borrow.Author.Needs.{needs, sfits-of}
 use Rattle.model.specs.Basic.{every}
 use Rattle.model.specs.Sweep.{flux}
 use Rattle.model.specs.Laws.Basic.{every-none, every-more}
@@ -42,11 +43,11 @@ loop-less c = search needs
 
 loop-again : tie.Need-loop-again Inv-loop μ-loop
 loop-again c =
-    let start : tie.Start Inv-loop μ-loop = search in
-    let same : toZ w32 (ofZ w32 (getD (start .args .fluxes .now) (c .before .before .before .loop .i) (pos 0))) ≡ getD (start .args .fluxes .now) (c .before .before .before .loop .i) (pos 0) = search (needs, c .before .f .given) in (
+    let fluxes = the (tie.Start Inv-loop μ-loop) (search) .args .fluxes .now in
+    let l = the (tie.At-loop Inv-loop μ-loop) (search) .loop in
+    let same = toZ-ofZ {w = w32} {z = flux fluxes (l .i)} (sfits-of (c .before .f .given)) in (
       search needs,
-      ap₂ _&&_ (c .before .before .before .loop .inv .1) (rw same at (c .flux-fits .ensures)) ∙
-          sym (every-more (c .before .before .before .loop .i) _),
+      ap₂ _&&_ (l .inv .1) (rw same at (c .flux-fits .ensures)) ∙ sym (every-more (l .i) _),
     )
 
 returns : tie.Need-returns Inv-loop μ-loop

@@ -36,21 +36,27 @@ part-block-total-start c = search needs
 part-block-total-end : tie.Need-part-block-total-end Inv-loop μ-loop
 part-block-total-end c = search needs
 
+-- the block that is lent is as long as it is meant to be
+block-size :
+    (c : tie.After-block-end Inv-loop μ-loop) →
+    let gas = the (tie.Start Inv-loop μ-loop) (search) .args .gas .now in
+    let a = the (tie.At-loop Inv-loop μ-loop) (search) .loop .a in
+    let n = c .block-end .result - a in
+    length (part gas a n) ≡ n
+block-size c =
+    let gas = the (tie.Start Inv-loop μ-loop) (search) .args .gas .now in
+    let a = the (tie.At-loop Inv-loop μ-loop) (search) .loop .a in
+    let e = c .block-end in
+    length-part gas a (e .result - a) (omega (arith, e .ensures .0, e .ensures .1))
+
 block-total-requires : tie.Need-block-total-requires Inv-loop μ-loop
 block-total-requires c κs =
-    let gas = the (tie.Start Inv-loop μ-loop) (search) .args .gas .now in
-    let a = c .before .before .before .loop .a in
-    let e = c .before .block-end in
-    let size : length (part gas a (e .result - a)) ≡ e .result - a = length-part gas a (e .result - a) (omega (arith, e .ensures .0, e .ensures .1)) in
-    omega (arith, size, e .ensures .2)
+    omega (arith, block-size (search), c .before .block-end .ensures .2)
 
 add-sum : tie.Need-add-sum Inv-loop μ-loop
 add-sum c =
-    let gas = the (tie.Start Inv-loop μ-loop) (search) .args .gas .now in
-    let a = the (tie.At-loop Inv-loop μ-loop) (search) .loop .a in
     let e = c .before .before .block-end in
-    let size : length (part gas a (e .result - a)) ≡ e .result - a = length-part gas a (e .result - a) (omega (arith, e .ensures .0, e .ensures .1)) in
-    omega (arith, size, c .block-total .ensures .small, e .ensures .0, e .ensures .1)
+    omega (arith, block-size (search), c .block-total .ensures .small, e .ensures .0, e .ensures .1)
 
 loop-less : tie.Need-loop-less Inv-loop μ-loop
 loop-less c = search needs
@@ -60,10 +66,10 @@ loop-again c =
     let gas = the (tie.Start Inv-loop μ-loop) (search) .args .gas .now in
     let a = the (tie.At-loop Inv-loop μ-loop) (search) .loop .a in
     let e = c .before .before .block-end in
-    let size : length (part gas a (e .result - a)) ≡ e .result - a = length-part gas a (e .result - a) (omega (arith, e .ensures .0, e .ensures .1)) in (
+    let total-is = sum-block gas a (e .result) (omega (arith, e .ensures .0)) (e .ensures .1) (c .block-total .ensures .is) in (
       e .ensures .1,
-      omega (arith, sum-block gas a (e .result) (c .block-total .result) (omega (arith, e .ensures .0)) (e .ensures .1) (c .block-total .ensures .is)),
-      omega (arith, size, c .block-total .ensures .small, e .ensures .0),
+      omega (arith, total-is),
+      omega (arith, block-size (search), c .block-total .ensures .small, e .ensures .0),
     )
 
 returns : tie.Need-returns Inv-loop μ-loop

@@ -4,6 +4,7 @@ use Prim.Native.Nat.{_≤_, _-_}
 use mathlib.Core.Path.{_≡_}
 use native.Mathlib.Omega.{arith}
 use lib.ListN.{length}
+use Rattle.units.specs.The.{the}
 use borrow.Author.Needs.{needs}
 use Rattle.places.specs.Totals.{AreTotals, totals-none, totals-more, tracer-room, part-total}
 use Rattle.places.proofs.totals.Statement.{statement}
@@ -16,7 +17,7 @@ abbrev μ-loop : tie.MeasureT-loop
 μ-loop tracers cells n sums₀ t₀ sums t = n - t
 
 loop-holds : tie.Need-loop-holds Inv-loop μ-loop
-loop-holds c = (search needs, search needs, totals-none _ _ _)
+loop-holds c = (search needs, search needs, totals-none)
 
 mul-a : tie.Need-mul-a Inv-loop μ-loop
 mul-a c = let room = tracer-room (c .before .before .before .pre) (c .before .loop .t) (search needs) in search needs
@@ -54,10 +55,12 @@ loop-less c = search needs
 loop-again : tie.Need-loop-again Inv-loop μ-loop
 loop-again c =
     let start : tie.Start Inv-loop μ-loop = search in
-    let room = tracer-room (start .pre) (c .before .before .before .loop .t) (search needs) in (
+    let l = the (tie.At-loop Inv-loop μ-loop) (search) .loop in
+    let room = tracer-room (start .pre) (l .t) (search needs) in
+    let is-total = part-total _ _ _ (room .0) (c .gas-total .ensures .0) in (
       search needs,
       search needs,
-      totals-more _ _ _ _ _ (search needs) (c .before .before .before .loop .inv .2) (part-total _ _ _ _ (room .0) (c .gas-total .ensures .0), c .gas-total .ensures .1),
+      totals-more (search needs) (l .inv .2) is-total (c .gas-total .ensures .1),
     )
 
 returns : tie.Need-returns Inv-loop μ-loop
