@@ -8,6 +8,7 @@ use lib.Seq.{take-at}
 use Rattle.model.specs.Basic.{written}
 use Rattle.model.specs.World as model
 use Rattle.model.specs.Step.{Call, load, step}
+use Rattle.model.specs.Laws.Step.{loaded-same}
 use Rattle.units.specs.declared.Grid as declared
 use Rattle.units.specs.declared.Answer.{Answer}
 use Rattle.units.specs.Answer.{numberOf, countOf, Agrees}
@@ -42,7 +43,7 @@ written-first l new n e = ap (λ (m : ℕ). new ++ drop m l) (sym (zero-add (len
 
 -- ---- the state after a load
 loaded-after : (w : model.World) → step w load .answer ≡ 0 → program.afterLoad w ≡ program.loaded w
-loaded-after w e = rw (e, program.afterLoad)
+loaded-after w e = rw (e, program.afterLoad) (ap program.loaded (loaded-same w e))
 
 gridded-after : (w : model.World) (n : ℕ) → step w load .answer ≡ n → (n ≡ 0 → ⊥) → program.afterLoad w ≡ program.gridded (w .grid)
 gridded-after w zero e nonzero = absurd (nonzero refl)

@@ -10,7 +10,7 @@ use lib.ListN.{length}
 use Rattle.model.specs.Limits.{totalLimit}
 use Rattle.model.specs.Basic.{at}
 use Rattle.model.specs.World.{Grid, World, worldCells, gasTotal, airFits}
-use Rattle.model.specs.Step.{Call, load, Place, firstOf, absent, gridFits, lentFits, lengthsFit, commonPlaces, ownPlaces, accepted, refused, refusal, step}
+use Rattle.model.specs.Step.{Call, load, Result, Place, firstOf, absent, gridFits, lentFits, lengthsFit, commonPlaces, ownPlaces, accepted, refused, refusal, step}
 use Rattle.model.specs.Lists.{Loaded, loadedWorld}
 use Rattle.model.specs.Laws.Basic.{every-at, every-true}
 
@@ -97,10 +97,6 @@ unfolding refusal commonPlaces
 lent-refusal w call fits lent =
     passes _ _ w (ap not (fits .grid)) ∙ stops _ _ w (ap not (fitting-lengths w call fits ∙ lent))
 
-pub fits-loaded : (w : World) → Fits w → Loaded w
-unfolding ownPlaces firstOf
-fits-loaded w fits = answer-is w load ∙ own-refusal w load fits refl
-
 -- where none of the places 1 to 4 applies, the world fits and the list that the call lends; the places after them are left
 pub common-passed :
     (w : World) (call : Call) (ps : List Place) → firstOf (commonPlaces call ++ ps) w ≡ 0 →
@@ -136,7 +132,10 @@ loaded-fits w start = accepted-passed w load (sym (answer-is w load) ∙ start) 
 pub record Reached (w : World) : Type 0 where
   pub fits : Fits w
 
-pub loaded-reached : (w : World) → Loaded w → Reached (loadedWorld w)
+-- an accepted load leaves the world as it was lent
+pub loaded-same : (w : World) → Loaded w → loadedWorld w ≡ w
 unfolding accepted
-loaded-reached w start =
-    rw (loadedWorld, step-accepted w load (sym (answer-is w load) ∙ start)) (record { fits = loaded-fits w start })
+loaded-same w start = ap (λ (r : Result). r .next) (step-accepted w load (sym (answer-is w load) ∙ start))
+
+pub loaded-reached : (w : World) → Loaded w → Reached (loadedWorld w)
+loaded-reached w start = rw (loaded-same w start) (record { fits = loaded-fits w start })

@@ -70,7 +70,7 @@ call-in-place s g remapKind body call p e = p
 call-in-place s g totalKind body call p e = p
 call-in-place s g cellKind body call p e = p
 
-found-loaded : (s : State) (byte : ℕ) (bytes : List ℕ) (call : Call) → found s (byte ∷ bytes) ≡ command (make call) → isLoaded s ≡ true
+pub found-loaded : (s : State) (byte : ℕ) (bytes : List ℕ) (call : Call) → found s (byte ∷ bytes) ≡ command (make call) → isLoaded s ≡ true
 found-loaded s byte bytes call e = go (inPlace s (kindOf byte)) refl (below-or-not (length bytes) (bodyLength (gridOf s) (kindOf byte)))
   where
     go :
