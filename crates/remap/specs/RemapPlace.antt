@@ -8,7 +8,7 @@ use lib.ListN.{length}
 use Rattle.model.specs.World.{World, layerCells, withAmounts}
 use Rattle.model.specs.Remap.{column, remapServes, remapCount, remapped, remappedAir, remappedGas}
 use Rattle.model.specs.Step.{Place, place, tableFits, remap}
-use Rattle.model.specs.Laws.Grid.{InRange, in-range, layer-cells-most}
+use Rattle.model.specs.Laws.Grid.{in-range, layer-cells-most}
 use Rattle.model.specs.Laws.Step.{Fits}
 use Rattle.model.specs.Laws.Remap.{remap-edges}
 use Rattle.units.specs.Answer.{numberOf, countOf, Agrees}

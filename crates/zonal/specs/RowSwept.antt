@@ -158,7 +158,8 @@ module _ {w : World} {k r : ℕ} {fluxes : List ℤ} {p : Placed} (found : RowFo
         length-air-after (rowMesh fluxes) fluxes (p .found) lent (row-need (found .row) .long) (p .found) ∙
         found .row .long
 
-    pub zonal-agrees : Agrees w (zonal k r fluxes) (Accepted (p .found)) (withAmounts w (putMid (p .first) (p .first + w .grid .W - p .first) (w .air) new) after)
+    pub zonal-agrees :
+        Agrees w (zonal k r fluxes) (Accepted (p .found)) (withAmounts w (putMid (p .first) (p .first + w .grid .W - p .first) (w .air) new) after)
     unfolding swept ring
     zonal-agrees =
         accepted-agrees (none (found .left)) refl (found .count)

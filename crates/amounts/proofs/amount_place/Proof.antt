@@ -39,7 +39,9 @@ returns c =
 
 -- places 1 to 4 are passed
 passed : (c : tie.Then1) →
-    let s : tie.Start = search needs in let tested : tie.After-common-places = search needs in Passed (world s) Nothing (tested .common-places .result)
+    let s : tie.Start = search needs in
+    let tested : tie.After-common-places = search needs in
+    Passed (world s) Nothing (tested .common-places .result)
 passed c =
     let tested : tie.After-common-places = search needs in
     tested .common-places .ensures .found (sym (c .before .number .ensures) ∙ c .if1 .taken)
@@ -76,7 +78,10 @@ returns-3 c =
 
 -- and so is the cell
 room : (c : tie.Then3) →
-    let s : tie.Start = search needs in let cells : tie.After-world-cells = search needs in (s .args .tracer * cells .world-cells .result + s .args .cell < length (s .args .tracers .now)) × (s .args .tracer * cells .world-cells .result + s .args .cell < mostAmounts)
+    let s : tie.Start = search needs in
+    let cells : tie.After-world-cells = search needs in
+    let place = s .args .tracer * cells .world-cells .result + s .args .cell in
+    (place < length (s .args .tracers .now)) × (place < mostAmounts)
 room c =
     let common : tie.Then1 = search needs in
     let tracer : tie.Then2 = search needs in

@@ -28,7 +28,9 @@ returns c =
 
 -- places 1 to 4 are passed
 passed : (c : tie.Then1) →
-    let s : tie.Start = search needs in let tested : tie.After-common-places = search needs in Passed (world s) Nothing (tested .common-places .result)
+    let s : tie.Start = search needs in
+    let tested : tie.After-common-places = search needs in
+    Passed (world s) Nothing (tested .common-places .result)
 passed c =
     let tested : tie.After-common-places = search needs in
     tested .common-places .ensures .found (sym (c .before .number .ensures) ∙ c .if1 .taken)

@@ -110,7 +110,9 @@ layer-permits-requires c κs =
 
 -- what is tested is the layer's air
 serving : (c : tie.After-layer-permits) →
-    let s : tie.Start = search in c .layer-permits .result ≡ serves (layer (world s .grid .W) (world s .grid .R)) (s .args .fluxes .now) (layerAir (world s) (s .args .layer)) 1
+    let s : tie.Start = search in
+    c .layer-permits .result ≡
+    serves (layer (world s .grid .W) (world s .grid .R)) (s .args .fluxes .now) (layerAir (world s) (s .args .layer)) 1
 serving c =
     let at : tie.After-layer-start = search in
     sym (rw (at .layer-start .ensures .0) at (c .layer-permits .ensures .serving))

@@ -1,9 +1,9 @@
 -- `meridional::meridional` meets its contract: the layer found by `layer_place`, swept in all tracers and in the air.
-use mathlib.Core.Path.{sym, _∙_}
+use mathlib.Core.Path.{_≡_, sym, _∙_}
 use native.Mathlib.Omega.{arith}
-use Rattle.units.specs.Grid.{worldOf, in-range}
+use Rattle.units.specs.Answer.{numberOf}
+use Rattle.units.specs.Grid.{in-range}
 use Rattle.places.specs.Walk.{itself, refuses}
-use Rattle.meridional.specs.LayerPlace.{LayerFound}
 use Rattle.meridional.specs.LayerSwept.{layer-near, layer-in-air, tracers-need, air-need, meridional-agrees}
 use borrow.Author.Needs.{needs}
 use Rattle.meridional.proofs.meridional.Statement.{statement}
@@ -32,32 +32,33 @@ returns c =
     let place : tie.After-layer-place = search in
     refuses (place .layer-place .ensures) (λ z. c .if1 .left (c .before .number .ensures ∙ z)) itself
 
-found : (c : tie.Then1) →
+accepted : (c : tie.Then1) →
     let place : tie.After-layer-place = search in
-    let s : tie.Start = search in
-    let parts = place .layer-place .last .1 .1 .1 .1 .1 in
-    LayerFound (worldOf (s .args .g) (s .args .air .now) (s .args .tracers .now)) (s .args .layer) (s .args .fluxes .now) (parts .0) (parts .1 .0)
-    (place .layer-place .result)
-found c =
-    let place : tie.After-layer-place = search in
-    place .layer-place .ensures .found (sym (c .before .number .ensures) ∙ c .if1 .taken)
+    numberOf (place .layer-place .result .answer) ≡ 0
+accepted c = sym (c .before .number .ensures) ∙ c .if1 .taken
 
 layer-cells-requires : tie.Need-layer-cells-requires
-layer-cells-requires c κs = in-range _ (found c .fits .grid)
+layer-cells-requires c κs =
+    let place : tie.After-layer-place = search in
+    in-range _ (place .layer-place .ensures .found (accepted c) .fits .grid)
 
 cast-end : tie.Need-cast-end
 cast-end c = search needs
 
 add-end : tie.Need-add-end
 add-end c =
-    let accepted : tie.Then1 = search in
-    omega (arith, layer-near (found accepted) (c .layer-cells .ensures .0))
+    let yes : tie.Then1 = search in
+    let place : tie.After-layer-place = search in
+    let found = place .layer-place .ensures .found (accepted yes) in
+    omega (arith, layer-near found (c .layer-cells .ensures .0))
 
 mul-sweep-tracers : tie.Need-mul-sweep-tracers
 mul-sweep-tracers c =
     let wide : tie.After-layer-cells = search in
-    let accepted : tie.Then1 = search in
-    omega (arith, layer-near (found accepted) (wide .layer-cells .ensures .0))
+    let yes : tie.Then1 = search in
+    let place : tie.After-layer-place = search in
+    let found = place .layer-place .ensures .found (accepted yes) in
+    omega (arith, layer-near found (wide .layer-cells .ensures .0))
 
 sub-sweep-tracers : tie.Need-sub-sweep-tracers
 sub-sweep-tracers c = search needs
@@ -68,8 +69,10 @@ part-sweep-tracers-start c = search needs
 part-sweep-tracers-end : tie.Need-part-sweep-tracers-end
 part-sweep-tracers-end c =
     let wide : tie.After-layer-cells = search in
-    let accepted : tie.Then1 = search in
-    layer-in-air (found accepted) (wide .layer-cells .ensures .0)
+    let yes : tie.Then1 = search in
+    let place : tie.After-layer-place = search in
+    let found = place .layer-place .ensures .found (accepted yes) in
+    layer-in-air found (wide .layer-cells .ensures .0)
 
 slice-aggregate-sweep-tracers : tie.Need-slice-aggregate-sweep-tracers
 slice-aggregate-sweep-tracers c = search needs
@@ -80,14 +83,18 @@ slice-aggregate-sweep-tracers-2 c = search needs
 sweep-tracers-requires : tie.Need-sweep-tracers-requires
 sweep-tracers-requires c κs =
     let wide : tie.After-layer-cells = search in
-    let accepted : tie.Then1 = search in
-    (record { high = search needs; low = search needs }, tracers-need (found accepted) (wide .layer-cells .ensures .0))
+    let yes : tie.Then1 = search in
+    let place : tie.After-layer-place = search in
+    let found = place .layer-place .ensures .found (accepted yes) in
+    (record { high = search needs; low = search needs }, tracers-need found (wide .layer-cells .ensures .0))
 
 mul-pass-layer : tie.Need-mul-pass-layer
 mul-pass-layer c =
     let wide : tie.After-layer-cells = search in
-    let accepted : tie.Then1 = search in
-    omega (arith, layer-near (found accepted) (wide .layer-cells .ensures .0))
+    let yes : tie.Then1 = search in
+    let place : tie.After-layer-place = search in
+    let found = place .layer-place .ensures .found (accepted yes) in
+    omega (arith, layer-near found (wide .layer-cells .ensures .0))
 
 sub-pass-layer : tie.Need-sub-pass-layer
 sub-pass-layer c = search needs
@@ -98,8 +105,10 @@ part-pass-layer-start c = search needs
 part-pass-layer-end : tie.Need-part-pass-layer-end
 part-pass-layer-end c =
     let wide : tie.After-layer-cells = search in
-    let accepted : tie.Then1 = search in
-    layer-in-air (found accepted) (wide .layer-cells .ensures .0)
+    let yes : tie.Then1 = search in
+    let place : tie.After-layer-place = search in
+    let found = place .layer-place .ensures .found (accepted yes) in
+    layer-in-air found (wide .layer-cells .ensures .0)
 
 slice-aggregate-pass-layer : tie.Need-slice-aggregate-pass-layer
 slice-aggregate-pass-layer c = search needs
@@ -116,8 +125,10 @@ cast-pass-layer-2 c = search needs
 pass-layer-requires : tie.Need-pass-layer-requires
 pass-layer-requires c κs =
     let wide : tie.After-layer-cells = search in
-    let accepted : tie.Then1 = search in
-    air-need (found accepted) (wide .layer-cells .ensures .0) (record { high = search needs; low = search needs })
+    let yes : tie.Then1 = search in
+    let place : tie.After-layer-place = search in
+    let found = place .layer-place .ensures .found (accepted yes) in
+    air-need found (wide .layer-cells .ensures .0) (record { high = search needs; low = search needs })
 
 same-length-3 : tie.Need-same-length-3
 same-length-3 c = search needs
@@ -130,8 +141,10 @@ returns-2 c =
     let passed : tie.After-pass-layer = search in
     let swept : tie.After-sweep-tracers = search in
     let wide : tie.After-layer-cells = search in
-    let accepted : tie.Then1 = search in
-    meridional-agrees (found accepted) (wide .layer-cells .ensures .0) (passed .pass-layer .ensures) (swept .sweep-tracers .ensures)
+    let yes : tie.Then1 = search in
+    let place : tie.After-layer-place = search in
+    let found = place .layer-place .ensures .found (accepted yes) in
+    meridional-agrees found (wide .layer-cells .ensures .0) (passed .pass-layer .ensures) (swept .sweep-tracers .ensures)
 
 pub meridional-spec : {M : Type 1} → statement M
 meridional-spec =

@@ -1,4 +1,5 @@
--- `meridional::sweep_tracers` meets its contract. The loop's invariant: the layers of the tracers passed are swept, the others are as lent; the room is as long as declared.
+-- `meridional::sweep_tracers` meets its contract.
+-- The loop's invariant: the layers of the tracers passed are swept, the others are as lent; the room is as long as declared.
 use Prim.Native.Nat.{_+_, _*_, _≤_, _-_}
 use mathlib.Core.Path.{_≡_, ap, _∙_}
 use lib.ListN.{length}

@@ -3,10 +3,9 @@ use mathlib.Core.Path.{_≡_, refl, sym, _∙_}
 use mathlib.Core.Bool.{true}
 use lib.ListN.{length}
 use Rattle.model.specs.World.{World}
-use Rattle.model.specs.Step.{gridFits}
 use Rattle.units.specs.Grid.{gridOf, worldOf, InRange, in-range}
 use Rattle.places.specs.Walk.{Left, next, stop, placed, fits, fails}
-use Rattle.places.specs.Tested.{Lends, lengthsServe, airTest, fromLengths, fromAir, fromTotals, all-left, lengths-true, passed-fits, tracers-fit, gas-totals, totals-test}
+use Rattle.places.specs.Tested.{Lends, lengthsServe, fromLengths, fromAir, fromTotals, all-left, lengths-true, passed-fits, tracers-fit, gas-totals, totals-test}
 use borrow.Author.Needs.{needs}
 use Rattle.places.proofs.common_places.Statement.{statement}
 use Rattle.places.proofs.common_places.Tie as tie

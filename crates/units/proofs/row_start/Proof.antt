@@ -1,6 +1,6 @@
 -- `units::row_start` meets its contract: a row's cells lie inside the world's, of which there are few.
 use Prim.Native.Nat.{ℕ, _+_, _*_, _≤_}
-use mathlib.Core.Path.{_≡_, ap, _∙_}
+use mathlib.Core.Path.{_≡_, ap}
 use native.Mathlib.Nat.{le-trans}
 use native.Mathlib.Omega.{arith}
 use Rattle.model.specs.Limits.{mostCells}
