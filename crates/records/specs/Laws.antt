@@ -44,18 +44,23 @@ module _ (g : model.Grid) where
   taken-grid e h k = rw (e, program.gridRefusal, le-ltb programCells (model.worldCells g) h, le-ltb programTracers (g .N) k)
 
 -- ---- a byte other than 1 to 9 names no kind
-pub no-kind : (byte : ℕ) → (byte ≡ 1 → ⊥) → (byte ≡ 2 → ⊥) → (byte ≡ 3 → ⊥) → (byte ≡ 4 → ⊥) → (byte ≡ 5 → ⊥) → (byte ≡ 6 → ⊥) → (byte ≡ 7 → ⊥) → (byte ≡ 8 → ⊥) → (byte ≡ 9 → ⊥) → program.kindOf byte ≡ program.unknown
-no-kind zero n1 n2 n3 n4 n5 n6 n7 n8 n9 = refl
-no-kind (suc zero) n1 n2 n3 n4 n5 n6 n7 n8 n9 = absurd (n1 refl)
-no-kind (suc (suc zero)) n1 n2 n3 n4 n5 n6 n7 n8 n9 = absurd (n2 refl)
-no-kind (suc (suc (suc zero))) n1 n2 n3 n4 n5 n6 n7 n8 n9 = absurd (n3 refl)
-no-kind (suc (suc (suc (suc zero)))) n1 n2 n3 n4 n5 n6 n7 n8 n9 = absurd (n4 refl)
-no-kind (suc (suc (suc (suc (suc zero))))) n1 n2 n3 n4 n5 n6 n7 n8 n9 = absurd (n5 refl)
-no-kind (suc (suc (suc (suc (suc (suc zero)))))) n1 n2 n3 n4 n5 n6 n7 n8 n9 = absurd (n6 refl)
-no-kind (suc (suc (suc (suc (suc (suc (suc zero))))))) n1 n2 n3 n4 n5 n6 n7 n8 n9 = absurd (n7 refl)
-no-kind (suc (suc (suc (suc (suc (suc (suc (suc zero)))))))) n1 n2 n3 n4 n5 n6 n7 n8 n9 = absurd (n8 refl)
-no-kind (suc (suc (suc (suc (suc (suc (suc (suc (suc zero))))))))) n1 n2 n3 n4 n5 n6 n7 n8 n9 = absurd (n9 refl)
-no-kind (suc (suc (suc (suc (suc (suc (suc (suc (suc (suc n)))))))))) n1 n2 n3 n4 n5 n6 n7 n8 n9 = refl
+-- what the last arm of a `match` on 1 to n is handed
+abbrev NoneTo : ℕ → ℕ → Type 0
+NoneTo byte zero = Unit {0}
+NoneTo byte (suc n) = NoneTo byte n × (byte ≡ suc n → ⊥)
+
+pub no-kind : (byte : ℕ) → NoneTo byte 9 → program.kindOf byte ≡ program.unknown
+no-kind zero rest = refl
+no-kind (suc zero) rest = absurd (rest .0 .0 .0 .0 .0 .0 .0 .0 .1 refl)
+no-kind (suc (suc zero)) rest = absurd (rest .0 .0 .0 .0 .0 .0 .0 .1 refl)
+no-kind (suc (suc (suc zero))) rest = absurd (rest .0 .0 .0 .0 .0 .0 .1 refl)
+no-kind (suc (suc (suc (suc zero)))) rest = absurd (rest .0 .0 .0 .0 .0 .1 refl)
+no-kind (suc (suc (suc (suc (suc zero))))) rest = absurd (rest .0 .0 .0 .0 .1 refl)
+no-kind (suc (suc (suc (suc (suc (suc zero)))))) rest = absurd (rest .0 .0 .0 .1 refl)
+no-kind (suc (suc (suc (suc (suc (suc (suc zero))))))) rest = absurd (rest .0 .0 .1 refl)
+no-kind (suc (suc (suc (suc (suc (suc (suc (suc zero)))))))) rest = absurd (rest .0 .1 refl)
+no-kind (suc (suc (suc (suc (suc (suc (suc (suc (suc zero))))))))) rest = absurd (rest .1 refl)
+no-kind (suc (suc (suc (suc (suc (suc (suc (suc (suc (suc n)))))))))) rest = refl
 
 -- ---- a settled stage
 pub plain-state : (r : Stage) → stageRefusal r ≡ 0 → (air tracers : List ℕ) → stateOf r air tracers ≡ plainState r air tracers
@@ -99,8 +104,10 @@ number-two l a h = omega (arith, number-more l a 1 (omega arith), number-one l a
 pub number-four : (l : List ℕ) (a : ℕ) → a + 3 < length l → numberAt l a 4 ≡ numberAt l a 2 + 65536 * numberAt l (a + 2) 2
 number-four l a h =
     let e : a + 1 + 1 ≡ a + 2 = omega arith in
-    omega
-    (arith, number-more l a 3 (omega arith), number-more l (a + 1) 2 (omega arith), number-more l a 1 (omega arith), number-one l (a + 1) (omega arith), ap (λ (i : ℕ). numberAt l i 2) e)
+    let all = number-more l a 3 (omega arith) in
+    let rest = number-more l (a + 1) 2 (omega arith) in
+    let two = number-more l a 1 (omega arith) in
+    omega (arith, all, rest, two, number-one l (a + 1) (omega arith), ap (λ (i : ℕ). numberAt l i 2) e)
 
 -- ---- a grid that the program takes
 pub record Takes (g : model.Grid) : Type 0 where
@@ -134,7 +141,13 @@ same-small g h e small =
     }
 
 pub stage-small : (stage : Stage) (g : declared.Grid) → gridOf g ≡ gridOfStage stage → stageRefusal stage ≡ 0 → SmallGrid g
-stage-small Start g e taken = same-small g (record { w = 0; r = 0; k = 0; n = 0 }) e (record { highW = omega arith; highR = omega arith; highK = omega arith; highN = omega arith; cells = omega arith })
+stage-small Start g e taken = same-small g none e small
+  where
+    none : declared.Grid
+    none = record { w = 0; r = 0; k = 0; n = 0 }
+
+    small : SmallGrid none
+    small = record { highW = omega arith; highR = omega arith; highK = omega arith; highN = omega arith; cells = omega arith }
 stage-small (Gridded h) g e taken = same-small g h e (taken-small h taken)
 stage-small (Loaded h) g e taken = same-small g h e (taken-small h taken)
 
@@ -177,31 +190,38 @@ module _ (r : Stage) (air tracers : List ℕ) where
   place-any program.cellKind = loaded-any
 
 -- ---- the bytes that a kind needs, from what the tests tell
-module _ (stage r : Stage) (byte : ℕ) (k : program.Kind) (settled : IsSettled stage r) (kind : k ≡ program.kindOf byte) where
-  place-is : (b : Bool) → program.inPlace (plainState r [] []) k ≡ b → (air tracers : List ℕ) → program.inPlace (stateOf stage air tracers) (program.kindOf byte) ≡ b
-  place-is b e air tracers = rw (settled .same air tracers, ← kind) (place-any r air tracers k ∙ e)
+module _ {stage r : Stage} (settled : IsSettled stage r) (byte : ℕ) {k : program.Kind} (kind : k ≡ program.kindOf byte) where
+  place-is :
+      {b : Bool} → program.inPlace (plainState r [] []) k ≡ b →
+      (air tracers : List ℕ) → program.inPlace (stateOf stage air tracers) (program.kindOf byte) ≡ b
+  place-is e air tracers = rw (settled .same air tracers, ← kind) (place-any r air tracers k ∙ e)
 
   pub needs-none : program.inPlace (plainState r [] []) k ≡ false → NeedsBytes stage byte 0
   needs-none e =
       record {
-        number = λ air tracers. sym (needed-none (stateOf stage air tracers) byte [] (place-is false e air tracers));
+        number = λ air tracers. sym (needed-none (stateOf stage air tracers) byte [] (place-is e air tracers));
         few = omega arith;
       }
 
-  pub needs-body : (g : model.Grid) (n : ℕ) → program.inPlace (plainState r [] []) k ≡ true → g ≡ gridOfStage r → n ≡ program.bodyLength g k → n ≤ 24576 → NeedsBytes stage byte n
-  needs-body g n e same length few =
+  pub needs-body :
+      {g : model.Grid} {n : ℕ} → program.inPlace (plainState r [] []) k ≡ true → g ≡ gridOfStage r →
+      n ≡ program.bodyLength g k → n ≤ 24576 → NeedsBytes stage byte n
+  needs-body e same length few =
       record {
         number =
             λ air tracers.
             length ∙
             ap₂ program.bodyLength (same ∙ sym (ap program.gridOf (settled .same air tracers) ∙ grid-any r air tracers)) kind ∙
-            sym (needed-body (stateOf stage air tracers) byte [] (place-is true e air tracers));
+            sym (needed-body (stateOf stage air tracers) byte [] (place-is e air tracers));
         few = few;
       }
 
 -- ---- a record's body is as long as its kind asks
-pub whole-of : (kind k : code.Kind) (body : List ℕ) (need : ParseNeed (kindIs kind) body) → kind ≡ k → program.bodyLength (need .grid) (kindIs k) ≤ length body
-whole-of kind k body need e = subst (λ (x : code.Kind). program.bodyLength (need .grid) (kindIs x) ≤ length body) e (need .whole)
+pub whole-of :
+    (kind k : code.Kind) {body : List ℕ} (need : ParseNeed (kindIs kind) body) → kind ≡ k →
+    program.bodyLength (need .grid) (kindIs k) ≤ length body
+whole-of kind k {body} need e =
+    subst (λ (x : code.Kind). program.bodyLength (need .grid) (kindIs x) ≤ length body) e (need .whole)
 
 pub known-in-place : (s : program.State) (k : program.Kind) → program.inPlace s k ≡ true → isKnown k ≡ true
 known-in-place s program.unknown e = absurd (false≢true e)
@@ -220,7 +240,9 @@ known-in-place s program.cellKind e = refl
 pub take-rest : (l : List ℕ) (a : ℕ) → take (length l - a) (drop a l) ≡ drop a l
 take-rest l a = take-all (length l - a) (drop a l) (omega (arith, length-drop a l))
 
-pub parse-need : (k : program.Kind) (input : List ℕ) (s : program.State) (g : model.Grid) → program.inPlace s k ≡ true → program.bodyLength g k ≤ length input - 1 → ParseNeed k (take (length input - 1) (drop 1 input))
+pub parse-need :
+    (k : program.Kind) (input : List ℕ) (s : program.State) (g : model.Grid) →
+    program.inPlace s k ≡ true → program.bodyLength g k ≤ length input - 1 → ParseNeed k (take (length input - 1) (drop 1 input))
 parse-need k input s g placed whole =
     rw (take-rest input 1)
     (record { known = known-in-place s k placed; grid = g; whole = omega (arith, length-drop 1 input) })
@@ -230,30 +252,35 @@ unfolding program.found
 finds-nothing stage [] e = record { reading = λ air tracers. refl; whole = λ air tracers. tt }
 finds-nothing stage (byte ∷ body) e = absurd (omega (arith, e))
 
-module _ (stage r : Stage) (input : List ℕ) (k : program.Kind) (settled : IsSettled stage r) (kind : k ≡ program.kindOf (at input 0)) (some : 0 < length input) where
+module _ {stage r : Stage} (settled : IsSettled stage r) (input : List ℕ) (some : 0 < length input)
+    {k : program.Kind} (kind : k ≡ program.kindOf (at input 0)) where
   split : input ≡ at input 0 ∷ drop 1 input
   split = drop-cons input 0 0 some
 
   module _ (air tracers : List ℕ) where
-    in-state : (b : Bool) → program.inPlace (plainState r [] []) k ≡ b → program.inPlace (stateOf stage air tracers) (program.kindOf (at input 0)) ≡ b
-    in-state b e = place-is stage r (at input 0) k settled kind b e air tracers
+    in-state :
+        {b : Bool} → program.inPlace (plainState r [] []) k ≡ b →
+        program.inPlace (stateOf stage air tracers) (program.kindOf (at input 0)) ≡ b
+    in-state e = place-is settled (at input 0) kind e air tracers
 
     grid-in-state : gridOfStage r ≡ program.gridOf (stateOf stage air tracers)
     grid-in-state = sym (ap program.gridOf (settled .same air tracers) ∙ grid-any r air tracers)
 
-    length-in-state : (g : model.Grid) → g ≡ gridOfStage r → program.bodyLength g k ≡ program.bodyLength (program.gridOf (stateOf stage air tracers)) (program.kindOf (at input 0))
-    length-in-state g e = ap₂ program.bodyLength (e ∙ grid-in-state) kind
+    length-in-state :
+        {g : model.Grid} → g ≡ gridOfStage r →
+        program.bodyLength g k ≡ program.bodyLength (program.gridOf (stateOf stage air tracers)) (program.kindOf (at input 0))
+    length-in-state e = ap₂ program.bodyLength (e ∙ grid-in-state) kind
 
   pub finds-misplaced : program.inPlace (plainState r [] []) k ≡ false → Finds stage input (Faulty fault.Kind)
   finds-misplaced e =
       record {
         reading =
             λ air tracers.
-            sym (ap (program.found (stateOf stage air tracers)) split ∙ found-misplaced _ (at input 0) (drop 1 input) (in-state air tracers false e));
+            sym (ap (program.found (stateOf stage air tracers)) split ∙ found-misplaced _ (at input 0) (drop 1 input) (in-state air tracers e));
         whole = λ air tracers. tt;
       }
 
-  module _ (g : model.Grid) (same : g ≡ gridOfStage r) (placed : program.inPlace (plainState r [] []) k ≡ true) where
+  module _ {g : model.Grid} (same : g ≡ gridOfStage r) (placed : program.inPlace (plainState r [] []) k ≡ true) where
     pub finds-short : length input - 1 < program.bodyLength g k → Finds stage input (Faulty fault.Length)
     finds-short h =
         record {
@@ -261,12 +288,13 @@ module _ (stage r : Stage) (input : List ℕ) (k : program.Kind) (settled : IsSe
               λ air tracers.
               sym
               (ap (program.found (stateOf stage air tracers)) split ∙
-              found-short _ (at input 0) (drop 1 input) (in-state air tracers true placed)
-              (omega (arith, length-drop 1 input, length-in-state air tracers g same)));
+              found-short _ (at input 0) (drop 1 input) (in-state air tracers placed)
+              (omega (arith, length-drop 1 input, length-in-state air tracers same)));
           whole = λ air tracers. tt;
         }
 
-    module _ (h : program.bodyLength g k ≤ length input - 1) (c : command.Command) (parsed : Parses k (take (length input - 1) (drop 1 input)) c) where
+    module _ (h : program.bodyLength g k ≤ length input - 1)
+        {c : command.Command} (parsed : Parses k (take (length input - 1) (drop 1 input)) c) where
       commands : (g : model.Grid) → commandIs g (drop 1 input) c ≡ program.commandOf g k (drop 1 input)
       commands = rw (take-rest input 1) at parsed .commands
 
@@ -275,15 +303,16 @@ module _ (stage r : Stage) (input : List ℕ) (k : program.Kind) (settled : IsSe
           record {
             reading =
                 λ air tracers.
-                ap program.command (commands _ ∙ ap (λ (x : program.Kind). program.commandOf (program.gridOf (stateOf stage air tracers)) x (drop 1 input)) kind) ∙
+                let g = program.gridOf (stateOf stage air tracers) in
+                ap program.command (commands g ∙ ap (λ (x : program.Kind). program.commandOf g x (drop 1 input)) kind) ∙
                 sym
                 (ap (program.found (stateOf stage air tracers)) split ∙
-                found-command _ (at input 0) (drop 1 input) (in-state air tracers true placed)
-                (omega (arith, length-drop 1 input, length-in-state air tracers g same)));
+                found-command _ (at input 0) (drop 1 input) (in-state air tracers placed)
+                (omega (arith, length-drop 1 input, length-in-state air tracers same)));
             whole =
                 λ air tracers.
                 record {
-                  placed = ap (program.inPlace (stateOf stage air tracers)) (parsed .sameKind ∙ kind) ∙ in-state air tracers true placed;
+                  placed = ap (program.inPlace (stateOf stage air tracers)) (parsed .sameKind ∙ kind) ∙ in-state air tracers placed;
                   whole = rw (parsed .sameKind, ← grid-in-state air tracers, ← same) (omega (arith, length-drop 1 input));
                 };
           }

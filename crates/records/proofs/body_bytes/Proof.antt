@@ -1,9 +1,8 @@
 -- `records::body_bytes` meets its contract: in place and its length, or none.
 -- Assumes nothing.
 use mathlib.Core.Path.{sym, _∙_}
-use Rattle.units.specs.Grid.{gridOf}
-use Rattle.records.specs.Stage.{kindIs}
 use Rattle.records.specs.Laws.{stage-small, needs-none, needs-body}
+use Rattle.units.specs.The.{the}
 use borrow.Author.Needs.{needs}
 use Rattle.records.proofs.body_bytes.Statement.{statement}
 use Rattle.records.proofs.body_bytes.Tie as tie
@@ -27,13 +26,17 @@ body-length-requires c κs =
 
 returns : tie.Need-returns
 returns c =
-    let tests = c .before .before .before in
-    needs-body _ (tests .before .settled .result) _ (kindIs (tests .before .before .kind-of .result)) (tests .before .settled .ensures) (tests .before .before .kind-of .ensures) (gridOf (c .before .grid-of .result)) _ (sym (tests .in-place .ensures) ∙ c .before .before .if1 .taken) (c .before .grid-of .ensures) (c .body-length .ensures .0) (c .body-length .ensures .1)
+    let kind = the tie.After-kind-of (search) .kind-of .ensures in
+    let settled = the tie.After-settled (search) .settled .ensures in
+    let placed = sym (the tie.After-in-place (search) .in-place .ensures) ∙ the tie.Then1 (search) .if1 .taken in
+    let length = c .body-length .ensures in
+    needs-body settled _ kind placed (c .before .grid-of .ensures) (length .0) (length .1)
 
 returns-2 : tie.Need-returns-2
 returns-2 c =
-    let tests = c .before in
-    needs-none _ (tests .before .settled .result) _ (kindIs (tests .before .before .kind-of .result)) (tests .before .settled .ensures) (tests .before .before .kind-of .ensures) (sym (tests .in-place .ensures) ∙ c .if1 .left)
+    let kind = the tie.After-kind-of (search) .kind-of .ensures in
+    let settled = the tie.After-settled (search) .settled .ensures in
+    needs-none settled _ kind (sym (c .before .in-place .ensures) ∙ c .if1 .left)
 
 pub body-bytes-spec : {M : Type 1} → statement M
 body-bytes-spec =

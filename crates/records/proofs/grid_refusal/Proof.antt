@@ -1,12 +1,19 @@
 -- `records::grid_refusal` meets its contract: the places 1 and 15, in this order.
 -- Assumes nothing.
-use mathlib.Core.Path.{sym, _∙_}
+use mathlib.Core.Bool.{true}
+use mathlib.Core.Path.{_≡_, sym, _∙_}
 use native.Mathlib.Omega.{arith}
+use Rattle.model.specs.Step.{gridFits}
 use Rattle.units.specs.Grid.{gridOf, in-range}
 use Rattle.records.specs.Laws.{refused-range, refused-cells, refused-tracers, taken-grid}
+use Rattle.units.specs.The.{the}
 use borrow.Author.Needs.{needs}
 use Rattle.records.proofs.grid_refusal.Statement.{statement}
 use Rattle.records.proofs.grid_refusal.Tie as tie
+
+-- place 1, where it lets the grid through
+place-1 : (c : tie.Then1) → gridFits (gridOf (the tie.Start (search) .args .g)) ≡ true
+place-1 c = sym (c .before .grid-fits .ensures) ∙ c .if1 .taken
 
 grid-fits-requires : tie.Need-grid-fits-requires
 grid-fits-requires c κs = search needs
@@ -16,36 +23,35 @@ refusal-number-requires c κs = search needs
 
 returns : tie.Need-returns
 returns c =
-    c .refusal-number .ensures ∙
-    sym (refused-range (gridOf (c .before .before .before .args .g)) (sym (c .before .before .grid-fits .ensures) ∙ c .before .if1 .left))
+    let g = gridOf (the tie.Start (search) .args .g) in
+    c .refusal-number .ensures ∙ sym (refused-range g (sym (c .before .before .grid-fits .ensures) ∙ c .before .if1 .left))
 
 world-cells-requires : tie.Need-world-cells-requires
-world-cells-requires c κs = in-range (c .before .before .args .g) (sym (c .before .grid-fits .ensures) ∙ c .if1 .taken)
+world-cells-requires c κs = in-range (c .before .before .args .g) (place-1 c)
 
 fault-number-requires : tie.Need-fault-number-requires
 fault-number-requires c κs = search needs
 
 returns-2 : tie.Need-returns-2
 returns-2 c =
-    let before = c .before .before .before in
-    c .fault-number .ensures ∙
-    sym (refused-cells (gridOf (before .before .before .args .g)) (sym (before .before .grid-fits .ensures) ∙ before .if1 .taken) (omega (arith, c .before .before .world-cells .ensures .0)))
+    let g = gridOf (the tie.Start (search) .args .g) in
+    let cells = the tie.After-world-cells (search) .world-cells .ensures .0 in
+    c .fault-number .ensures ∙ sym (refused-cells g (place-1 (search)) (omega (arith, cells)))
 
 fault-number-requires-2 : tie.Need-fault-number-requires-2
 fault-number-requires-2 c κs = search needs
 
 returns-3 : tie.Need-returns-3
 returns-3 c =
-    let tests = c .before .before .before in
-    let before = tests .before .before in
-    c .fault-number2 .ensures ∙
-    sym (refused-tracers (gridOf (before .before .before .args .g)) (sym (before .before .grid-fits .ensures) ∙ before .if1 .taken) (omega (arith, tests .before .world-cells .ensures .0)) (c .before .if3 .left))
+    let g = gridOf (the tie.Start (search) .args .g) in
+    let cells = the tie.After-world-cells (search) .world-cells .ensures .0 in
+    c .fault-number2 .ensures ∙ sym (refused-tracers g (place-1 (search)) (omega (arith, cells)) (c .before .if3 .left))
 
 returns-4 : tie.Need-returns-4
 returns-4 c =
-    let tests = c .before .before in
-    let before = tests .before .before in
-    sym (taken-grid (gridOf (before .before .before .args .g)) (sym (before .before .grid-fits .ensures) ∙ before .if1 .taken) (omega (arith, tests .before .world-cells .ensures .0)) (c .if3 .taken))
+    let g = gridOf (the tie.Start (search) .args .g) in
+    let cells = the tie.After-world-cells (search) .world-cells .ensures .0 in
+    sym (taken-grid g (place-1 (search)) (omega (arith, cells)) (c .if3 .taken))
 
 pub grid-refusal-spec : {M : Type 1} → statement M
 grid-refusal-spec =

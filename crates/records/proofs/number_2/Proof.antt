@@ -22,7 +22,12 @@ add-result : tie.Need-add-result
 add-result c = omega (arith, c .number-12 .ensures .1, c .before .number-1 .ensures .1)
 
 returns : tie.Need-returns
-returns c = let start = c .before .before .before in (omega (arith, c .number-12 .ensures .0, c .before .number-1 .ensures .0, number-two (start .args .bytes .now) (start .args .at) (start .pre)), omega (arith, c .number-12 .ensures .1, c .before .number-1 .ensures .1))
+returns c =
+    let start = c .before .before .before in
+    let low = c .before .number-1 .ensures in
+    let high = c .number-12 .ensures in
+    let is = number-two (start .args .bytes .now) (start .args .at) (start .pre) in
+    (omega (arith, high .0, low .0, is), omega (arith, high .1, low .1))
 
 pub number-2-spec : {M : Type 1} → statement M
 number-2-spec =

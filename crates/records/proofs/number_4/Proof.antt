@@ -22,7 +22,10 @@ add-result : tie.Need-add-result
 add-result c = omega (arith, c .number-22 .ensures .1, c .before .number-2 .ensures .1)
 
 returns : tie.Need-returns
-returns c = let start = c .before .before .before in omega (arith, c .number-22 .ensures .0, c .before .number-2 .ensures .0, number-four (start .args .bytes .now) (start .args .at) (start .pre))
+returns c =
+    let start = c .before .before .before in
+    let is = number-four (start .args .bytes .now) (start .args .at) (start .pre) in
+    omega (arith, c .number-22 .ensures .0, c .before .number-2 .ensures .0, is)
 
 pub number-4-spec : {M : Type 1} → statement M
 number-4-spec =

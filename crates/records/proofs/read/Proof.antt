@@ -1,14 +1,25 @@
 -- `records::read` meets its contract: the tests in their order, and the body after the kind byte handed to the parser.
 -- Assumes nothing.
-use mathlib.Core.Path.{sym, _∙_}
+use mathlib.Core.List.{[]}
+use mathlib.Core.Bool.{true}
+use mathlib.Core.Path.{_≡_, sym, _∙_}
 use native.Mathlib.Omega.{arith}
 use Rattle.units.specs.Grid.{gridOf}
-use Rattle.records.specs.Stage.{kindIs}
+use Rattle.program.specs.Records.{inPlace}
+use Rattle.records.specs.Stage.{kindIs, plainState}
 use Rattle.records.specs.Laws.{stage-small, parse-need, finds-nothing, finds-misplaced, finds-short, finds-record}
 use Rattle.units.specs.The.{the}
 use borrow.Author.Needs.{needs}
 use Rattle.records.proofs.read.Statement.{statement}
 use Rattle.records.proofs.read.Tie as tie
+
+-- place 13, where it lets the record through
+place-13 :
+    (c : tie.Then2) →
+    let kind = the tie.After-kind-of (search) .kind-of .result in
+    let sound = the tie.After-settled (search) .settled .result in
+    inPlace (plainState sound [] []) (kindIs kind) ≡ true
+place-13 c = sym (c .before .in-place .ensures) ∙ c .if2 .taken
 
 returns : tie.Need-returns
 returns c =
@@ -29,9 +40,10 @@ in-place-requires c κs = search needs
 
 returns-2 : tie.Need-returns-2
 returns-2 c =
-    let start : tie.Start = search in
-    let tests = c .before in
-    finds-misplaced (start .args .stage) (tests .before .settled .result) (start .args .input .now) (kindIs (tests .before .before .kind-of .result)) (tests .before .settled .ensures) (tests .before .before .kind-of .ensures) (search needs) (sym (tests .in-place .ensures) ∙ c .if2 .left)
+    let input = the tie.Start (search) .args .input .now in
+    let kind = the tie.After-kind-of (search) .kind-of .ensures in
+    let settled = the tie.After-settled (search) .settled .ensures in
+    finds-misplaced settled input (search needs) kind (sym (c .before .in-place .ensures) ∙ c .if2 .left)
 
 grid-of-requires : tie.Need-grid-of-requires
 grid-of-requires c κs = search needs
@@ -46,11 +58,12 @@ sub-if3 c = search needs
 
 returns-3 : tie.Need-returns-3
 returns-3 c =
-    let start : tie.Start = search in
-    let kind = the tie.After-kind-of (search) .kind-of in
-    let settled = the tie.After-settled (search) .settled in
-    let placing = the tie.After-in-place (search) .in-place .ensures in
-    finds-short (start .args .stage) (settled .result) (start .args .input .now) (kindIs (kind .result)) (settled .ensures) (kind .ensures) (search needs) (gridOf (c .before .before .grid-of .result)) (c .before .before .grid-of .ensures) (sym placing ∙ c .before .before .before .if2 .taken) (omega (arith, c .before .body-length .ensures .0, c .if3 .left))
+    let input = the tie.Start (search) .args .input .now in
+    let kind = the tie.After-kind-of (search) .kind-of .ensures in
+    let settled = the tie.After-settled (search) .settled .ensures in
+    let grid = the tie.After-grid-of (search) .grid-of .ensures in
+    let length = c .before .body-length .ensures .0 in
+    finds-short settled input (search needs) kind grid (place-13 (search)) (omega (arith, length, c .if3 .left))
 
 sub-parse : tie.Need-sub-parse
 sub-parse c = search needs
@@ -63,21 +76,21 @@ part-parse-end c = search needs
 
 parse-requires : tie.Need-parse-requires
 parse-requires c κs =
-    let start : tie.Start = search in
+    let input = the tie.Start (search) .args .input .now in
     let kind = the tie.After-kind-of (search) .kind-of .result in
-    let placing = the tie.After-in-place (search) .in-place .ensures in
-    let in-place = the tie.Then2 (search) .if2 .taken in
-    parse-need (kindIs kind) (start .args .input .now) _ (gridOf (c .before .before .before .grid-of .result)) (sym placing ∙ in-place) (omega (arith, c .before .before .body-length .ensures .0, c .before .if3 .taken))
+    let grid = the tie.After-grid-of (search) .grid-of .result in
+    let length = the tie.After-body-length (search) .body-length .ensures .0 in
+    parse-need (kindIs kind) input _ (gridOf grid) (place-13 (search)) (omega (arith, length, c .before .if3 .taken))
 
 returns-4 : tie.Need-returns-4
 returns-4 c =
-    let start : tie.Start = search in
-    let kind = the tie.After-kind-of (search) .kind-of in
-    let settled = the tie.After-settled (search) .settled in
-    let placing = the tie.After-in-place (search) .in-place .ensures in
-    let in-place = the tie.Then2 (search) .if2 .taken in
-    let grid = the tie.After-grid-of (search) .grid-of in
-    finds-record (start .args .stage) (settled .result) (start .args .input .now) (kindIs (kind .result)) (settled .ensures) (kind .ensures) (search needs) (gridOf (grid .result)) (grid .ensures) (sym placing ∙ in-place) (omega (arith, c .before .before .before .body-length .ensures .0, c .before .before .if3 .taken)) (c .parse .result) (c .parse .ensures)
+    let input = the tie.Start (search) .args .input .now in
+    let kind = the tie.After-kind-of (search) .kind-of .ensures in
+    let settled = the tie.After-settled (search) .settled .ensures in
+    let grid = the tie.After-grid-of (search) .grid-of .ensures in
+    let length = the tie.After-body-length (search) .body-length .ensures .0 in
+    let enough = c .before .before .if3 .taken in
+    finds-record settled input (search needs) kind grid (place-13 (search)) (omega (arith, length, enough)) (c .parse .ensures)
 
 pub read-spec : {M : Type 1} → statement M
 read-spec =
