@@ -1,4 +1,5 @@
--- `lines::put_decimal` meets its contract. The loop's invariant: the digits of `rest`, put before what stands at `at`, give those of `n` before what stood at `end`.
+-- `lines::put_decimal` meets its contract. The loop's invariant: the digits of `rest`, put before what stands at `at`,
+-- give those of `n` before what stood at `end`.
 -- Assumes nothing.
 use Prim.Native.Nat.{_≤_, _<_, _+_}
 use mathlib.Core.List.{_++_}
@@ -13,7 +14,10 @@ use Rattle.lines.proofs.put_decimal.Tie as tie
 
 abbrev Inv-loop : tie.InvT-loop
 Inv-loop n out₀ end rest₀ at₀ out rest at =
-    (at ≤ end) × (length out ≡ length out₀) × (at + length (decimal n) ≡ end + length (decimal rest)) × (decimal rest ++ drop at out ≡ decimal n ++ drop end out₀)
+    (at ≤ end)
+    × (length out ≡ length out₀)
+    × (at + length (decimal n) ≡ end + length (decimal rest))
+    × (decimal rest ++ drop at out ≡ decimal n ++ drop end out₀)
 
 abbrev μ-loop : tie.MeasureT-loop
 μ-loop n out₀ end rest₀ at₀ out rest at = rest
