@@ -69,7 +69,9 @@ module _ (l : List ℕ) (end : ℕ) (some : 1 ≤ end) (fits : end ≤ length l)
   put-byte b =
       let inside : end - 1 < length l = omega arith in
       let next : suc (end - 1) ≡ end = omega arith in
-      drop-cons (set l (end - 1) b) (end - 1) 0 (rw length-set inside) ∙ rw (getD-set-same l (end - 1) b 0 inside, next, drop-set-lt end l (end - 1) b (omega arith))
+      let put = getD-set-same l (end - 1) b 0 inside in
+      let rest = drop-set-lt end l (end - 1) b (omega arith) in
+      drop-cons (set l (end - 1) b) (end - 1) 0 (rw length-set inside) ∙ rw (put, next, rest)
 
   pub put-digit : (n : ℕ) → 10 ≤ n → decimal (n / 10) ++ drop (end - 1) (set l (end - 1) (48 + n % 10)) ≡ decimal n ++ drop end l
   put-digit n h = rw (put-byte (48 + n % 10), decimal-large n h, append-assoc)
