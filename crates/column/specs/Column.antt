@@ -1,5 +1,4 @@
 -- The remap of one column in lent lists: what the functions require and ensure.
--- Assumes nothing.
 use Prim.Native.Nat.{ℕ, suc, _+_, _-_, _*_, _≤_, _<_}
 use mathlib.Core.List.{List}
 use mathlib.Core.Bool.{Bool}

@@ -1,5 +1,4 @@
 -- A tracer's remap in one column, and the count of pairs: what the functions require and ensure.
--- Assumes nothing.
 use Prim.Native.Nat.{ℕ, suc, _-_, _*_, _≤_, _<_}
 use mathlib.Core.List.{List}
 use mathlib.Core.Bool.{Bool, true, false, _||_}

@@ -1,5 +1,4 @@
 -- What the loops over a column's edges need: the tests of the edges, and the air between them, as the model has them.
--- Assumes nothing.
 use Prim.Native.Nat.{ℕ, suc, _+_, _-_, _*_, _^_, _≤_, _<_}
 use mathlib.Core.List.{List}
 use mathlib.Core.Bool.{Bool, _&&_}

@@ -1,6 +1,5 @@
 -- The pairs of an old and a new layer that share air, as the walk counts them:
 -- those of the new layers passed, and of this one with the old layers passed.
--- Assumes nothing.
 use Prim.Native.Nat.{ℕ, zero, suc, _+_, _-_, _≤_, _<_, min, max}
 use mathlib.Core.List.{List}
 use mathlib.Core.Bool.{Bool, true, false}

@@ -1,5 +1,4 @@
 -- A column's layers, with the mismatches by their ratios, as the model has them.
--- Assumes nothing.
 use Prim.Native.Nat.{ℕ, zero, suc, _+_, _-_, _*_, _≤_, _<_}
 use mathlib.Core.List.{List, _∷_}
 use mathlib.Core.Bool.{Bool, true, false, or-true, _||_, true≢false}

@@ -1,5 +1,4 @@
 -- The walk down a column from edge to edge: where it stands, the steps that it takes, and G at the edge that it passes.
--- Assumes nothing.
 use Prim.Native.Nat.{ℕ, suc, _+_, _*_, _-_, _≤_, _<_}
 use mathlib.Core.List.{List}
 use mathlib.Core.Bool.{Bool}

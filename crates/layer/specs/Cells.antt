@@ -1,5 +1,4 @@
 -- The cells of a layer, each with what enters and what leaves it, and the lists that a substep of a layer works on.
--- Assumes nothing.
 use Prim.Native.Nat.{ℕ, zero, suc, _+_, _*_, _-_, _≤_, _<_}
 use mathlib.Core.List.{List}
 use mathlib.Core.Bool.{Bool, _&&_, and-assoc, and-true}

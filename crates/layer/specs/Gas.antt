@@ -1,5 +1,4 @@
 -- A tracer's pieces in a layer: each cell with the two neighbours that its mismatch is taken from.
--- Assumes nothing.
 use Prim.Native.Nat.{ℕ, suc, _+_, _*_, _-_, _≤_, _<_}
 use mathlib.Core.List.{List}
 use mathlib.Core.Bool.{Bool}

@@ -29,7 +29,9 @@ use Rattle.layer.specs.Cells.{Fit}
 use Rattle.meridional.specs.LayerPlace.{Rooms, LayerFound, lentLayer, layer-lent, layer-long, layer-fit, same-faces, serves-one}
 use Rattle.meridional.specs.LayerTracers.{LayerTracersNeed, sweptTracers, swept-same}
 
-module _ {w : World} {k : ℕ} {fluxes : List ℤ} {up down : List ℕ} {p : Placed} (found : LayerFound w k fluxes up down p) {wide : ℕ} (alike : wide ≡ layerCells (w .grid)) where
+module _
+    {w : World} {k : ℕ} {fluxes : List ℤ} {up down : List ℕ} {p : Placed} (found : LayerFound w k fluxes up down p)
+    {wide : ℕ} (alike : wide ≡ layerCells (w .grid)) where
   abbrev mesh : Mesh
   mesh = layer (w .grid .W) (w .grid .R)
 

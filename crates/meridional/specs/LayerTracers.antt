@@ -93,7 +93,9 @@ module _ {g : Grid} {tracers air : List ℕ} {flow : Flow} {first : ℕ} (need :
   layer-near {t} h same alike = rw (same, alike) (layer-room t h .1)
 
   -- tracer t's layer as it is lent when the tracers before it are swept: what it was
-  module _ {t : ℕ} (h : t < g .N) {now : List ℕ} (e : now ≡ sweptUpTo g tracers air flow first t) {cells wide : ℕ} (same : cells ≡ all) (alike : wide ≡ width) where
+  module _
+      {t : ℕ} (h : t < g .N) {now : List ℕ} (e : now ≡ sweptUpTo g tracers air flow first t) {cells wide : ℕ}
+      (same : cells ≡ all) (alike : wide ≡ width) where
     abbrev lent : List ℕ
     lent = part now (t * cells + first) (t * cells + first + wide - (t * cells + first))
 

@@ -1,5 +1,4 @@
 -- A case: a world, a call, and what `step` gives. One computed test over a table of cases, and the law that a table without failing cases is a theorem of every case in it.
--- Assumes nothing.
 pub mod Marked
 pub mod Further
 pub mod RangeEnds

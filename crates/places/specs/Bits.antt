@@ -1,5 +1,4 @@
 -- The bits of all amounts passed, in one number: none is above it, and it is below a power of two where all are.
--- Assumes nothing.
 use Prim.Native.Nat.{ℕ, zero, suc, _≤_}
 use mathlib.Core.Bool.{Bool, true, false, _&&_}
 use mathlib.Core.Path.{_≡_, refl, _∙_, ap}

@@ -1,5 +1,4 @@
 -- A flux's size, as its two directions.
--- Assumes nothing.
 use Prim.Native.Nat.{ℕ, suc}
 use mathlib.Core.Bool.{Bool, _&&_, and-true}
 use mathlib.Core.Path.{_≡_, ap, ap₂, _∙_}

@@ -1,5 +1,4 @@
 -- Document 01's case P and further inputs of the program, byte by byte, as one table with one theorem about `lines`.
--- Assumes nothing.
 use Prim.Native.Nat.{ℕ}
 use Prim.Native.String.{String}
 use mathlib.Core.List.{List, [], _∷_, _++_, cons≢nil}

@@ -1,5 +1,4 @@
 -- Document 01, "The runner program": for every list of bytes, its records and the lines that the program prints.
--- Assumes nothing.
 use Prim.Native.Nat.{ℕ, zero, suc, _+_}
 use mathlib.Core.List.{List, [], _∷_, _++_}
 use lib.ListN.{take, drop}

@@ -48,7 +48,9 @@ pub record ColumnsGasNeed (gas air table : List ℕ) (cells k : ℕ) : Type 0 wh
   pub total : sum (k * cells) (at gas) ≤ totalLimit
 
 -- ---- the air
-module _ {air table : List ℕ} {cells k : ℕ} (need : ColumnsAirNeed air table cells k) {c : ℕ} (h : c < cells) {now : List ℕ} (upto : Upto k cells (airNew k cells table air) air c now) where
+module _
+    {air table : List ℕ} {cells k : ℕ} (need : ColumnsAirNeed air table cells k) {c : ℕ} (h : c < cells) {now : List ℕ}
+    (upto : Upto k cells (airNew k cells table air) air c now) where
   pub air-room : ColumnNeed now c cells k
   air-room = record { fit = need .columns .fit; few = need .columns .few; place = h; long = upto .long ∙ need .columns .long }
 
@@ -80,7 +82,9 @@ module _ {air table : List ℕ} {cells k : ℕ} (need : ColumnsAirNeed air table
         ap (λ (l : List ℕ). newAir table (airAbove l k) i) same)
 
 -- ---- a tracer
-module _ {gas air table : List ℕ} {cells k : ℕ} (need : ColumnsGasNeed gas air table cells k) {c : ℕ} (h : c < cells) {now : List ℕ} (upto : Upto k cells (gasNew k cells table air gas) gas c now) where
+module _
+    {gas air table : List ℕ} {cells k : ℕ} (need : ColumnsGasNeed gas air table cells k) {c : ℕ} (h : c < cells)
+    {now : List ℕ} (upto : Upto k cells (gasNew k cells table air gas) gas c now) where
   pub gas-room : ColumnNeed now c cells k
   gas-room = record { fit = need .moves .columns .fit; few = need .moves .columns .few; place = h; long = upto .long ∙ need .long }
 

@@ -60,7 +60,9 @@ module _ {air table : List ℕ} {c cells k : ℕ} (need : ReadNeed air table c c
       }
 
 -- edges that serve, as the functions of one column need them
-module _ {air table : List ℕ} {c cells k : ℕ} {a e : List ℕ} (fit : k ≤ mostLayers) (some : 1 ≤ k) (is : IsColumn air table c cells k a e) (edges : Edges k table (columnSum k cells air c)) where
+module _
+    {air table : List ℕ} {c cells k : ℕ} {a e : List ℕ} (fit : k ≤ mostLayers) (some : 1 ≤ k)
+    (is : IsColumn air table c cells k a e) (edges : Edges k table (columnSum k cells air c)) where
   pub column-spans : Spans k a e
   column-spans =
       record {

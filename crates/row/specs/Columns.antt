@@ -1,5 +1,4 @@
 -- The columns of a row as the cells of the ring, and what the functions of a row require.
--- Assumes nothing.
 use Prim.Native.Nat.{ℕ, _+_, _≤_, _<_}
 use mathlib.Core.List.{List}
 use mathlib.Core.Path.{_≡_, refl, sym}

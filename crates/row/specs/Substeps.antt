@@ -1,5 +1,4 @@
 -- The substeps of a row of as many columns as fluxes: what the functions require and ensure, and the chain as loops make it.
--- Assumes nothing.
 use Prim.Native.Nat.{ℕ, suc, _+_, _≤_, _<_}
 use mathlib.Core.List.{List}
 use mathlib.Core.Bool.{Bool, true, false, true≢false}

@@ -1,5 +1,4 @@
 -- A tracer's substep in a row, and in the rows of all tracers: what the functions require and ensure.
--- Assumes nothing.
 use Prim.Native.Nat.{ℕ, _+_, _-_, _≤_, _<_}
 use mathlib.Core.List.{List, []}
 use mathlib.Core.Bool.{Bool, true, false}

@@ -1,5 +1,4 @@
 -- The air and the rows of all tracers after a sweep's substeps: the model's chain.
--- Assumes nothing.
 use Prim.Native.Nat.{ℕ, suc, _+_, _≤_, _<_}
 use mathlib.Core.List.{List}
 use mathlib.Core.Bool.{true}

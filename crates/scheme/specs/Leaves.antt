@@ -1,5 +1,4 @@
 -- The code's mismatch as the model's, and what the leaves of the scheme require and ensure.
--- Assumes nothing.
 use Prim.Native.Nat.{ℕ, _*_, _≤_, _<_}
 use mathlib.Core.Path.{_≡_}
 use lib.IntN.{ℤ}

@@ -1,5 +1,4 @@
 -- A cell with what enters and what leaves it, and a list of amounts as a loop over its cells passes them on; over any mesh.
--- Assumes nothing.
 use Prim.Native.Nat.{ℕ, _+_, _-_, _≤_, _<_}
 use mathlib.Core.List.{List}
 use mathlib.Core.Bool.{Bool, true, false, _&&_}

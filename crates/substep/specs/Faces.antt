@@ -1,5 +1,4 @@
 -- What passes the faces, as two lists of amounts: the parts of the fluxes as a loop fills them, and flows that agree at every face of a mesh.
--- Assumes nothing.
 use Prim.Native.Nat.{ℕ, _+_, _*_, _-_, _≤_, _<_}
 use mathlib.Core.List.{List}
 use mathlib.Core.Bool.{_&&_}

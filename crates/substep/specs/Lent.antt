@@ -1,5 +1,4 @@
 -- A part of a list that is lent as `&s[a..e]` or `&mut s[a..e]` with e = a + w, and put back; and its first w entries.
--- Assumes nothing.
 use Prim.Native.Nat.{ℕ, _+_, _-_, _≤_}
 use mathlib.Core.List.{List, _++_, append-assoc}
 use mathlib.Core.Path.{_≡_, sym, ap, _∙_}

@@ -1,5 +1,4 @@
 -- A tracer's pieces in a substep, over any regular mesh: what a cell may give, and that what was taken is the model's.
--- Assumes nothing.
 use Prim.Native.Nat.{ℕ, _≤_, _<_}
 use mathlib.Core.List.{List}
 use mathlib.Core.Bool.{true}

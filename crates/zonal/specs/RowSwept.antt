@@ -60,7 +60,9 @@ pub record IsSwept (g : Grid) (tracers air : List ℕ) (first : ℕ) (fluxes : L
   pub airIs : afterAir ≡ chain fluxes n air n
   pub tracersAre : after ≡ sweptTracers g tracers air first fluxes n
 
-module _ {g : Grid} {tracers air : List ℕ} {first : ℕ} {fluxes : List ℤ} {n : ℕ} (ready : RowReady g tracers air first fluxes n) {cells : ℕ} (e : cells ≡ worldCells g) where
+module _
+    {g : Grid} {tracers air : List ℕ} {first : ℕ} {fluxes : List ℤ} {n : ℕ} (ready : RowReady g tracers air first fluxes n)
+    {cells : ℕ} (e : cells ≡ worldCells g) where
   -- the rows fit, from the grid
   pub rows-fit : RowsFit tracers first cells (g .W) (g .N)
   rows-fit =

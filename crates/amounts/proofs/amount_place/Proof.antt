@@ -22,15 +22,6 @@ world s = worldOf (s .args .g) (s .args .air .now) (s .args .tracers .now)
 abbrev call : tie.Start → Call
 call s = cell (s .args .tracer) (s .args .cell)
 
-common-places-requires : tie.Need-common-places-requires
-common-places-requires c κs = search needs
-
-number-requires : tie.Need-number-requires
-number-requires c κs = search needs
-
-not-placed-requires : tie.Need-not-placed-requires
-not-placed-requires c κs = search needs
-
 returns : tie.Need-returns
 returns c =
     let tested : tie.After-common-places = search needs in
@@ -45,9 +36,6 @@ passed : (c : tie.Then1) →
 passed c =
     let tested : tie.After-common-places = search needs in
     tested .common-places .ensures .found (sym (c .before .number .ensures) ∙ c .if1 .taken)
-
-not-placed-requires-2 : tie.Need-not-placed-requires-2
-not-placed-requires-2 c κs = search needs
 
 returns-2 : tie.Need-returns-2
 returns-2 c =
@@ -65,9 +53,6 @@ world-cells-requires : tie.Need-world-cells-requires
 world-cells-requires c κs =
     let common : tie.Then1 = search needs in
     in-range _ (passed common .fits .grid)
-
-not-placed-requires-3 : tie.Need-not-placed-requires-3
-not-placed-requires-3 c κs = search needs
 
 returns-3 : tie.Need-returns-3
 returns-3 c =
@@ -88,9 +73,6 @@ room c =
     let cells : tie.After-world-cells = search needs in
     amount-room (passed common .fits) (tracer .if2 .taken) (c .if3 .taken) (cells .world-cells .ensures .0)
 
-cast-first : tie.Need-cast-first
-cast-first c = search needs
-
 mul-first : tie.Need-mul-first
 mul-first c =
     let cell : tie.Then3 = search needs in
@@ -100,9 +82,6 @@ add-first : tie.Need-add-first
 add-first c =
     let cell : tie.Then3 = search needs in
     omega (arith, room cell .1)
-
-mul-total : tie.Need-mul-total
-mul-total c = search needs
 
 array-read-total : tie.Need-array-read-total
 array-read-total c =
@@ -126,18 +105,18 @@ pub amount-place-spec : {M : Type 1} → statement M
 amount-place-spec =
     tie.close
     (tie.spec
-    common-places-requires
-    number-requires
-    not-placed-requires
+    (λ c κs. search needs)  -- common-places-requires
+    (λ c κs. search needs)  -- number-requires
+    (λ c κs. search needs)  -- not-placed-requires
     returns
-    not-placed-requires-2
+    (λ c κs. search needs)  -- not-placed-requires-2
     returns-2
     world-cells-requires
-    not-placed-requires-3
+    (λ c κs. search needs)  -- not-placed-requires-3
     returns-3
-    cast-first
+    (λ c. search needs)  -- cast-first
     mul-first
     add-first
-    mul-total
+    (λ c. search needs)  -- mul-total
     array-read-total
     returns-4)

@@ -8,12 +8,6 @@ use borrow.Author.Needs.{needs}
 use Rattle.amounts.proofs.cell.Statement.{statement}
 use Rattle.amounts.proofs.cell.Tie as tie
 
-amount-place-requires : tie.Need-amount-place-requires
-amount-place-requires c κs = search needs
-
-number-requires : tie.Need-number-requires
-number-requires c κs = search needs
-
 returns : tie.Need-returns
 returns c =
     let place : tie.After-amount-place = search needs in
@@ -46,4 +40,4 @@ returns-2 c =
 pub cell-spec : {M : Type 1} → statement M
 cell-spec =
     tie.close
-    (tie.spec amount-place-requires number-requires returns mul-amount shared-slice-read-amount returns-2)
+    (tie.spec (λ c κs. search needs) (λ c κs. search needs) returns mul-amount shared-slice-read-amount returns-2)

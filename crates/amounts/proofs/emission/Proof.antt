@@ -8,15 +8,6 @@ use borrow.Author.Needs.{needs}
 use Rattle.amounts.proofs.emission.Statement.{statement}
 use Rattle.amounts.proofs.emission.Tie as tie
 
-amount-place-requires : tie.Need-amount-place-requires
-amount-place-requires c κs = search needs
-
-number-requires : tie.Need-number-requires
-number-requires c κs = search needs
-
-same-length : tie.Need-same-length
-same-length c = search needs
-
 returns : tie.Need-returns
 returns c =
     let place : tie.After-amount-place = search needs in
@@ -35,9 +26,6 @@ add-if2 : tie.Need-add-if2
 add-if2 c =
     let accepted : tie.Then1 = search needs in
     omega (arith, found accepted .limit)
-
-same-length-2 : tie.Need-same-length-2
-same-length-2 c = search needs
 
 returns-2 : tie.Need-returns-2
 returns-2 c =
@@ -69,9 +57,6 @@ slice-write-tracers c =
     let accepted : tie.Then1 = search needs in
     found accepted .inside
 
-same-length-3 : tie.Need-same-length-3
-same-length-3 c = search needs
-
 returns-3 : tie.Need-returns-3
 returns-3 c =
     let accepted : tie.Then1 = search needs in
@@ -81,17 +66,17 @@ pub emission-spec : {M : Type 1} → statement M
 emission-spec =
     tie.close
     (tie.spec
-    amount-place-requires
-    number-requires
-    same-length
+    (λ c κs. search needs)  -- amount-place-requires
+    (λ c κs. search needs)  -- number-requires
+    (λ c. search needs)  -- same-length
     returns
     add-if2
-    same-length-2
+    (λ c. search needs)  -- same-length-2
     returns-2
     mul-tracers
     slice-read-tracers
     add-tracers
     mul-tracers-2
     slice-write-tracers
-    same-length-3
+    (λ c. search needs)  -- same-length-3
     returns-3)

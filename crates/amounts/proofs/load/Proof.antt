@@ -5,11 +5,8 @@ use borrow.Author.Needs.{needs}
 use Rattle.amounts.proofs.load.Statement.{statement}
 use Rattle.amounts.proofs.load.Tie as tie
 
-common-places-requires : tie.Need-common-places-requires
-common-places-requires c κs = search needs
-
 returns : tie.Need-returns
 returns c = load-agrees (c .common-places .ensures) _ refl
 
 pub load-spec : {M : Type 1} → statement M
-load-spec = tie.close (tie.spec common-places-requires returns)
+load-spec = tie.close (tie.spec (λ c κs. search needs) returns)

@@ -15,12 +15,6 @@ use Rattle.amounts.proofs.total.Tie as tie
 abbrev world : tie.Start → World
 world s = worldOf (s .args .g) (s .args .air .now) (s .args .tracers .now)
 
-common-places-requires : tie.Need-common-places-requires
-common-places-requires c κs = search needs
-
-number-requires : tie.Need-number-requires
-number-requires c κs = search needs
-
 returns : tie.Need-returns
 returns c =
     let tested : tie.After-common-places = search needs in
@@ -39,9 +33,6 @@ returns-2 : tie.Need-returns-2
 returns-2 c =
     let common : tie.Then1 = search needs in
     refuse (own-left (passed common) refl) (missing (c .if2 .left)) refl
-
-mul-sum : tie.Need-mul-sum
-mul-sum c = search needs
 
 array-read-sum : tie.Need-array-read-sum
 array-read-sum c =
@@ -68,11 +59,11 @@ pub total-spec : {M : Type 1} → statement M
 total-spec =
     tie.close
     (tie.spec
-    common-places-requires
-    number-requires
+    (λ c κs. search needs)  -- common-places-requires
+    (λ c κs. search needs)  -- number-requires
     returns
     returns-2
-    mul-sum
+    (λ c. search needs)  -- mul-sum
     array-read-sum
     cast-sum
     returns-3)

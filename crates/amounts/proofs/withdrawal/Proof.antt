@@ -8,15 +8,6 @@ use borrow.Author.Needs.{needs}
 use Rattle.amounts.proofs.withdrawal.Statement.{statement}
 use Rattle.amounts.proofs.withdrawal.Tie as tie
 
-amount-place-requires : tie.Need-amount-place-requires
-amount-place-requires c κs = search needs
-
-number-requires : tie.Need-number-requires
-number-requires c κs = search needs
-
-same-length : tie.Need-same-length
-same-length c = search needs
-
 returns : tie.Need-returns
 returns c =
     let place : tie.After-amount-place = search needs in
@@ -41,9 +32,6 @@ slice-read-had c =
     let accepted : tie.Then1 = search needs in
     found accepted .inside
 
-same-length-2 : tie.Need-same-length-2
-same-length-2 c = search needs
-
 returns-2 : tie.Need-returns-2
 returns-2 c =
     let accepted : tie.Then1 = search needs in
@@ -59,9 +47,6 @@ slice-write-tracers c =
     let accepted : tie.Then1 = search needs in
     found accepted .inside
 
-same-length-3 : tie.Need-same-length-3
-same-length-3 c = search needs
-
 returns-3 : tie.Need-returns-3
 returns-3 c =
     let accepted : tie.Then1 = search needs in
@@ -71,15 +56,15 @@ pub withdrawal-spec : {M : Type 1} → statement M
 withdrawal-spec =
     tie.close
     (tie.spec
-    amount-place-requires
-    number-requires
-    same-length
+    (λ c κs. search needs)  -- amount-place-requires
+    (λ c κs. search needs)  -- number-requires
+    (λ c. search needs)  -- same-length
     returns
     mul-had
     slice-read-had
-    same-length-2
+    (λ c. search needs)  -- same-length-2
     returns-2
     mul-tracers
     slice-write-tracers
-    same-length-3
+    (λ c. search needs)  -- same-length-3
     returns-3)

@@ -1,5 +1,4 @@
 -- `column::edge_of` meets its contract: b·p is below 2^54.
--- Assumes nothing.
 use Prim.Native.Nat.{_*_}
 use native.Mathlib.Nat.{div-le-self}
 use native.Mathlib.Omega.{arith}
@@ -16,8 +15,5 @@ add-result c =
     let a = c .args in
     omega (arith, product-fits (a .b) (a .p) (omega arith) (omega arith), div-le-self (a .b * a .p) 65536)
 
-returns : tie.Need-returns
-returns c = search needs
-
 pub edge-of-spec : {M : Type 1} → statement M
-edge-of-spec = tie.close (tie.spec mul-result add-result returns)
+edge-of-spec = tie.close (tie.spec mul-result add-result (λ c. search needs))

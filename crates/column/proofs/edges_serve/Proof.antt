@@ -1,5 +1,4 @@
 -- `column::edges_serve` meets its contract. The loop's invariant: the tests passed, of the edges passed.
--- Assumes nothing.
 use Prim.Native.Nat.{ℕ, _-_, _≤_}
 use mathlib.Core.Bool.{_&&_}
 use mathlib.Core.Path.{_≡_, sym, ap, ap₂, _∙_}
@@ -20,30 +19,6 @@ abbrev μ-loop : tie.MeasureT-loop
 
 loop-holds : tie.Need-loop-holds Inv-loop μ-loop
 loop-holds c = (search needs, sym (every-none _))
-
-mul-layer-serves : tie.Need-mul-layer-serves Inv-loop μ-loop
-mul-layer-serves c = search needs
-
-shared-slice-read-layer-serves : tie.Need-shared-slice-read-layer-serves Inv-loop μ-loop
-shared-slice-read-layer-serves c = search needs
-
-add-layer-serves : tie.Need-add-layer-serves Inv-loop μ-loop
-add-layer-serves c = search needs
-
-mul-layer-serves-2 : tie.Need-mul-layer-serves-2 Inv-loop μ-loop
-mul-layer-serves-2 c = search needs
-
-shared-slice-read-layer-serves-2 : tie.Need-shared-slice-read-layer-serves-2 Inv-loop μ-loop
-shared-slice-read-layer-serves-2 c = search needs
-
-layer-serves-requires : tie.Need-layer-serves-requires Inv-loop μ-loop
-layer-serves-requires c κs = search needs
-
-add-j : tie.Need-add-j Inv-loop μ-loop
-add-j c = search needs
-
-loop-less : tie.Need-loop-less Inv-loop μ-loop
-loop-less c = search needs
 
 loop-again : tie.Need-loop-again Inv-loop μ-loop
 loop-again c =
@@ -68,13 +43,13 @@ edges-serve-spec =
     Inv-loop
     μ-loop
     loop-holds
-    mul-layer-serves
-    shared-slice-read-layer-serves
-    add-layer-serves
-    mul-layer-serves-2
-    shared-slice-read-layer-serves-2
-    layer-serves-requires
-    add-j
-    loop-less
+    (λ c. search needs)  -- mul-layer-serves
+    (λ c. search needs)  -- shared-slice-read-layer-serves
+    (λ c. search needs)  -- add-layer-serves
+    (λ c. search needs)  -- mul-layer-serves-2
+    (λ c. search needs)  -- shared-slice-read-layer-serves-2
+    (λ c κs. search needs)  -- layer-serves-requires
+    (λ c. search needs)  -- add-j
+    (λ c. search needs)  -- loop-less
     loop-again
     returns)

@@ -1,5 +1,4 @@
 -- `column::fill_edges` meets its contract. The loop's invariant: the edges passed are the model's.
--- Assumes nothing.
 use Prim.Native.Nat.{ℕ, _+_, _-_, _≤_, _<_}
 use mathlib.Core.Path.{_≡_}
 use native.Mathlib.Omega.{arith}
@@ -21,45 +20,6 @@ abbrev μ-loop : tie.MeasureT-loop
 loop-holds : tie.Need-loop-holds Inv-loop μ-loop
 loop-holds c = (search needs, search needs, λ t h. absurd (omega arith))
 
-add-loop : tie.Need-add-loop Inv-loop μ-loop
-add-loop c = search needs
-
-mul-edge-of : tie.Need-mul-edge-of Inv-loop μ-loop
-mul-edge-of c = search needs
-
-mul-edge-of-2 : tie.Need-mul-edge-of-2 Inv-loop μ-loop
-mul-edge-of-2 c = search needs
-
-shared-slice-read-edge-of : tie.Need-shared-slice-read-edge-of Inv-loop μ-loop
-shared-slice-read-edge-of c = search needs
-
-mul-edge-of-3 : tie.Need-mul-edge-of-3 Inv-loop μ-loop
-mul-edge-of-3 c = search needs
-
-add-edge-of : tie.Need-add-edge-of Inv-loop μ-loop
-add-edge-of c = search needs
-
-mul-edge-of-4 : tie.Need-mul-edge-of-4 Inv-loop μ-loop
-mul-edge-of-4 c = search needs
-
-shared-slice-read-edge-of-2 : tie.Need-shared-slice-read-edge-of-2 Inv-loop μ-loop
-shared-slice-read-edge-of-2 c = search needs
-
-edge-of-requires : tie.Need-edge-of-requires Inv-loop μ-loop
-edge-of-requires c κs = search needs
-
-mul-e : tie.Need-mul-e Inv-loop μ-loop
-mul-e c = search needs
-
-slice-write-e : tie.Need-slice-write-e Inv-loop μ-loop
-slice-write-e c = search needs
-
-add-j : tie.Need-add-j Inv-loop μ-loop
-add-j c = search needs
-
-loop-less : tie.Need-loop-less Inv-loop μ-loop
-loop-less c = search needs
-
 loop-again : tie.Need-loop-again Inv-loop μ-loop
 unfolding edge
 loop-again c =
@@ -69,9 +29,6 @@ loop-again c =
       search needs,
       entries-more 0 (l .e) (l .j) _ (λ t x. x ≡ edge (a .table .now) (a .p) t) (search needs) (l .inv .2) (c .edge-of .ensures),
     )
-
-same-length : tie.Need-same-length Inv-loop μ-loop
-same-length c = search needs
 
 returns : tie.Need-returns Inv-loop μ-loop
 returns c = record { is = λ t h. c .before .loop .inv .2 t (omega arith) }
@@ -83,19 +40,19 @@ fill-edges-spec =
     Inv-loop
     μ-loop
     loop-holds
-    add-loop
-    mul-edge-of
-    mul-edge-of-2
-    shared-slice-read-edge-of
-    mul-edge-of-3
-    add-edge-of
-    mul-edge-of-4
-    shared-slice-read-edge-of-2
-    edge-of-requires
-    mul-e
-    slice-write-e
-    add-j
-    loop-less
+    (λ c. search needs)  -- add-loop
+    (λ c. search needs)  -- mul-edge-of
+    (λ c. search needs)  -- mul-edge-of-2
+    (λ c. search needs)  -- shared-slice-read-edge-of
+    (λ c. search needs)  -- mul-edge-of-3
+    (λ c. search needs)  -- add-edge-of
+    (λ c. search needs)  -- mul-edge-of-4
+    (λ c. search needs)  -- shared-slice-read-edge-of-2
+    (λ c κs. search needs)  -- edge-of-requires
+    (λ c. search needs)  -- mul-e
+    (λ c. search needs)  -- slice-write-e
+    (λ c. search needs)  -- add-j
+    (λ c. search needs)  -- loop-less
     loop-again
-    same-length
+    (λ c. search needs)  -- same-length
     returns)

@@ -1,12 +1,8 @@
 -- `column::layer_serves` meets its contract.
--- Assumes nothing.
 use borrow.Author.Tests.{lt-ltb, le-ltb}
 use borrow.Author.Needs.{needs}
 use Rattle.column.proofs.layer_serves.Statement.{statement}
 use Rattle.column.proofs.layer_serves.Tie as tie
-
-sub-result : tie.Need-sub-result
-sub-result c = search needs
 
 returns : tie.Need-returns
 returns c = simp (lt-ltb _ _ (c .if1 .taken))
@@ -15,4 +11,4 @@ returns-2 : tie.Need-returns-2
 returns-2 c = simp (le-ltb _ _ (c .if1 .left))
 
 pub layer-serves-spec : {M : Type 1} → statement M
-layer-serves-spec = tie.close (tie.spec sub-result returns returns-2)
+layer-serves-spec = tie.close (tie.spec (λ c. search needs) returns returns-2)

@@ -1,5 +1,4 @@
 -- `column::mismatch_at` meets its contract: the cases of `slopeAt`.
--- Assumes nothing.
 use mathlib.Core.Path.{_∙_}
 use native.Mathlib.Omega.{arith}
 use Rattle.column.specs.Slopes.{slope-first, slope-last, slope-inner, not-first}
@@ -13,9 +12,6 @@ returns c =
     let a = c .before .before .args in
     slope-first (a .cap) (a .k) (a .q .now) (a .i) (c .if1 .taken)
 
-add-if2 : tie.Need-add-if2
-add-if2 c = search needs
-
 returns-2 : tie.Need-returns-2
 returns-2 c =
     let a = c .before .before .before .args in
@@ -25,30 +21,6 @@ sub-low : tie.Need-sub-low
 sub-low c =
     let a = c .before .before .before .args in
     omega (arith, not-first (a .cap) (a .k) (a .q .now) (a .i) (c .before .if1 .left))
-
-mul-low : tie.Need-mul-low
-mul-low c = search needs
-
-shared-slice-read-low : tie.Need-shared-slice-read-low
-shared-slice-read-low c = search needs
-
-add-high : tie.Need-add-high
-add-high c = search needs
-
-mul-high : tie.Need-mul-high
-mul-high c = search needs
-
-shared-slice-read-high : tie.Need-shared-slice-read-high
-shared-slice-read-high c = search needs
-
-mul-mismatch : tie.Need-mul-mismatch
-mul-mismatch c = search needs
-
-shared-slice-read-mismatch : tie.Need-shared-slice-read-mismatch
-shared-slice-read-mismatch c = search needs
-
-mismatch-requires : tie.Need-mismatch-requires
-mismatch-requires c κs = search needs
 
 returns-3 : tie.Need-returns-3
 returns-3 c =
@@ -61,15 +33,15 @@ mismatch-at-spec =
     tie.close
     (tie.spec
     returns
-    add-if2
+    (λ c. search needs)  -- add-if2
     returns-2
     sub-low
-    mul-low
-    shared-slice-read-low
-    add-high
-    mul-high
-    shared-slice-read-high
-    mul-mismatch
-    shared-slice-read-mismatch
-    mismatch-requires
+    (λ c. search needs)  -- mul-low
+    (λ c. search needs)  -- shared-slice-read-low
+    (λ c. search needs)  -- add-high
+    (λ c. search needs)  -- mul-high
+    (λ c. search needs)  -- shared-slice-read-high
+    (λ c. search needs)  -- mul-mismatch
+    (λ c. search needs)  -- shared-slice-read-mismatch
+    (λ c κs. search needs)  -- mismatch-requires
     returns-3)

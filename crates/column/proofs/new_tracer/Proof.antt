@@ -33,18 +33,6 @@ loop-holds c =
     let none = above-none (start .args .cap) (start .pre) in
     (place-start (start .pre .column .spans), sym (sum-none _), sym none, search needs, λ t h. absurd (omega arith))
 
-mul-m : tie.Need-mul-m Inv-loop μ-loop
-mul-m c = search needs
-
-shared-slice-read-m : tie.Need-shared-slice-read-m Inv-loop μ-loop
-shared-slice-read-m c = search needs
-
-mul-t : tie.Need-mul-t Inv-loop μ-loop
-mul-t c = search needs
-
-shared-slice-read-t : tie.Need-shared-slice-read-t Inv-loop μ-loop
-shared-slice-read-t c = search needs
-
 cast-lower : tie.Need-cast-lower Inv-loop μ-loop
 cast-lower c =
     let start : tie.Start Inv-loop μ-loop = search in
@@ -57,26 +45,11 @@ add-lower c =
     let l = the (tie.At-loop Inv-loop μ-loop) (search) .loop in
     omega (arith, next-fits (start .pre .column .spans) (l .inv .0))
 
-add-edge : tie.Need-add-edge Inv-loop μ-loop
-add-edge c = search needs
-
-mul-edge : tie.Need-mul-edge Inv-loop μ-loop
-mul-edge c = search needs
-
-shared-slice-read-edge : tie.Need-shared-slice-read-edge Inv-loop μ-loop
-shared-slice-read-edge c = search needs
-
 plus-requires : tie.Need-plus-requires Inv-loop μ-loop
 plus-requires c κs =
     let start : tie.Start Inv-loop μ-loop = search in
     let l = the (tie.At-loop Inv-loop μ-loop) (search) .loop in
     omega (arith, gas-fits (start .args .cap) (start .pre) (l .i) (l .inv .0 .layer), l .inv .1)
-
-add-i : tie.Need-add-i Inv-loop μ-loop
-add-i c = search needs
-
-loop-less : tie.Need-loop-less Inv-loop μ-loop
-loop-less c = search needs
 
 loop-again : tie.Need-loop-again Inv-loop μ-loop
 loop-again c =
@@ -99,9 +72,6 @@ cast-inside c =
     let start : tie.Start Inv-loop μ-loop = search in
     let l = the (tie.At-loop Inv-loop μ-loop) (search) .loop in
     omega (arith, start .pre .column .spans .most (l .i) (l .inv .0 .layer))
-
-mismatch-at-requires : tie.Need-mismatch-at-requires Inv-loop μ-loop
-mismatch-at-requires c κs = search needs
 
 low-piece-requires : tie.Need-low-piece-requires Inv-loop μ-loop
 low-piece-requires c κs =
@@ -136,18 +106,6 @@ minus-requires c κs =
     let l = the (tie.At-loop Inv-loop μ-loop) (search) .loop in
     omega (arith, next-is c, l .inv .2, above-rises (start .args .cap) (start .pre) (l .j) (omega arith))
 
-mul-new : tie.Need-mul-new Inv-loop μ-loop
-mul-new c = search needs
-
-slice-write-new : tie.Need-slice-write-new Inv-loop μ-loop
-slice-write-new c = search needs
-
-add-j : tie.Need-add-j Inv-loop μ-loop
-add-j c = search needs
-
-loop-less-2 : tie.Need-loop-less-2 Inv-loop μ-loop
-loop-less-2 c = search needs
-
 loop-again-2 : tie.Need-loop-again-2 Inv-loop μ-loop
 loop-again-2 c =
     let start : tie.Start Inv-loop μ-loop = search in
@@ -164,9 +122,6 @@ loop-again-2 c =
       entries-more _ (l .new) (l .j) _ is-amount (search needs) (l .inv .4) (c .minus .ensures ∙ ap₂ _-_ next (l .inv .2)),
     )
 
-same-length : tie.Need-same-length Inv-loop μ-loop
-same-length c = search needs
-
 returns : tie.Need-returns Inv-loop μ-loop
 returns c =
     let start : tie.Start Inv-loop μ-loop = search in
@@ -180,29 +135,29 @@ new-tracer-spec =
     Inv-loop
     μ-loop
     loop-holds
-    mul-m
-    shared-slice-read-m
-    mul-t
-    shared-slice-read-t
+    (λ c. search needs)  -- mul-m
+    (λ c. search needs)  -- shared-slice-read-m
+    (λ c. search needs)  -- mul-t
+    (λ c. search needs)  -- shared-slice-read-t
     cast-lower
     add-lower
-    add-edge
-    mul-edge
-    shared-slice-read-edge
+    (λ c. search needs)  -- add-edge
+    (λ c. search needs)  -- mul-edge
+    (λ c. search needs)  -- shared-slice-read-edge
     plus-requires
-    add-i
-    loop-less
+    (λ c. search needs)  -- add-i
+    (λ c. search needs)  -- loop-less
     loop-again
     sub-inside
     cast-inside
-    mismatch-at-requires
+    (λ c κs. search needs)  -- mismatch-at-requires
     low-piece-requires
     plus-requires-2
     minus-requires
-    mul-new
-    slice-write-new
-    add-j
-    loop-less-2
+    (λ c. search needs)  -- mul-new
+    (λ c. search needs)  -- slice-write-new
+    (λ c. search needs)  -- add-j
+    (λ c. search needs)  -- loop-less-2
     loop-again-2
-    same-length
+    (λ c. search needs)  -- same-length
     returns)

@@ -23,12 +23,6 @@ loop-holds c =
     let a = c .before .before .args in
     (place-start (c .before .before .pre), sym (pairs-start (a .k) (a .air .now) (a .e .now)), search needs)
 
-mul-lower : tie.Need-mul-lower Inv-loop μ-loop
-mul-lower c = search needs
-
-shared-slice-read-lower : tie.Need-shared-slice-read-lower Inv-loop μ-loop
-shared-slice-read-lower c = search needs
-
 cast-lower : tie.Need-cast-lower Inv-loop μ-loop
 cast-lower c =
     let start : tie.Start Inv-loop μ-loop = search in
@@ -41,33 +35,6 @@ add-lower c =
     let l = the (tie.At-loop Inv-loop μ-loop) (search) .loop in
     omega (arith, next-fits (start .pre) (l .inv .0))
 
-mul-shared : tie.Need-mul-shared Inv-loop μ-loop
-mul-shared c = search needs
-
-shared-slice-read-shared : tie.Need-shared-slice-read-shared Inv-loop μ-loop
-shared-slice-read-shared c = search needs
-
-shared-requires : tie.Need-shared-requires Inv-loop μ-loop
-shared-requires c κs = search needs
-
-add-count : tie.Need-add-count Inv-loop μ-loop
-add-count c = search needs
-
-add-if1 : tie.Need-add-if1 Inv-loop μ-loop
-add-if1 c = search needs
-
-mul-if1 : tie.Need-mul-if1 Inv-loop μ-loop
-mul-if1 c = search needs
-
-shared-slice-read-if1 : tie.Need-shared-slice-read-if1 Inv-loop μ-loop
-shared-slice-read-if1 c = search needs
-
-add-i : tie.Need-add-i Inv-loop μ-loop
-add-i c = search needs
-
-loop-less : tie.Need-loop-less Inv-loop μ-loop
-loop-less c = search needs
-
 loop-again : tie.Need-loop-again Inv-loop μ-loop
 loop-again c =
     let start : tie.Start Inv-loop μ-loop = search in
@@ -77,12 +44,6 @@ loop-again c =
       pairs-more (start .pre) (l .inv .0) (omega arith) (l .inv .1) more,
       omega (arith, more),
     )
-
-add-j : tie.Need-add-j Inv-loop μ-loop
-add-j c = search needs
-
-loop-less-2 : tie.Need-loop-less-2 Inv-loop μ-loop
-loop-less-2 c = search needs
 
 loop-again-2 : tie.Need-loop-again-2 Inv-loop μ-loop
 loop-again-2 c =
@@ -108,21 +69,21 @@ pairs-spec =
     Inv-loop
     μ-loop
     loop-holds
-    mul-lower
-    shared-slice-read-lower
+    (λ c. search needs)  -- mul-lower
+    (λ c. search needs)  -- shared-slice-read-lower
     cast-lower
     add-lower
-    mul-shared
-    shared-slice-read-shared
-    shared-requires
-    add-count
-    add-if1
-    mul-if1
-    shared-slice-read-if1
-    add-i
-    loop-less
+    (λ c. search needs)  -- mul-shared
+    (λ c. search needs)  -- shared-slice-read-shared
+    (λ c κs. search needs)  -- shared-requires
+    (λ c. search needs)  -- add-count
+    (λ c. search needs)  -- add-if1
+    (λ c. search needs)  -- mul-if1
+    (λ c. search needs)  -- shared-slice-read-if1
+    (λ c. search needs)  -- add-i
+    (λ c. search needs)  -- loop-less
     loop-again
-    add-j
-    loop-less-2
+    (λ c. search needs)  -- add-j
+    (λ c. search needs)  -- loop-less-2
     loop-again-2
     returns)

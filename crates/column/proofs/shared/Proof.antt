@@ -1,5 +1,4 @@
 -- `column::shared` meets its contract.
--- Assumes nothing.
 use native.Mathlib.Omega.{arith}
 use Rattle.column.proofs.shared.Statement.{statement}
 use Rattle.column.proofs.shared.Tie as tie

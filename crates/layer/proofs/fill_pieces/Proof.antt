@@ -1,5 +1,4 @@
 -- `layer::fill_pieces` meets its contract. The loop's invariant: the faces passed have their two pieces.
--- Assumes nothing.
 use Prim.Native.Nat.{_+_, _*_, _-_, _≤_}
 use mathlib.Core.Path.{_≡_, _∙_}
 use native.Mathlib.Omega.{arith}
@@ -24,26 +23,8 @@ Inv-loop air gas q up down w rows high₀ low₀ faces i₀ high low i =
 abbrev μ-loop : tie.MeasureT-loop
 μ-loop air gas q up down w rows high₀ low₀ faces i₀ high low i = w + rows * w - i
 
-mul-faces : tie.Need-mul-faces Inv-loop μ-loop
-mul-faces c = search needs
-
-add-faces : tie.Need-add-faces Inv-loop μ-loop
-add-faces c = search needs
-
 loop-holds : tie.Need-loop-holds Inv-loop μ-loop
 loop-holds c = (search needs, search needs, search needs, same-none _ _)
-
-mul-to-north : tie.Need-mul-to-north Inv-loop μ-loop
-mul-to-north c = search needs
-
-shared-slice-read-to-north : tie.Need-shared-slice-read-to-north Inv-loop μ-loop
-shared-slice-read-to-north c = search needs
-
-mul-to-south : tie.Need-mul-to-south Inv-loop μ-loop
-mul-to-south c = search needs
-
-shared-slice-read-to-south : tie.Need-shared-slice-read-to-south Inv-loop μ-loop
-shared-slice-read-to-south c = search needs
 
 northward-requires : tie.Need-northward-requires Inv-loop μ-loop
 northward-requires c κs =
@@ -57,24 +38,6 @@ southward-requires c κs =
     let l = the (tie.At-loop Inv-loop μ-loop) (search) .loop in
     gives-south (pre .0) (pre .1) (l .i) (omega arith)
 
-mul-high : tie.Need-mul-high Inv-loop μ-loop
-mul-high c = search needs
-
-slice-write-high : tie.Need-slice-write-high Inv-loop μ-loop
-slice-write-high c = search needs
-
-mul-low : tie.Need-mul-low Inv-loop μ-loop
-mul-low c = search needs
-
-slice-write-low : tie.Need-slice-write-low Inv-loop μ-loop
-slice-write-low c = search needs
-
-add-i : tie.Need-add-i Inv-loop μ-loop
-add-i c = search needs
-
-loop-less : tie.Need-loop-less Inv-loop μ-loop
-loop-less c = search needs
-
 loop-again : tie.Need-loop-again Inv-loop μ-loop
 loop-again c =
     let pre = the (tie.Start Inv-loop μ-loop) (search) .pre in
@@ -86,12 +49,6 @@ loop-again c =
           (c .before .northward .ensures ∙ piece-north (pre .0) (pre .1) (l .i) (omega arith))
           (c .southward .ensures ∙ piece-south (pre .0) (pre .1) (l .i) (omega arith)),
     )
-
-same-length : tie.Need-same-length Inv-loop μ-loop
-same-length c = search needs
-
-same-length-2 : tie.Need-same-length-2 Inv-loop μ-loop
-same-length-2 c = search needs
 
 returns : tie.Need-returns Inv-loop μ-loop
 returns c =
@@ -106,22 +63,22 @@ fill-pieces-spec =
     (tie.spec
     Inv-loop
     μ-loop
-    mul-faces
-    add-faces
+    (λ c. search needs)  -- mul-faces
+    (λ c. search needs)  -- add-faces
     loop-holds
-    mul-to-north
-    shared-slice-read-to-north
-    mul-to-south
-    shared-slice-read-to-south
+    (λ c. search needs)  -- mul-to-north
+    (λ c. search needs)  -- shared-slice-read-to-north
+    (λ c. search needs)  -- mul-to-south
+    (λ c. search needs)  -- shared-slice-read-to-south
     northward-requires
     southward-requires
-    mul-high
-    slice-write-high
-    mul-low
-    slice-write-low
-    add-i
-    loop-less
+    (λ c. search needs)  -- mul-high
+    (λ c. search needs)  -- slice-write-high
+    (λ c. search needs)  -- mul-low
+    (λ c. search needs)  -- slice-write-low
+    (λ c. search needs)  -- add-i
+    (λ c. search needs)  -- loop-less
     loop-again
-    same-length
-    same-length-2
+    (λ c. search needs)  -- same-length
+    (λ c. search needs)  -- same-length-2
     returns)

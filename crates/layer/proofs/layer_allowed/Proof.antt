@@ -1,5 +1,4 @@
 -- `layer::layer_allowed` meets its contract: the south cap's test, the rows' and the north cap's are every cell's.
--- Assumes nothing.
 use mathlib.Core.Bool.{_&&_}
 use mathlib.Core.Path.{_∙_}
 use Rattle.substep.specs.Faces.{flowOf}
@@ -9,42 +8,6 @@ use Rattle.units.specs.The.{the}
 use borrow.Author.Needs.{needs}
 use Rattle.layer.proofs.layer_allowed.Statement.{statement}
 use Rattle.layer.proofs.layer_allowed.Tie as tie
-
-mul-n : tie.Need-mul-n
-mul-n c = search needs
-
-add-north : tie.Need-add-north
-add-north c = search needs
-
-shared-slice-read-south-air : tie.Need-shared-slice-read-south-air
-shared-slice-read-south-air c = search needs
-
-mul-north-air : tie.Need-mul-north-air
-mul-north-air c = search needs
-
-shared-slice-read-north-air : tie.Need-shared-slice-read-north-air
-shared-slice-read-north-air c = search needs
-
-cap-sum-requires : tie.Need-cap-sum-requires
-cap-sum-requires c κs = search needs
-
-cap-sum-requires-2 : tie.Need-cap-sum-requires-2
-cap-sum-requires-2 c κs = search needs
-
-cell-allows-requires : tie.Need-cell-allows-requires
-cell-allows-requires c κs = search needs
-
-cap-sum-requires-3 : tie.Need-cap-sum-requires-3
-cap-sum-requires-3 c κs = search needs
-
-cap-sum-requires-4 : tie.Need-cap-sum-requires-4
-cap-sum-requires-4 c κs = search needs
-
-cell-allows-requires-2 : tie.Need-cell-allows-requires-2
-cell-allows-requires-2 c κs = search needs
-
-rows-allow-requires : tie.Need-rows-allow-requires
-rows-allow-requires c κs = search needs
 
 returns : tie.Need-returns
 returns c =
@@ -65,16 +28,16 @@ pub layer-allowed-spec : {M : Type 1} → statement M
 layer-allowed-spec =
     tie.close
     (tie.spec
-    mul-n
-    add-north
-    shared-slice-read-south-air
-    mul-north-air
-    shared-slice-read-north-air
-    cap-sum-requires
-    cap-sum-requires-2
-    cell-allows-requires
-    cap-sum-requires-3
-    cap-sum-requires-4
-    cell-allows-requires-2
-    rows-allow-requires
+    (λ c. search needs)  -- mul-n
+    (λ c. search needs)  -- add-north
+    (λ c. search needs)  -- shared-slice-read-south-air
+    (λ c. search needs)  -- mul-north-air
+    (λ c. search needs)  -- shared-slice-read-north-air
+    (λ c κs. search needs)  -- cap-sum-requires
+    (λ c κs. search needs)  -- cap-sum-requires-2
+    (λ c κs. search needs)  -- cell-allows-requires
+    (λ c κs. search needs)  -- cap-sum-requires-3
+    (λ c κs. search needs)  -- cap-sum-requires-4
+    (λ c κs. search needs)  -- cell-allows-requires-2
+    (λ c κs. search needs)  -- rows-allow-requires
     returns)

@@ -1,5 +1,4 @@
 -- `layer::northward` meets its contract: a cap is its own neighbour on both sides.
--- Assumes nothing.
 use mathlib.Core.Path.{_∙_}
 use native.Mathlib.Omega.{arith}
 use Rattle.substep.specs.Pieces.{piece-high}
@@ -8,9 +7,6 @@ use Rattle.units.specs.The.{the}
 use borrow.Author.Needs.{needs}
 use Rattle.layer.proofs.northward.Statement.{statement}
 use Rattle.layer.proofs.northward.Tie as tie
-
-south-of-requires : tie.Need-south-of-requires
-south-of-requires c κs = search needs
 
 high-end-requires : tie.Need-high-end-requires
 high-end-requires c κs =
@@ -25,15 +21,6 @@ returns c =
     let a = start .args in
     let near = south-cap-near (a .w) (a .rows) (a .i) (omega arith) in
     rw (c .before .before .south-of .ensures) at (c .high-end .ensures) ∙ piece-high (start .pre .ratios) near _
-
-south-of-requires-2 : tie.Need-south-of-requires-2
-south-of-requires-2 c κs = search needs
-
-mul-north-of : tie.Need-mul-north-of
-mul-north-of c = search needs
-
-north-of-requires : tie.Need-north-of-requires
-north-of-requires c κs = search needs
 
 high-end-requires-2 : tie.Need-high-end-requires-2
 high-end-requires-2 c κs =
@@ -56,11 +43,11 @@ pub northward-spec : {M : Type 1} → statement M
 northward-spec =
     tie.close
     (tie.spec
-    south-of-requires
+    (λ c κs. search needs)  -- south-of-requires
     high-end-requires
     returns
-    south-of-requires-2
-    mul-north-of
-    north-of-requires
+    (λ c κs. search needs)  -- south-of-requires-2
+    (λ c. search needs)  -- mul-north-of
+    (λ c κs. search needs)  -- north-of-requires
     high-end-requires-2
     returns-2)

@@ -1,5 +1,4 @@
 -- `layer::pass_layer` meets its contract: the south cap is passed on, then the rows, then the north cap.
--- Assumes nothing.
 use Prim.Native.Nat.{_+_, _*_}
 use mathlib.Core.Path.{_≡_}
 use native.Mathlib.Omega.{arith}
@@ -12,21 +11,6 @@ use Rattle.units.specs.The.{the}
 use borrow.Author.Needs.{needs}
 use Rattle.layer.proofs.pass_layer.Statement.{statement}
 use Rattle.layer.proofs.pass_layer.Tie as tie
-
-mul-n : tie.Need-mul-n
-mul-n c = search needs
-
-add-north : tie.Need-add-north
-add-north c = search needs
-
-slice-read-amount-after : tie.Need-slice-read-amount-after
-slice-read-amount-after c = search needs
-
-cap-sum-requires : tie.Need-cap-sum-requires
-cap-sum-requires c κs = search needs
-
-cap-sum-requires-2 : tie.Need-cap-sum-requires-2
-cap-sum-requires-2 c κs = search needs
 
 amount-after-requires : tie.Need-amount-after-requires
 amount-after-requires c κs =
@@ -49,16 +33,10 @@ begun c =
     south-cell (a .w) (a .rows) (a .up .now) (a .down .now) (c .before .before .cap-sum .ensures) (c .before .cap-sum2 .ensures) in
     begin (start .pre .1) cell (c .amount-after .ensures)
 
-slice-write-amounts : tie.Need-slice-write-amounts
-slice-write-amounts c = search needs
-
 pass-rows-requires : tie.Need-pass-rows-requires
 pass-rows-requires c κs =
     let fit = the tie.Start (search) .pre .0 in
     (record { size = fit .size; long = simp length-set (fit .long); faces = fit .faces }, begun (c .before))
-
-mul-amount-after : tie.Need-mul-amount-after
-mul-amount-after c = search needs
 
 slice-read-amount-after-2 : tie.Need-slice-read-amount-after-2
 slice-read-amount-after-2 c =
@@ -67,12 +45,6 @@ slice-read-amount-after-2 c =
     let rows-passed = the tie.After-pass-rows (search) .pass-rows .ensures in
     omega (arith, rows-passed (begun south) .long, start .pre .0 .long)
 
-cap-sum-requires-3 : tie.Need-cap-sum-requires-3
-cap-sum-requires-3 c κs = search needs
-
-cap-sum-requires-4 : tie.Need-cap-sum-requires-4
-cap-sum-requires-4 c κs = search needs
-
 amount-after-requires-2 : tie.Need-amount-after-requires-2
 amount-after-requires-2 c κs =
     let a = the tie.Start (search) .args in
@@ -80,9 +52,6 @@ amount-after-requires-2 c κs =
     let rows-passed = the tie.After-pass-rows (search) .pass-rows .ensures in
     let cell = north-cell (a .w) (a .rows) (a .up .now) (a .down .now) (c .before .cap-sum3 .ensures) (c .cap-sum4 .ensures) in
     moved-exchange (begun south .moves) (rows-passed (begun south)) cell
-
-mul-amounts : tie.Need-mul-amounts
-mul-amounts c = search needs
 
 slice-write-amounts-2 : tie.Need-slice-write-amounts-2
 slice-write-amounts-2 c =
@@ -113,20 +82,20 @@ pub pass-layer-spec : {M : Type 1} → statement M
 pass-layer-spec =
     tie.close
     (tie.spec
-    mul-n
-    add-north
-    slice-read-amount-after
-    cap-sum-requires
-    cap-sum-requires-2
+    (λ c. search needs)  -- mul-n
+    (λ c. search needs)  -- add-north
+    (λ c. search needs)  -- slice-read-amount-after
+    (λ c κs. search needs)  -- cap-sum-requires
+    (λ c κs. search needs)  -- cap-sum-requires-2
     amount-after-requires
-    slice-write-amounts
+    (λ c. search needs)  -- slice-write-amounts
     pass-rows-requires
-    mul-amount-after
+    (λ c. search needs)  -- mul-amount-after
     slice-read-amount-after-2
-    cap-sum-requires-3
-    cap-sum-requires-4
+    (λ c κs. search needs)  -- cap-sum-requires-3
+    (λ c κs. search needs)  -- cap-sum-requires-4
     amount-after-requires-2
-    mul-amounts
+    (λ c. search needs)  -- mul-amounts
     slice-write-amounts-2
     same-length
     returns)

@@ -1,5 +1,4 @@
 -- `layer::pass_rows` meets its contract. The loop's invariant: the south cap and the cells passed have their amount afterwards, the others what they had.
--- Assumes nothing.
 use Prim.Native.Nat.{_+_, _*_, _-_, _≤_}
 use mathlib.Core.Path.{_≡_}
 use native.Mathlib.Omega.{arith}
@@ -22,53 +21,8 @@ Inv-loop amounts₀ up down w rows n j₀ amounts j =
 abbrev μ-loop : tie.MeasureT-loop
 μ-loop amounts₀ up down w rows n j₀ amounts j = rows * w - j
 
-mul-n : tie.Need-mul-n Inv-loop μ-loop
-mul-n c = search needs
-
 loop-holds : tie.Need-loop-holds Inv-loop μ-loop
 loop-holds c = (search needs, search needs, λ b. b .moved)
-
-add-c : tie.Need-add-c Inv-loop μ-loop
-add-c c = search needs
-
-add-h : tie.Need-add-h Inv-loop μ-loop
-add-h c = search needs
-
-mul-amount-after : tie.Need-mul-amount-after Inv-loop μ-loop
-mul-amount-after c = search needs
-
-slice-read-amount-after : tie.Need-slice-read-amount-after Inv-loop μ-loop
-slice-read-amount-after c = search needs
-
-mul-both : tie.Need-mul-both Inv-loop μ-loop
-mul-both c = search needs
-
-shared-slice-read-both : tie.Need-shared-slice-read-both Inv-loop μ-loop
-shared-slice-read-both c = search needs
-
-mul-both-2 : tie.Need-mul-both-2 Inv-loop μ-loop
-mul-both-2 c = search needs
-
-shared-slice-read-both-2 : tie.Need-shared-slice-read-both-2 Inv-loop μ-loop
-shared-slice-read-both-2 c = search needs
-
-both-requires : tie.Need-both-requires Inv-loop μ-loop
-both-requires c κs = search needs
-
-mul-both-3 : tie.Need-mul-both-3 Inv-loop μ-loop
-mul-both-3 c = search needs
-
-shared-slice-read-both-3 : tie.Need-shared-slice-read-both-3 Inv-loop μ-loop
-shared-slice-read-both-3 c = search needs
-
-mul-both-4 : tie.Need-mul-both-4 Inv-loop μ-loop
-mul-both-4 c = search needs
-
-shared-slice-read-both-4 : tie.Need-shared-slice-read-both-4 Inv-loop μ-loop
-shared-slice-read-both-4 c = search needs
-
-both-requires-2 : tie.Need-both-requires-2 Inv-loop μ-loop
-both-requires-2 c κs = search needs
 
 amount-after-requires : tie.Need-amount-after-requires Inv-loop μ-loop
 amount-after-requires c κs =
@@ -80,18 +34,6 @@ amount-after-requires c κs =
     let cell = row-cell (a .w) (a .rows) (a .up .now) (a .down .now) (l .j) (omega arith) enters (c .both2 .ensures .0) in
     moved-exchange (begun .moves) (l .inv .2 begun) cell
 
-mul-amounts : tie.Need-mul-amounts Inv-loop μ-loop
-mul-amounts c = search needs
-
-slice-write-amounts : tie.Need-slice-write-amounts Inv-loop μ-loop
-slice-write-amounts c = search needs
-
-add-j : tie.Need-add-j Inv-loop μ-loop
-add-j c = search needs
-
-loop-less : tie.Need-loop-less Inv-loop μ-loop
-loop-less c = search needs
-
 loop-again : tie.Need-loop-again Inv-loop μ-loop
 loop-again c =
     let a = the (tie.Start Inv-loop μ-loop) (search) .args in
@@ -101,9 +43,6 @@ loop-again c =
     let cell = row-cell (a .w) (a .rows) (a .up .now) (a .down .now) (l .j) (omega arith) enters leaves in
     let next : 1 + l .j + 1 ≡ 1 + (l .j + 1) = omega arith in
     (search needs, search needs, λ b. rw next at (moved-more (b .moves) (l .inv .2 b) cell (c .amount-after .ensures)))
-
-same-length : tie.Need-same-length Inv-loop μ-loop
-same-length c = search needs
 
 returns : tie.Need-returns Inv-loop μ-loop
 returns c =
@@ -118,27 +57,27 @@ pass-rows-spec =
     (tie.spec
     Inv-loop
     μ-loop
-    mul-n
+    (λ c. search needs)  -- mul-n
     loop-holds
-    add-c
-    add-h
-    mul-amount-after
-    slice-read-amount-after
-    mul-both
-    shared-slice-read-both
-    mul-both-2
-    shared-slice-read-both-2
-    both-requires
-    mul-both-3
-    shared-slice-read-both-3
-    mul-both-4
-    shared-slice-read-both-4
-    both-requires-2
+    (λ c. search needs)  -- add-c
+    (λ c. search needs)  -- add-h
+    (λ c. search needs)  -- mul-amount-after
+    (λ c. search needs)  -- slice-read-amount-after
+    (λ c. search needs)  -- mul-both
+    (λ c. search needs)  -- shared-slice-read-both
+    (λ c. search needs)  -- mul-both-2
+    (λ c. search needs)  -- shared-slice-read-both-2
+    (λ c κs. search needs)  -- both-requires
+    (λ c. search needs)  -- mul-both-3
+    (λ c. search needs)  -- shared-slice-read-both-3
+    (λ c. search needs)  -- mul-both-4
+    (λ c. search needs)  -- shared-slice-read-both-4
+    (λ c κs. search needs)  -- both-requires-2
     amount-after-requires
-    mul-amounts
-    slice-write-amounts
-    add-j
-    loop-less
+    (λ c. search needs)  -- mul-amounts
+    (λ c. search needs)  -- slice-write-amounts
+    (λ c. search needs)  -- add-j
+    (λ c. search needs)  -- loop-less
     loop-again
-    same-length
+    (λ c. search needs)  -- same-length
     returns)

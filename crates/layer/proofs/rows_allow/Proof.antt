@@ -1,5 +1,4 @@
 -- `layer::rows_allow` meets its contract. The loop's invariant: `ok` is the test of the cells passed.
--- Assumes nothing.
 use Prim.Native.Nat.{_+_, _*_, _-_, _≤_}
 use mathlib.Core.Bool.{_&&_}
 use mathlib.Core.Path.{_≡_, sym, _∙_, ap₂}
@@ -21,62 +20,8 @@ Inv-loop air up down w rows n ok₀ j₀ ok j = (j ≤ rows * w) × (ok ≡ ever
 abbrev μ-loop : tie.MeasureT-loop
 μ-loop air up down w rows n ok₀ j₀ ok j = rows * w - j
 
-mul-n : tie.Need-mul-n Inv-loop μ-loop
-mul-n c = search needs
-
 loop-holds : tie.Need-loop-holds Inv-loop μ-loop
 loop-holds c = (search needs, sym (every-none _))
-
-add-c : tie.Need-add-c Inv-loop μ-loop
-add-c c = search needs
-
-add-h : tie.Need-add-h Inv-loop μ-loop
-add-h c = search needs
-
-mul-have : tie.Need-mul-have Inv-loop μ-loop
-mul-have c = search needs
-
-shared-slice-read-have : tie.Need-shared-slice-read-have Inv-loop μ-loop
-shared-slice-read-have c = search needs
-
-mul-both : tie.Need-mul-both Inv-loop μ-loop
-mul-both c = search needs
-
-shared-slice-read-both : tie.Need-shared-slice-read-both Inv-loop μ-loop
-shared-slice-read-both c = search needs
-
-mul-both-2 : tie.Need-mul-both-2 Inv-loop μ-loop
-mul-both-2 c = search needs
-
-shared-slice-read-both-2 : tie.Need-shared-slice-read-both-2 Inv-loop μ-loop
-shared-slice-read-both-2 c = search needs
-
-both-requires : tie.Need-both-requires Inv-loop μ-loop
-both-requires c κs = search needs
-
-mul-both-3 : tie.Need-mul-both-3 Inv-loop μ-loop
-mul-both-3 c = search needs
-
-shared-slice-read-both-3 : tie.Need-shared-slice-read-both-3 Inv-loop μ-loop
-shared-slice-read-both-3 c = search needs
-
-mul-both-4 : tie.Need-mul-both-4 Inv-loop μ-loop
-mul-both-4 c = search needs
-
-shared-slice-read-both-4 : tie.Need-shared-slice-read-both-4 Inv-loop μ-loop
-shared-slice-read-both-4 c = search needs
-
-both-requires-2 : tie.Need-both-requires-2 Inv-loop μ-loop
-both-requires-2 c κs = search needs
-
-cell-allows-requires : tie.Need-cell-allows-requires Inv-loop μ-loop
-cell-allows-requires c κs = search needs
-
-add-j : tie.Need-add-j Inv-loop μ-loop
-add-j c = search needs
-
-loop-less : tie.Need-loop-less Inv-loop μ-loop
-loop-less c = search needs
 
 loop-again : tie.Need-loop-again Inv-loop μ-loop
 loop-again c =
@@ -100,24 +45,24 @@ rows-allow-spec =
     (tie.spec
     Inv-loop
     μ-loop
-    mul-n
+    (λ c. search needs)  -- mul-n
     loop-holds
-    add-c
-    add-h
-    mul-have
-    shared-slice-read-have
-    mul-both
-    shared-slice-read-both
-    mul-both-2
-    shared-slice-read-both-2
-    both-requires
-    mul-both-3
-    shared-slice-read-both-3
-    mul-both-4
-    shared-slice-read-both-4
-    both-requires-2
-    cell-allows-requires
-    add-j
-    loop-less
+    (λ c. search needs)  -- add-c
+    (λ c. search needs)  -- add-h
+    (λ c. search needs)  -- mul-have
+    (λ c. search needs)  -- shared-slice-read-have
+    (λ c. search needs)  -- mul-both
+    (λ c. search needs)  -- shared-slice-read-both
+    (λ c. search needs)  -- mul-both-2
+    (λ c. search needs)  -- shared-slice-read-both-2
+    (λ c κs. search needs)  -- both-requires
+    (λ c. search needs)  -- mul-both-3
+    (λ c. search needs)  -- shared-slice-read-both-3
+    (λ c. search needs)  -- mul-both-4
+    (λ c. search needs)  -- shared-slice-read-both-4
+    (λ c κs. search needs)  -- both-requires-2
+    (λ c κs. search needs)  -- cell-allows-requires
+    (λ c. search needs)  -- add-j
+    (λ c. search needs)  -- loop-less
     loop-again
     returns)

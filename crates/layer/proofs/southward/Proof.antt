@@ -1,5 +1,4 @@
 -- `layer::southward` meets its contract: a cap is its own neighbour on both sides.
--- Assumes nothing.
 use mathlib.Core.Path.{_∙_}
 use native.Mathlib.Omega.{arith}
 use Rattle.substep.specs.Pieces.{piece-low}
@@ -8,12 +7,6 @@ use Rattle.units.specs.The.{the}
 use borrow.Author.Needs.{needs}
 use Rattle.layer.proofs.southward.Statement.{statement}
 use Rattle.layer.proofs.southward.Tie as tie
-
-mul-n : tie.Need-mul-n
-mul-n c = search needs
-
-north-of-requires : tie.Need-north-of-requires
-north-of-requires c κs = search needs
 
 low-end-requires : tie.Need-low-end-requires
 low-end-requires c κs =
@@ -28,15 +21,6 @@ returns c =
     let a = start .args in
     let near = north-cap-near (a .w) (a .rows) (a .i) (omega arith) in
     rw (c .before .before .north-of .ensures) at (c .low-end .ensures) ∙ piece-low (start .pre .ratios) near _
-
-south-of-requires : tie.Need-south-of-requires
-south-of-requires c κs = search needs
-
-add-north-of : tie.Need-add-north-of
-add-north-of c = search needs
-
-north-of-requires-2 : tie.Need-north-of-requires-2
-north-of-requires-2 c κs = search needs
 
 low-end-requires-2 : tie.Need-low-end-requires-2
 low-end-requires-2 c κs =
@@ -59,12 +43,12 @@ pub southward-spec : {M : Type 1} → statement M
 southward-spec =
     tie.close
     (tie.spec
-    mul-n
-    north-of-requires
+    (λ c. search needs)  -- mul-n
+    (λ c κs. search needs)  -- north-of-requires
     low-end-requires
     returns
-    south-of-requires
-    add-north-of
-    north-of-requires-2
+    (λ c κs. search needs)  -- south-of-requires
+    (λ c. search needs)  -- add-north-of
+    (λ c κs. search needs)  -- north-of-requires-2
     low-end-requires-2
     returns-2)

@@ -1,5 +1,4 @@
 -- `layer::step_layer_gas` meets its contract: all pieces are taken, and then passed on.
--- Assumes nothing.
 use Prim.Native.Nat.{ℕ}
 use mathlib.Core.Path.{sym, subst, _∙_}
 use native.Mathlib.Omega.{arith}
@@ -38,18 +37,6 @@ pass-layer-requires c κs =
       gas-moves (layer-regular (a .w) (a .rows)) need pieces,
     )
 
-same-length : tie.Need-same-length
-same-length c = search needs
-
-same-length-2 : tie.Need-same-length-2
-same-length-2 c = search needs
-
-same-length-3 : tie.Need-same-length-3
-same-length-3 c = search needs
-
-same-length-4 : tie.Need-same-length-4
-same-length-4 c = search needs
-
 returns : tie.Need-returns
 returns c =
     let start : tie.Start = search in
@@ -63,8 +50,8 @@ step-layer-gas-spec =
     fill-ratios-requires
     fill-pieces-requires
     pass-layer-requires
-    same-length
-    same-length-2
-    same-length-3
-    same-length-4
+    (λ c. search needs)  -- same-length
+    (λ c. search needs)  -- same-length-2
+    (λ c. search needs)  -- same-length-3
+    (λ c. search needs)  -- same-length-4
     returns)

@@ -11,9 +11,6 @@ layer-cells-requires c κs =
     let start : tie.Start = search in
     start .pre .range
 
-cast-end : tie.Need-cast-end
-cast-end c = search needs
-
 add-end : tie.Need-add-end
 add-end c =
     let start : tie.Start = search in
@@ -31,26 +28,11 @@ fill-parts-requires c κs =
       last = omega arith;
     }
 
-mul-layer-allowed : tie.Need-mul-layer-allowed
-mul-layer-allowed c = search needs
-
-sub-layer-allowed : tie.Need-sub-layer-allowed
-sub-layer-allowed c = search needs
-
-part-layer-allowed-start : tie.Need-part-layer-allowed-start
-part-layer-allowed-start c = search needs
-
 part-layer-allowed-end : tie.Need-part-layer-allowed-end
 part-layer-allowed-end c =
     let wide : tie.After-layer-cells = search in
     let start : tie.Start = search in
     omega (arith, wide .layer-cells .ensures .0, start .pre .inside)
-
-cast-layer-allowed : tie.Need-cast-layer-allowed
-cast-layer-allowed c = search needs
-
-cast-layer-allowed-2 : tie.Need-cast-layer-allowed-2
-cast-layer-allowed-2 c = search needs
 
 layer-allowed-requires : tie.Need-layer-allowed-requires
 layer-allowed-requires c κs =
@@ -60,12 +42,6 @@ layer-allowed-requires c κs =
     let same = wide .layer-cells .ensures .0 in
     let rooms = start .pre .rooms in
     layer-fit _ same _ _ (start .pre .range) (record { high = omega arith; low = omega arith }) (omega (arith, start .pre .inside))
-
-same-length : tie.Need-same-length
-same-length c = search needs
-
-same-length-2 : tie.Need-same-length-2
-same-length-2 c = search needs
 
 returns : tie.Need-returns
 returns c =
@@ -79,16 +55,16 @@ layer-permits-spec =
     tie.close
     (tie.spec
     layer-cells-requires
-    cast-end
+    (λ c. search needs)  -- cast-end
     add-end
     fill-parts-requires
-    mul-layer-allowed
-    sub-layer-allowed
-    part-layer-allowed-start
+    (λ c. search needs)  -- mul-layer-allowed
+    (λ c. search needs)  -- sub-layer-allowed
+    (λ c. search needs)  -- part-layer-allowed-start
     part-layer-allowed-end
-    cast-layer-allowed
-    cast-layer-allowed-2
+    (λ c. search needs)  -- cast-layer-allowed
+    (λ c. search needs)  -- cast-layer-allowed-2
     layer-allowed-requires
-    same-length
-    same-length-2
+    (λ c. search needs)  -- same-length
+    (λ c. search needs)  -- same-length-2
     returns)

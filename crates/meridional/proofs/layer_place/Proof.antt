@@ -27,15 +27,6 @@ call s = meridional (s .args .layer) (s .args .fluxes .now)
 abbrev LeftAt : tie.Start → (ℕ → List ℤ → List Place) → Type 0
 LeftAt s from = Left (world s) (Like (world s) (call s)) (from (s .args .layer) (s .args .fluxes .now))
 
-common-places-requires : tie.Need-common-places-requires
-common-places-requires c κs = search needs
-
-number-requires : tie.Need-number-requires
-number-requires c κs = search needs
-
-not-placed-requires : tie.Need-not-placed-requires
-not-placed-requires c κs = search needs
-
 returns : tie.Need-returns
 returns c =
     let no : tie.Else1 = search in
@@ -51,9 +42,6 @@ passed c =
     let tested : tie.After-common-places = search in
     tested .common-places .ensures .found (sym (c .before .number .ensures) ∙ c .if1 .taken)
 
-not-placed-requires-2 : tie.Need-not-placed-requires-2
-not-placed-requires-2 c κs = search needs
-
 returns-2 : tie.Need-returns-2
 returns-2 c =
     let no : tie.Else2 = search in
@@ -65,12 +53,6 @@ past-layer : (c : tie.Then2) → let s : tie.Start = search in LeftAt s fromFlux
 past-layer c =
     let common : tie.Then1 = search in
     next (own-left (passed common) refl) (there (c .if2 .taken))
-
-fluxes-fit-requires : tie.Need-fluxes-fit-requires
-fluxes-fit-requires c κs = search needs
-
-not-placed-requires-3 : tie.Need-not-placed-requires-3
-not-placed-requires-3 c κs = search needs
 
 returns-3 : tie.Need-returns-3
 returns-3 c =
@@ -89,9 +71,6 @@ layer-start-requires c κs =
     let layer : tie.Then2 = search in
     let common : tie.Then1 = search in
     record { range = in-range _ (passed common .fits .grid); layer = layer .if2 .taken }
-
-cast-first : tie.Need-cast-first
-cast-first c = search needs
 
 fluxes-long : (c : tie.Then1) → let s : tie.Start = search in length (s .args .fluxes .now) ≡ world s .grid .W * (world s .grid .R + 1)
 fluxes-long c = eqb-true _ _ (passed c .lentFit)
@@ -117,27 +96,12 @@ serving c =
     let at : tie.After-layer-start = search in
     sym (rw (at .layer-start .ensures .0) at (c .layer-permits .ensures .serving))
 
-not-placed-requires-4 : tie.Need-not-placed-requires-4
-not-placed-requires-4 c κs = search needs
-
-same-length : tie.Need-same-length
-same-length c = search needs
-
-same-length-2 : tie.Need-same-length-2
-same-length-2 c = search needs
-
 returns-4 : tie.Need-returns-4
 returns-4 c =
     let no : tie.Else4 = search in
     let permit : tie.After-layer-permits = search in
     let fluxes : tie.Then3 = search in
     stop (past-fluxes fluxes) (fails (serving permit) (no .if4 .left)) (c .not-placed4 .ensures) refl
-
-same-length-3 : tie.Need-same-length-3
-same-length-3 c = search needs
-
-same-length-4 : tie.Need-same-length-4
-same-length-4 c = search needs
 
 returns-5 : tie.Need-returns-5
 returns-5 c =
@@ -158,22 +122,22 @@ pub layer-place-spec : {M : Type 1} → statement M
 layer-place-spec =
     tie.close
     (tie.spec
-    common-places-requires
-    number-requires
-    not-placed-requires
+    (λ c κs. search needs)  -- common-places-requires
+    (λ c κs. search needs)  -- number-requires
+    (λ c κs. search needs)  -- not-placed-requires
     returns
-    not-placed-requires-2
+    (λ c κs. search needs)  -- not-placed-requires-2
     returns-2
-    fluxes-fit-requires
-    not-placed-requires-3
+    (λ c κs. search needs)  -- fluxes-fit-requires
+    (λ c κs. search needs)  -- not-placed-requires-3
     returns-3
     layer-start-requires
-    cast-first
+    (λ c. search needs)  -- cast-first
     layer-permits-requires
-    not-placed-requires-4
-    same-length
-    same-length-2
+    (λ c κs. search needs)  -- not-placed-requires-4
+    (λ c. search needs)  -- same-length
+    (λ c. search needs)  -- same-length-2
     returns-4
-    same-length-3
-    same-length-4
+    (λ c. search needs)  -- same-length-3
+    (λ c. search needs)  -- same-length-4
     returns-5)

@@ -9,24 +9,6 @@ use borrow.Author.Needs.{needs}
 use Rattle.meridional.proofs.meridional.Statement.{statement}
 use Rattle.meridional.proofs.meridional.Tie as tie
 
-slice-aggregate-layer-place : tie.Need-slice-aggregate-layer-place
-slice-aggregate-layer-place c = search needs
-
-slice-aggregate-layer-place-2 : tie.Need-slice-aggregate-layer-place-2
-slice-aggregate-layer-place-2 c = search needs
-
-layer-place-requires : tie.Need-layer-place-requires
-layer-place-requires c κs = search needs
-
-number-requires : tie.Need-number-requires
-number-requires c κs = search needs
-
-same-length : tie.Need-same-length
-same-length c = search needs
-
-same-length-2 : tie.Need-same-length-2
-same-length-2 c = search needs
-
 returns : tie.Need-returns
 returns c =
     let place : tie.After-layer-place = search in
@@ -41,9 +23,6 @@ layer-cells-requires : tie.Need-layer-cells-requires
 layer-cells-requires c κs =
     let place : tie.After-layer-place = search in
     in-range _ (place .layer-place .ensures .found (accepted c) .fits .grid)
-
-cast-end : tie.Need-cast-end
-cast-end c = search needs
 
 add-end : tie.Need-add-end
 add-end c =
@@ -60,12 +39,6 @@ mul-sweep-tracers c =
     let found = place .layer-place .ensures .found (accepted yes) in
     omega (arith, layer-near found (wide .layer-cells .ensures .0))
 
-sub-sweep-tracers : tie.Need-sub-sweep-tracers
-sub-sweep-tracers c = search needs
-
-part-sweep-tracers-start : tie.Need-part-sweep-tracers-start
-part-sweep-tracers-start c = search needs
-
 part-sweep-tracers-end : tie.Need-part-sweep-tracers-end
 part-sweep-tracers-end c =
     let wide : tie.After-layer-cells = search in
@@ -73,12 +46,6 @@ part-sweep-tracers-end c =
     let place : tie.After-layer-place = search in
     let found = place .layer-place .ensures .found (accepted yes) in
     layer-in-air found (wide .layer-cells .ensures .0)
-
-slice-aggregate-sweep-tracers : tie.Need-slice-aggregate-sweep-tracers
-slice-aggregate-sweep-tracers c = search needs
-
-slice-aggregate-sweep-tracers-2 : tie.Need-slice-aggregate-sweep-tracers-2
-slice-aggregate-sweep-tracers-2 c = search needs
 
 sweep-tracers-requires : tie.Need-sweep-tracers-requires
 sweep-tracers-requires c κs =
@@ -96,12 +63,6 @@ mul-pass-layer c =
     let found = place .layer-place .ensures .found (accepted yes) in
     omega (arith, layer-near found (wide .layer-cells .ensures .0))
 
-sub-pass-layer : tie.Need-sub-pass-layer
-sub-pass-layer c = search needs
-
-part-pass-layer-start : tie.Need-part-pass-layer-start
-part-pass-layer-start c = search needs
-
 part-pass-layer-end : tie.Need-part-pass-layer-end
 part-pass-layer-end c =
     let wide : tie.After-layer-cells = search in
@@ -110,18 +71,6 @@ part-pass-layer-end c =
     let found = place .layer-place .ensures .found (accepted yes) in
     layer-in-air found (wide .layer-cells .ensures .0)
 
-slice-aggregate-pass-layer : tie.Need-slice-aggregate-pass-layer
-slice-aggregate-pass-layer c = search needs
-
-slice-aggregate-pass-layer-2 : tie.Need-slice-aggregate-pass-layer-2
-slice-aggregate-pass-layer-2 c = search needs
-
-cast-pass-layer : tie.Need-cast-pass-layer
-cast-pass-layer c = search needs
-
-cast-pass-layer-2 : tie.Need-cast-pass-layer-2
-cast-pass-layer-2 c = search needs
-
 pass-layer-requires : tie.Need-pass-layer-requires
 pass-layer-requires c κs =
     let wide : tie.After-layer-cells = search in
@@ -129,12 +78,6 @@ pass-layer-requires c κs =
     let place : tie.After-layer-place = search in
     let found = place .layer-place .ensures .found (accepted yes) in
     air-need found (wide .layer-cells .ensures .0) (record { high = search needs; low = search needs })
-
-same-length-3 : tie.Need-same-length-3
-same-length-3 c = search needs
-
-same-length-4 : tie.Need-same-length-4
-same-length-4 c = search needs
 
 returns-2 : tie.Need-returns-2
 returns-2 c =
@@ -150,32 +93,32 @@ pub meridional-spec : {M : Type 1} → statement M
 meridional-spec =
     tie.close
     (tie.spec
-    slice-aggregate-layer-place
-    slice-aggregate-layer-place-2
-    layer-place-requires
-    number-requires
-    same-length
-    same-length-2
+    (λ c. search needs)  -- slice-aggregate-layer-place
+    (λ c. search needs)  -- slice-aggregate-layer-place-2
+    (λ c κs. search needs)  -- layer-place-requires
+    (λ c κs. search needs)  -- number-requires
+    (λ c. search needs)  -- same-length
+    (λ c. search needs)  -- same-length-2
     returns
     layer-cells-requires
-    cast-end
+    (λ c. search needs)  -- cast-end
     add-end
     mul-sweep-tracers
-    sub-sweep-tracers
-    part-sweep-tracers-start
+    (λ c. search needs)  -- sub-sweep-tracers
+    (λ c. search needs)  -- part-sweep-tracers-start
     part-sweep-tracers-end
-    slice-aggregate-sweep-tracers
-    slice-aggregate-sweep-tracers-2
+    (λ c. search needs)  -- slice-aggregate-sweep-tracers
+    (λ c. search needs)  -- slice-aggregate-sweep-tracers-2
     sweep-tracers-requires
     mul-pass-layer
-    sub-pass-layer
-    part-pass-layer-start
+    (λ c. search needs)  -- sub-pass-layer
+    (λ c. search needs)  -- part-pass-layer-start
     part-pass-layer-end
-    slice-aggregate-pass-layer
-    slice-aggregate-pass-layer-2
-    cast-pass-layer
-    cast-pass-layer-2
+    (λ c. search needs)  -- slice-aggregate-pass-layer
+    (λ c. search needs)  -- slice-aggregate-pass-layer-2
+    (λ c. search needs)  -- cast-pass-layer
+    (λ c. search needs)  -- cast-pass-layer-2
     pass-layer-requires
-    same-length-3
-    same-length-4
+    (λ c. search needs)  -- same-length-3
+    (λ c. search needs)  -- same-length-4
     returns-2)

@@ -24,24 +24,15 @@ Inv-loop g tracers₀ air up down first n wide cells q₀ high₀ low₀ t₀ tr
 abbrev μ-loop : tie.MeasureT-loop
 μ-loop g tracers₀ air up down first n wide cells q₀ high₀ low₀ t₀ tracers q high low t = n - t
 
-cast-n : tie.Need-cast-n Inv-loop μ-loop
-cast-n c = search needs
-
 layer-cells-requires : tie.Need-layer-cells-requires Inv-loop μ-loop
 layer-cells-requires c κs =
     let start : tie.Start Inv-loop μ-loop = search in
     start .pre .1 .range
 
-cast-wide : tie.Need-cast-wide Inv-loop μ-loop
-cast-wide c = search needs
-
 world-cells-requires : tie.Need-world-cells-requires Inv-loop μ-loop
 world-cells-requires c κs =
     let start : tie.Start Inv-loop μ-loop = search in
     start .pre .1 .range
-
-cast-cells : tie.Need-cast-cells Inv-loop μ-loop
-cast-cells c = search needs
 
 loop-holds : tie.Need-loop-holds Inv-loop μ-loop
 loop-holds c =
@@ -73,12 +64,6 @@ add-e c = omega (arith, end-near c)
 mul-step-layer-gas : tie.Need-mul-step-layer-gas Inv-loop μ-loop
 mul-step-layer-gas c = omega (arith, end-near c)
 
-sub-step-layer-gas : tie.Need-sub-step-layer-gas Inv-loop μ-loop
-sub-step-layer-gas c = search needs
-
-part-step-layer-gas-start : tie.Need-part-step-layer-gas-start Inv-loop μ-loop
-part-step-layer-gas-start c = search needs
-
 part-step-layer-gas-end : tie.Need-part-step-layer-gas-end Inv-loop μ-loop
 part-step-layer-gas-end c =
     let at : tie.At-loop Inv-loop μ-loop = search in
@@ -86,21 +71,6 @@ part-step-layer-gas-end c =
     let wide : tie.After-layer-cells Inv-loop μ-loop = search in
     let start : tie.Start Inv-loop μ-loop = search in
     lent-inside (start .pre .1) (c .loop-test .taken) (at .loop .inv .1) (cells .world-cells .ensures .0) (wide .layer-cells .ensures .0)
-
-cast-step-layer-gas : tie.Need-cast-step-layer-gas Inv-loop μ-loop
-cast-step-layer-gas c = search needs
-
-cast-step-layer-gas-2 : tie.Need-cast-step-layer-gas-2 Inv-loop μ-loop
-cast-step-layer-gas-2 c = search needs
-
-slice-aggregate-step-layer-gas : tie.Need-slice-aggregate-step-layer-gas Inv-loop μ-loop
-slice-aggregate-step-layer-gas c = search needs
-
-slice-aggregate-step-layer-gas-2 : tie.Need-slice-aggregate-step-layer-gas-2 Inv-loop μ-loop
-slice-aggregate-step-layer-gas-2 c = search needs
-
-slice-aggregate-step-layer-gas-3 : tie.Need-slice-aggregate-step-layer-gas-3 Inv-loop μ-loop
-slice-aggregate-step-layer-gas-3 c = search needs
 
 step-layer-gas-requires : tie.Need-step-layer-gas-requires Inv-loop μ-loop
 step-layer-gas-requires c κs =
@@ -112,12 +82,6 @@ step-layer-gas-requires c κs =
     let inv = at .loop .inv in
     let gas = lent-need (start .pre .1) (turn .loop-test .taken) (inv .1) (cells .world-cells .ensures .0) (wide .layer-cells .ensures .0) in
     step-need (start .pre .1 .range) (start .pre .0) (inv .2) (inv .3) (inv .4) gas
-
-add-t : tie.Need-add-t Inv-loop μ-loop
-add-t c = search needs
-
-loop-less : tie.Need-loop-less Inv-loop μ-loop
-loop-less c = search needs
 
 loop-again : tie.Need-loop-again Inv-loop μ-loop
 loop-again c =
@@ -150,27 +114,27 @@ sweep-tracers-spec =
     (tie.spec
     Inv-loop
     μ-loop
-    cast-n
+    (λ c. search needs)  -- cast-n
     layer-cells-requires
-    cast-wide
+    (λ c. search needs)  -- cast-wide
     world-cells-requires
-    cast-cells
+    (λ c. search needs)  -- cast-cells
     loop-holds
     mul-a
     add-a
     add-e
     mul-step-layer-gas
-    sub-step-layer-gas
-    part-step-layer-gas-start
+    (λ c. search needs)  -- sub-step-layer-gas
+    (λ c. search needs)  -- part-step-layer-gas-start
     part-step-layer-gas-end
-    cast-step-layer-gas
-    cast-step-layer-gas-2
-    slice-aggregate-step-layer-gas
-    slice-aggregate-step-layer-gas-2
-    slice-aggregate-step-layer-gas-3
+    (λ c. search needs)  -- cast-step-layer-gas
+    (λ c. search needs)  -- cast-step-layer-gas-2
+    (λ c. search needs)  -- slice-aggregate-step-layer-gas
+    (λ c. search needs)  -- slice-aggregate-step-layer-gas-2
+    (λ c. search needs)  -- slice-aggregate-step-layer-gas-3
     step-layer-gas-requires
-    add-t
-    loop-less
+    (λ c. search needs)  -- add-t
+    (λ c. search needs)  -- loop-less
     loop-again
     same-length
     returns)

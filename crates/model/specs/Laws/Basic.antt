@@ -1,5 +1,4 @@
 -- Laws of the words of Basic.antt: sums, lists of values, every, some, smallest, a part of a list and a part written.
--- Assumes nothing.
 use Prim.Native.Nat.{ℕ, zero, suc, _+_, _*_, _-_, _≤_, _<_}
 use mathlib.Core.List.{List, [], _∷_, _++_, append-assoc}
 use mathlib.Core.Bool.{Bool, true, false, and-eq-true-iff, or-true, _&&_, _||_, false≢true}

@@ -1,5 +1,4 @@
 -- What the laws of a sweep need of its mesh: that faces and cells meet, and that what leaves a cell enters another.
--- Assumes nothing.
 use Prim.Native.Nat.{ℕ, _+_, _*_, _≤_, _<_}
 use mathlib.Core.Path.{_≡_, refl, _∙_}
 use native.Mathlib.Omega.{arith}

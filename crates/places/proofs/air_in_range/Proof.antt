@@ -1,5 +1,4 @@
 -- `places::air_in_range` meets its contract.
--- Assumes nothing.
 use mathlib.Core.Path.{refl}
 use Rattle.places.proofs.air_in_range.Statement.{statement}
 use Rattle.places.proofs.air_in_range.Tie as tie

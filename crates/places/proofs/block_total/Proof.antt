@@ -1,6 +1,5 @@
 -- `places::block_total` meets its contract. The loop's invariant: where no amount passed has a bit above the last 20,
 -- each half's sum is that of its amounts passed.
--- Assumes nothing.
 use Prim.Native.Nat.{ℕ, _+_, _-_, _/_, _≤_, _<_}
 use mathlib.Core.Path.{_≡_, refl}
 use native.Mathlib.Omega.{arith}
@@ -22,33 +21,6 @@ abbrev μ-loop : tie.MeasureT-loop
 loop-holds : tie.Need-loop-holds Inv-loop μ-loop
 loop-holds c = (search needs, λ h. (block-none _, block-none _))
 
-mul-x : tie.Need-mul-x Inv-loop μ-loop
-mul-x c = search needs
-
-shared-slice-read-x : tie.Need-shared-slice-read-x Inv-loop μ-loop
-shared-slice-read-x c = search needs
-
-add-y : tie.Need-add-y Inv-loop μ-loop
-add-y c = search needs
-
-mul-y : tie.Need-mul-y Inv-loop μ-loop
-mul-y c = search needs
-
-shared-slice-read-y : tie.Need-shared-slice-read-y Inv-loop μ-loop
-shared-slice-read-y c = search needs
-
-wrapping-add-u32-requires : tie.Need-wrapping-add-u32-requires Inv-loop μ-loop
-wrapping-add-u32-requires c κs = search needs
-
-wrapping-add-u32-requires-2 : tie.Need-wrapping-add-u32-requires-2 Inv-loop μ-loop
-wrapping-add-u32-requires-2 c κs = search needs
-
-add-i : tie.Need-add-i Inv-loop μ-loop
-add-i c = search needs
-
-loop-less : tie.Need-loop-less Inv-loop μ-loop
-loop-less c = search needs
-
 loop-again : tie.Need-loop-again Inv-loop μ-loop
 loop-again c =
     let start : tie.Start Inv-loop μ-loop = search in
@@ -66,29 +38,8 @@ loop-again c =
           ),
     )
 
-wide-total-requires : tie.Need-wide-total-requires Inv-loop μ-loop
-wide-total-requires c κs = search needs
-
 returns : tie.Need-returns Inv-loop μ-loop
 returns c = c .wide-total .ensures
-
-add-end : tie.Need-add-end Inv-loop μ-loop
-add-end c = search needs
-
-mul-wide-total : tie.Need-mul-wide-total Inv-loop μ-loop
-mul-wide-total c = search needs
-
-sub-wide-total : tie.Need-sub-wide-total Inv-loop μ-loop
-sub-wide-total c = search needs
-
-part-wide-total-start : tie.Need-part-wide-total-start Inv-loop μ-loop
-part-wide-total-start c = search needs
-
-part-wide-total-end : tie.Need-part-wide-total-end Inv-loop μ-loop
-part-wide-total-end c = search needs
-
-wide-total-requires-2 : tie.Need-wide-total-requires-2 Inv-loop μ-loop
-wide-total-requires-2 c κs = search needs
 
 cast-result : tie.Need-cast-result Inv-loop μ-loop
 cast-result c =
@@ -126,24 +77,24 @@ block-total-spec =
     Inv-loop
     μ-loop
     loop-holds
-    mul-x
-    shared-slice-read-x
-    add-y
-    mul-y
-    shared-slice-read-y
-    wrapping-add-u32-requires
-    wrapping-add-u32-requires-2
-    add-i
-    loop-less
+    (λ c. search needs)  -- mul-x
+    (λ c. search needs)  -- shared-slice-read-x
+    (λ c. search needs)  -- add-y
+    (λ c. search needs)  -- mul-y
+    (λ c. search needs)  -- shared-slice-read-y
+    (λ c κs. search needs)  -- wrapping-add-u32-requires
+    (λ c κs. search needs)  -- wrapping-add-u32-requires-2
+    (λ c. search needs)  -- add-i
+    (λ c. search needs)  -- loop-less
     loop-again
-    wide-total-requires
+    (λ c κs. search needs)  -- wide-total-requires
     returns
-    add-end
-    mul-wide-total
-    sub-wide-total
-    part-wide-total-start
-    part-wide-total-end
-    wide-total-requires-2
+    (λ c. search needs)  -- add-end
+    (λ c. search needs)  -- mul-wide-total
+    (λ c. search needs)  -- sub-wide-total
+    (λ c. search needs)  -- part-wide-total-start
+    (λ c. search needs)  -- part-wide-total-end
+    (λ c κs. search needs)  -- wide-total-requires-2
     cast-result
     cast-result-2
     add-result

@@ -13,12 +13,6 @@ use Rattle.places.proofs.common_places.Tie as tie
 abbrev world : tie.Start → World
 world s = worldOf (s .args .g) (s .args .air .now) (s .args .tracers .now)
 
-grid-fits-requires : tie.Need-grid-fits-requires
-grid-fits-requires c κs = search needs
-
-refused-requires : tie.Need-refused-requires
-refused-requires c κs = search needs
-
 returns : tie.Need-returns
 returns c =
     let no : tie.Else1 = search needs in
@@ -33,9 +27,6 @@ past-grid c = next (all-left _ _) (fits (c .before .grid-fits .ensures) (c .if1 
 
 lengths-fit-requires : tie.Need-lengths-fit-requires
 lengths-fit-requires c κs = in-ranges c
-
-refused-requires-2 : tie.Need-refused-requires-2
-refused-requires-2 c κs = search needs
 
 returns-2 : tie.Need-returns-2
 returns-2 c =
@@ -53,12 +44,6 @@ past-lengths c =
     let grid : tie.Then1 = search needs in
     next (past-grid grid) (fits (c .before .lengths-fit .ensures) (c .if2 .taken))
 
-air-fits-requires : tie.Need-air-fits-requires
-air-fits-requires c κs = search needs
-
-refused-requires-3 : tie.Need-refused-requires-3
-refused-requires-3 c κs = search needs
-
 returns-3 : tie.Need-returns-3
 returns-3 c =
     let no : tie.Else3 = search needs in
@@ -71,16 +56,10 @@ past-air c =
     let lengths : tie.Then2 = search needs in
     next (past-lengths lengths) (fits (c .before .air-fits .ensures) (c .if3 .taken))
 
-cast-n : tie.Need-cast-n
-cast-n c = search needs
-
 world-cells-requires : tie.Need-world-cells-requires
 world-cells-requires c κs =
     let grid : tie.Then1 = search needs in
     in-ranges grid
-
-cast-totals : tie.Need-cast-totals
-cast-totals c = search needs
 
 totals-requires : tie.Need-totals-requires
 totals-requires c κs =
@@ -93,9 +72,6 @@ totals-fit-requires : tie.Need-totals-fit-requires
 totals-fit-requires c κs =
     let grid : tie.Then1 = search needs in
     in-ranges grid .highN
-
-refused-requires-4 : tie.Need-refused-requires-4
-refused-requires-4 c κs = search needs
 
 returns-4 : tie.Need-returns-4
 returns-4 c =
@@ -131,20 +107,20 @@ pub common-places-spec : {M : Type 1} → statement M
 common-places-spec =
     tie.close
     (tie.spec
-    grid-fits-requires
-    refused-requires
+    (λ c κs. search needs)  -- grid-fits-requires
+    (λ c κs. search needs)  -- refused-requires
     returns
     lengths-fit-requires
-    refused-requires-2
+    (λ c κs. search needs)  -- refused-requires-2
     returns-2
-    air-fits-requires
-    refused-requires-3
+    (λ c κs. search needs)  -- air-fits-requires
+    (λ c κs. search needs)  -- refused-requires-3
     returns-3
-    cast-n
+    (λ c. search needs)  -- cast-n
     world-cells-requires
-    cast-totals
+    (λ c. search needs)  -- cast-totals
     totals-requires
     totals-fit-requires
-    refused-requires-4
+    (λ c κs. search needs)  -- refused-requires-4
     returns-4
     returns-5)

@@ -1,5 +1,4 @@
 -- `places::flux_fits` meets its contract: one of the two directions is 0.
--- Assumes nothing.
 use mathlib.Core.Path.{_≡_}
 use mir.Syntax.{w32}
 use mir.Val.{toZ, ofZ}
@@ -9,9 +8,6 @@ use borrow.Author.Needs.{needs}
 use Rattle.places.proofs.flux_fits.Statement.{statement}
 use Rattle.places.proofs.flux_fits.Tie as tie
 
-split-requires : tie.Need-split-requires
-split-requires c κs = search needs
-
 returns : tie.Need-returns
 returns c =
     let start : tie.Start = search in
@@ -20,4 +16,4 @@ returns c =
     size-fits (start .args .f) (start .args .limit .0) _ _ (rw same at (halves .high)) (rw same at (halves .low))
 
 pub flux-fits-spec : {M : Type 1} → statement M
-flux-fits-spec = tie.close (tie.spec split-requires returns)
+flux-fits-spec = tie.close (tie.spec (λ c κs. search needs) returns)

@@ -1,5 +1,4 @@
 -- `places::fluxes_fit` meets its contract. The loop's invariant: `ok` is the test of every flux passed.
--- Assumes nothing.
 use Prim.Native.Nat.{ℕ, _≤_, _-_}
 use mathlib.Core.Bool.{_&&_}
 use mathlib.Core.Path.{_≡_, sym, _∙_, ap, ap₂}
@@ -26,21 +25,6 @@ abbrev μ-loop : tie.MeasureT-loop
 loop-holds : tie.Need-loop-holds Inv-loop μ-loop
 loop-holds c = (search needs, sym (every-none _))
 
-mul-f : tie.Need-mul-f Inv-loop μ-loop
-mul-f c = search needs
-
-shared-slice-copy-out-f : tie.Need-shared-slice-copy-out-f Inv-loop μ-loop
-shared-slice-copy-out-f c = search needs
-
-flux-fits-requires : tie.Need-flux-fits-requires Inv-loop μ-loop
-flux-fits-requires c κs = search needs
-
-add-i : tie.Need-add-i Inv-loop μ-loop
-add-i c = search needs
-
-loop-less : tie.Need-loop-less Inv-loop μ-loop
-loop-less c = search needs
-
 loop-again : tie.Need-loop-again Inv-loop μ-loop
 loop-again c =
     let fluxes = the (tie.Start Inv-loop μ-loop) (search) .args .fluxes .now in
@@ -63,10 +47,10 @@ fluxes-fit-spec =
     Inv-loop
     μ-loop
     loop-holds
-    mul-f
-    shared-slice-copy-out-f
-    flux-fits-requires
-    add-i
-    loop-less
+    (λ c. search needs)  -- mul-f
+    (λ c. search needs)  -- shared-slice-copy-out-f
+    (λ c κs. search needs)  -- flux-fits-requires
+    (λ c. search needs)  -- add-i
+    (λ c. search needs)  -- loop-less
     loop-again
     returns)

@@ -1,5 +1,4 @@
 -- `places::gas_total` meets its contract: the sum of the blocks passed is the sum of their amounts.
--- Assumes nothing.
 use Prim.Native.Nat.{ℕ, _*_, _-_, _≤_}
 use mathlib.Core.Path.{_≡_, sym, _∙_, ap}
 use native.Mathlib.Omega.{arith}
@@ -20,21 +19,6 @@ abbrev μ-loop : tie.MeasureT-loop
 
 loop-holds : tie.Need-loop-holds Inv-loop μ-loop
 loop-holds c = (search needs, sym (sum-none _), search needs)
-
-block-end-requires : tie.Need-block-end-requires Inv-loop μ-loop
-block-end-requires c κs = search needs
-
-mul-block-total : tie.Need-mul-block-total Inv-loop μ-loop
-mul-block-total c = search needs
-
-sub-block-total : tie.Need-sub-block-total Inv-loop μ-loop
-sub-block-total c = search needs
-
-part-block-total-start : tie.Need-part-block-total-start Inv-loop μ-loop
-part-block-total-start c = search needs
-
-part-block-total-end : tie.Need-part-block-total-end Inv-loop μ-loop
-part-block-total-end c = search needs
 
 -- the block that is lent is as long as it is meant to be
 block-size :
@@ -58,9 +42,6 @@ add-sum c =
     let e = c .before .before .block-end in
     omega (arith, block-size (search), c .block-total .ensures .small, e .ensures .0, e .ensures .1)
 
-loop-less : tie.Need-loop-less Inv-loop μ-loop
-loop-less c = search needs
-
 loop-again : tie.Need-loop-again Inv-loop μ-loop
 loop-again c =
     let gas = the (tie.Start Inv-loop μ-loop) (search) .args .gas .now in
@@ -82,13 +63,13 @@ gas-total-spec =
     Inv-loop
     μ-loop
     loop-holds
-    block-end-requires
-    mul-block-total
-    sub-block-total
-    part-block-total-start
-    part-block-total-end
+    (λ c κs. search needs)  -- block-end-requires
+    (λ c. search needs)  -- mul-block-total
+    (λ c. search needs)  -- sub-block-total
+    (λ c. search needs)  -- part-block-total-start
+    (λ c. search needs)  -- part-block-total-end
     block-total-requires
     add-sum
-    loop-less
+    (λ c. search needs)  -- loop-less
     loop-again
     returns)

@@ -1,49 +1,15 @@
 -- `places::lent_fits` meets its contract: each case's length against the grid's.
--- Assumes nothing.
 use native.Mathlib.Nat.{mul-le-mul}
 use native.Mathlib.Omega.{arith}
 use borrow.Author.Needs.{needs}
 use Rattle.places.proofs.lent_fits.Statement.{statement}
 use Rattle.places.proofs.lent_fits.Tie as tie
 
-cast-w : tie.Need-cast-w
-cast-w c = search needs
-
-cast-rows : tie.Need-cast-rows
-cast-rows c = search needs
-
-cast-k : tie.Need-cast-k
-cast-k c = search needs
-
-enum-told : tie.Need-enum-told
-enum-told c = search needs
-
-enum-known-lent : tie.Need-enum-known-lent
-enum-known-lent c = search needs
-
-enum-known-lent-2 : tie.Need-enum-known-lent-2
-enum-known-lent-2 c = search needs
-
-add-result : tie.Need-add-result
-add-result c = search needs
-
 mul-result : tie.Need-mul-result
 mul-result c =
     let start : tie.Start = search in
     let g = start .pre in
     record { fits = omega (arith, mul-le-mul (g .highW) (g .highR), g .highW) }
-
-enum-known-lent-3 : tie.Need-enum-known-lent-3
-enum-known-lent-3 c = search needs
-
-add-result-2 : tie.Need-add-result-2
-add-result-2 c = search needs
-
-mul-result-2 : tie.Need-mul-result-2
-mul-result-2 c = search needs
-
-returns : tie.Need-returns
-returns c = search needs
 
 returns-2 : tie.Need-returns-2
 returns-2 c = cc
@@ -58,18 +24,18 @@ pub lent-fits-spec : {M : Type 1} → statement M
 lent-fits-spec =
     tie.close
     (tie.spec
-    cast-w
-    cast-rows
-    cast-k
-    enum-told
-    enum-known-lent
-    enum-known-lent-2
-    add-result
+    (λ c. search needs)  -- cast-w
+    (λ c. search needs)  -- cast-rows
+    (λ c. search needs)  -- cast-k
+    (λ c. search needs)  -- enum-told
+    (λ c. search needs)  -- enum-known-lent
+    (λ c. search needs)  -- enum-known-lent-2
+    (λ c. search needs)  -- add-result
     mul-result
-    enum-known-lent-3
-    add-result-2
-    mul-result-2
-    returns
+    (λ c. search needs)  -- enum-known-lent-3
+    (λ c. search needs)  -- add-result-2
+    (λ c. search needs)  -- mul-result-2
+    (λ c. search needs)  -- returns
     returns-2
     returns-3
     returns-4)

@@ -1,5 +1,4 @@
 -- `places::totals` meets its contract. The loop's invariant: the totals of the tracers passed.
--- Assumes nothing.
 use Prim.Native.Nat.{_≤_, _-_}
 use mathlib.Core.Path.{_≡_}
 use native.Mathlib.Omega.{arith}
@@ -28,29 +27,8 @@ add-e c = let room = tracer-room (c .before .before .before .pre) (c .before .lo
 mul-gas-total : tie.Need-mul-gas-total Inv-loop μ-loop
 mul-gas-total c = let room = tracer-room (c .before .before .before .pre) (c .before .loop .t) (search needs) in search needs
 
-sub-gas-total : tie.Need-sub-gas-total Inv-loop μ-loop
-sub-gas-total c = search needs
-
-part-gas-total-start : tie.Need-part-gas-total-start Inv-loop μ-loop
-part-gas-total-start c = search needs
-
 part-gas-total-end : tie.Need-part-gas-total-end Inv-loop μ-loop
 part-gas-total-end c = let room = tracer-room (c .before .before .before .pre) (c .before .loop .t) (search needs) in search needs
-
-gas-total-requires : tie.Need-gas-total-requires Inv-loop μ-loop
-gas-total-requires c κs = search needs
-
-mul-sums : tie.Need-mul-sums Inv-loop μ-loop
-mul-sums c = search needs
-
-array-write-sums : tie.Need-array-write-sums Inv-loop μ-loop
-array-write-sums c = search needs
-
-add-t : tie.Need-add-t Inv-loop μ-loop
-add-t c = search needs
-
-loop-less : tie.Need-loop-less Inv-loop μ-loop
-loop-less c = search needs
 
 loop-again : tie.Need-loop-again Inv-loop μ-loop
 loop-again c =
@@ -78,13 +56,13 @@ totals-spec =
     mul-a
     add-e
     mul-gas-total
-    sub-gas-total
-    part-gas-total-start
+    (λ c. search needs)  -- sub-gas-total
+    (λ c. search needs)  -- part-gas-total-start
     part-gas-total-end
-    gas-total-requires
-    mul-sums
-    array-write-sums
-    add-t
-    loop-less
+    (λ c κs. search needs)  -- gas-total-requires
+    (λ c. search needs)  -- mul-sums
+    (λ c. search needs)  -- array-write-sums
+    (λ c. search needs)  -- add-t
+    (λ c. search needs)  -- loop-less
     loop-again
     returns)

@@ -1,5 +1,4 @@
 -- Laws of the records in a list of bytes: the first record, bytes skipped, and the program's loop turn by turn.
--- Assumes nothing.
 use Prim.Native.Nat.{ℕ, zero, suc, _≤_}
 use mathlib.Core.List.{List, [], _∷_}
 use mathlib.Core.Path.{_≡_, refl, sym, _∙_, ap}

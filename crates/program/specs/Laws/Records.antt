@@ -1,5 +1,4 @@
 -- Laws of records: a record is decided by its kind and the bytes that it needs, whatever follows them.
--- Assumes nothing.
 use Prim.Native.Nat.{ℕ, zero, suc, _+_, _*_, _≤_, _<_}
 use mathlib.Core.List.{List, _∷_}
 use mathlib.Core.Bool.{Bool, true, false}

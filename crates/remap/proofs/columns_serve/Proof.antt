@@ -21,12 +21,6 @@ loop-holds c =
     let start : tie.Start Inv-loop μ-loop = search in
     (upto-start (start .pre), search needs, search needs)
 
-slice-aggregate-read-edges : tie.Need-slice-aggregate-read-edges Inv-loop μ-loop
-slice-aggregate-read-edges c = search needs
-
-slice-aggregate-read-edges-2 : tie.Need-slice-aggregate-read-edges-2 Inv-loop μ-loop
-slice-aggregate-read-edges-2 c = search needs
-
 read-edges-requires : tie.Need-read-edges-requires Inv-loop μ-loop
 read-edges-requires c κs =
     let turn : tie.In-loop Inv-loop μ-loop = search in
@@ -34,9 +28,6 @@ read-edges-requires c κs =
     let start : tie.Start Inv-loop μ-loop = search in
     let fit = start .pre .fit in
     (read-need (start .pre) (turn .loop-test .taken), omega (arith, at .loop .inv .1), omega (arith, at .loop .inv .2))
-
-slice-aggregate-edges-serve : tie.Need-slice-aggregate-edges-serve Inv-loop μ-loop
-slice-aggregate-edges-serve c = search needs
 
 edges-serve-requires : tie.Need-edges-serve-requires Inv-loop μ-loop
 edges-serve-requires c κs =
@@ -51,12 +42,6 @@ returns c =
     let turn : tie.In-loop Inv-loop μ-loop = search in
     let start : tie.Start Inv-loop μ-loop = search in
     not-served (start .pre) (turn .loop-test .taken) (edges .read-edges .ensures) (tested .edges-serve .ensures) (c .if1 .left)
-
-slice-aggregate-pairs : tie.Need-slice-aggregate-pairs Inv-loop μ-loop
-slice-aggregate-pairs c = search needs
-
-slice-aggregate-pairs-2 : tie.Need-slice-aggregate-pairs-2 Inv-loop μ-loop
-slice-aggregate-pairs-2 c = search needs
 
 pairs-requires : tie.Need-pairs-requires Inv-loop μ-loop
 pairs-requires c κs =
@@ -74,12 +59,6 @@ add-count c =
     let upto = at .loop .inv .0 in
     let need = start .pre in
     omega (arith, upto .few, upto .inside, need .few, c .pairs .ensures .most, need .fit)
-
-add-c : tie.Need-add-c Inv-loop μ-loop
-add-c c = search needs
-
-loop-less : tie.Need-loop-less Inv-loop μ-loop
-loop-less c = search needs
 
 loop-again : tie.Need-loop-again Inv-loop μ-loop
 loop-again c =
@@ -106,17 +85,17 @@ columns-serve-spec =
     Inv-loop
     μ-loop
     loop-holds
-    slice-aggregate-read-edges
-    slice-aggregate-read-edges-2
+    (λ c. search needs)  -- slice-aggregate-read-edges
+    (λ c. search needs)  -- slice-aggregate-read-edges-2
     read-edges-requires
-    slice-aggregate-edges-serve
+    (λ c. search needs)  -- slice-aggregate-edges-serve
     edges-serve-requires
     returns
-    slice-aggregate-pairs
-    slice-aggregate-pairs-2
+    (λ c. search needs)  -- slice-aggregate-pairs
+    (λ c. search needs)  -- slice-aggregate-pairs-2
     pairs-requires
     add-count
-    add-c
-    loop-less
+    (λ c. search needs)  -- add-c
+    (λ c. search needs)  -- loop-less
     loop-again
     returns-2)

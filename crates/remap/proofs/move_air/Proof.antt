@@ -22,12 +22,6 @@ loop-holds c =
     let start : tie.Start Inv-loop μ-loop = search in
     (upto-none (start .pre .columns .long), search needs, search needs)
 
-slice-aggregate-read-edges : tie.Need-slice-aggregate-read-edges Inv-loop μ-loop
-slice-aggregate-read-edges c = search needs
-
-slice-aggregate-read-edges-2 : tie.Need-slice-aggregate-read-edges-2 Inv-loop μ-loop
-slice-aggregate-read-edges-2 c = search needs
-
 read-edges-requires : tie.Need-read-edges-requires Inv-loop μ-loop
 read-edges-requires c κs =
     let turn : tie.In-loop Inv-loop μ-loop = search in
@@ -39,12 +33,6 @@ read-edges-requires c κs =
       omega (arith, fit, at .loop .inv .2),
     )
 
-slice-aggregate-new-air : tie.Need-slice-aggregate-new-air Inv-loop μ-loop
-slice-aggregate-new-air c = search needs
-
-slice-aggregate-new-air-2 : tie.Need-slice-aggregate-new-air-2 Inv-loop μ-loop
-slice-aggregate-new-air-2 c = search needs
-
 new-air-requires : tie.Need-new-air-requires Inv-loop μ-loop
 new-air-requires c κs =
     let edges : tie.After-read-edges Inv-loop μ-loop = search in
@@ -54,9 +42,6 @@ new-air-requires c κs =
     let column = edges .read-edges .ensures in
     (air-served (start .pre) (turn .loop-test .taken) (at .loop .inv .0) column, column .roomAir)
 
-slice-aggregate-write-column : tie.Need-slice-aggregate-write-column Inv-loop μ-loop
-slice-aggregate-write-column c = search needs
-
 write-column-requires : tie.Need-write-column-requires Inv-loop μ-loop
 write-column-requires c κs =
     let edges : tie.After-read-edges Inv-loop μ-loop = search in
@@ -64,12 +49,6 @@ write-column-requires c κs =
     let at : tie.At-loop Inv-loop μ-loop = search in
     let start : tie.Start Inv-loop μ-loop = search in
     (air-room (start .pre) (turn .loop-test .taken) (at .loop .inv .0), search needs)
-
-add-c : tie.Need-add-c Inv-loop μ-loop
-add-c c = search needs
-
-loop-less : tie.Need-loop-less Inv-loop μ-loop
-loop-less c = search needs
 
 loop-again : tie.Need-loop-again Inv-loop μ-loop
 loop-again c =
@@ -99,16 +78,16 @@ move-air-spec =
     Inv-loop
     μ-loop
     loop-holds
-    slice-aggregate-read-edges
-    slice-aggregate-read-edges-2
+    (λ c. search needs)  -- slice-aggregate-read-edges
+    (λ c. search needs)  -- slice-aggregate-read-edges-2
     read-edges-requires
-    slice-aggregate-new-air
-    slice-aggregate-new-air-2
+    (λ c. search needs)  -- slice-aggregate-new-air
+    (λ c. search needs)  -- slice-aggregate-new-air-2
     new-air-requires
-    slice-aggregate-write-column
+    (λ c. search needs)  -- slice-aggregate-write-column
     write-column-requires
-    add-c
-    loop-less
+    (λ c. search needs)  -- add-c
+    (λ c. search needs)  -- loop-less
     loop-again
     same-length
     returns)

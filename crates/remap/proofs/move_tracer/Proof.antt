@@ -28,12 +28,6 @@ loop-holds c =
     let start : tie.Start Inv-loop μ-loop = search in
     (upto-none (start .pre .long), search needs, search needs, search needs, search needs, search needs)
 
-slice-aggregate-read-edges : tie.Need-slice-aggregate-read-edges Inv-loop μ-loop
-slice-aggregate-read-edges c = search needs
-
-slice-aggregate-read-edges-2 : tie.Need-slice-aggregate-read-edges-2 Inv-loop μ-loop
-slice-aggregate-read-edges-2 c = search needs
-
 read-edges-requires : tie.Need-read-edges-requires Inv-loop μ-loop
 read-edges-requires c κs =
     let turn : tie.In-loop Inv-loop μ-loop = search in
@@ -45,9 +39,6 @@ read-edges-requires c κs =
       omega (arith, columns .fit, at .loop .inv .2),
     )
 
-slice-aggregate-read-column : tie.Need-slice-aggregate-read-column Inv-loop μ-loop
-slice-aggregate-read-column c = search needs
-
 read-column-requires : tie.Need-read-column-requires Inv-loop μ-loop
 read-column-requires c κs =
     let turn : tie.In-loop Inv-loop μ-loop = search in
@@ -55,24 +46,6 @@ read-column-requires c κs =
     let start : tie.Start Inv-loop μ-loop = search in
     let fit = start .pre .moves .columns .fit in
     (gas-room (start .pre) (turn .loop-test .taken) (at .loop .inv .0), omega (arith, fit, at .loop .inv .3))
-
-is-cap-requires : tie.Need-is-cap-requires Inv-loop μ-loop
-is-cap-requires c κs = search needs
-
-slice-aggregate-remap-gas : tie.Need-slice-aggregate-remap-gas Inv-loop μ-loop
-slice-aggregate-remap-gas c = search needs
-
-slice-aggregate-remap-gas-2 : tie.Need-slice-aggregate-remap-gas-2 Inv-loop μ-loop
-slice-aggregate-remap-gas-2 c = search needs
-
-slice-aggregate-remap-gas-3 : tie.Need-slice-aggregate-remap-gas-3 Inv-loop μ-loop
-slice-aggregate-remap-gas-3 c = search needs
-
-slice-aggregate-remap-gas-4 : tie.Need-slice-aggregate-remap-gas-4 Inv-loop μ-loop
-slice-aggregate-remap-gas-4 c = search needs
-
-slice-aggregate-remap-gas-5 : tie.Need-slice-aggregate-remap-gas-5 Inv-loop μ-loop
-slice-aggregate-remap-gas-5 c = search needs
 
 remap-gas-requires : tie.Need-remap-gas-requires Inv-loop μ-loop
 remap-gas-requires c κs =
@@ -86,9 +59,6 @@ remap-gas-requires c κs =
     let long = copied .read-column .kept .1 .1 .1 .1 .0 in
     gas-need (start .pre) (turn .loop-test .taken) (inv .0) (edges .read-edges .ensures) _ (copied .read-column .ensures)
     (omega (arith, fit, long, inv .3)) (omega (arith, fit, inv .4)) (omega (arith, fit, inv .5))
-
-slice-aggregate-write-column : tie.Need-slice-aggregate-write-column Inv-loop μ-loop
-slice-aggregate-write-column c = search needs
 
 write-column-requires : tie.Need-write-column-requires Inv-loop μ-loop
 write-column-requires c κs =
@@ -150,19 +120,19 @@ move-tracer-spec =
     Inv-loop
     μ-loop
     loop-holds
-    slice-aggregate-read-edges
-    slice-aggregate-read-edges-2
+    (λ c. search needs)  -- slice-aggregate-read-edges
+    (λ c. search needs)  -- slice-aggregate-read-edges-2
     read-edges-requires
-    slice-aggregate-read-column
+    (λ c. search needs)  -- slice-aggregate-read-column
     read-column-requires
-    is-cap-requires
-    slice-aggregate-remap-gas
-    slice-aggregate-remap-gas-2
-    slice-aggregate-remap-gas-3
-    slice-aggregate-remap-gas-4
-    slice-aggregate-remap-gas-5
+    (λ c κs. search needs)  -- is-cap-requires
+    (λ c. search needs)  -- slice-aggregate-remap-gas
+    (λ c. search needs)  -- slice-aggregate-remap-gas-2
+    (λ c. search needs)  -- slice-aggregate-remap-gas-3
+    (λ c. search needs)  -- slice-aggregate-remap-gas-4
+    (λ c. search needs)  -- slice-aggregate-remap-gas-5
     remap-gas-requires
-    slice-aggregate-write-column
+    (λ c. search needs)  -- slice-aggregate-write-column
     write-column-requires
     add-c
     loop-less

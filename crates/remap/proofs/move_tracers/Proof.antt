@@ -46,12 +46,6 @@ add-e c = omega (arith, room c .1)
 mul-move-tracer : tie.Need-mul-move-tracer Inv-loop μ-loop
 mul-move-tracer c = omega (arith, room c .1)
 
-sub-move-tracer : tie.Need-sub-move-tracer Inv-loop μ-loop
-sub-move-tracer c = search needs
-
-part-move-tracer-start : tie.Need-part-move-tracer-start Inv-loop μ-loop
-part-move-tracer-start c = search needs
-
 part-move-tracer-end : tie.Need-part-move-tracer-end Inv-loop μ-loop
 part-move-tracer-end c =
     let at : tie.At-loop Inv-loop μ-loop = search in
@@ -65,12 +59,6 @@ move-tracer-requires c κs =
     let at : tie.At-loop Inv-loop μ-loop = search in
     let start : tie.Start Inv-loop μ-loop = search in
     tracer-need (start .pre) (turn .loop-test .taken) (at .loop .inv .1)
-
-add-t : tie.Need-add-t Inv-loop μ-loop
-add-t c = search needs
-
-loop-less : tie.Need-loop-less Inv-loop μ-loop
-loop-less c = search needs
 
 loop-again : tie.Need-loop-again Inv-loop μ-loop
 loop-again c =
@@ -105,12 +93,12 @@ move-tracers-spec =
     mul-e
     add-e
     mul-move-tracer
-    sub-move-tracer
-    part-move-tracer-start
+    (λ c. search needs)  -- sub-move-tracer
+    (λ c. search needs)  -- part-move-tracer-start
     part-move-tracer-end
     move-tracer-requires
-    add-t
-    loop-less
+    (λ c. search needs)  -- add-t
+    (λ c. search needs)  -- loop-less
     loop-again
     same-length
     returns)

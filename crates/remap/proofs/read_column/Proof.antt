@@ -48,18 +48,6 @@ shared-slice-read-column c =
     let turn : tie.In-loop Inv-loop μ-loop = search in
     next-cell turn .0
 
-mul-column-3 : tie.Need-mul-column-3 Inv-loop μ-loop
-mul-column-3 c = search needs
-
-slice-write-column : tie.Need-slice-write-column Inv-loop μ-loop
-slice-write-column c = search needs
-
-add-i : tie.Need-add-i Inv-loop μ-loop
-add-i c = search needs
-
-loop-less : tie.Need-loop-less Inv-loop μ-loop
-loop-less c = search needs
-
 loop-again : tie.Need-loop-again Inv-loop μ-loop
 loop-again c =
     let l = c .before .before .loop in
@@ -68,9 +56,6 @@ loop-again c =
       search needs,
       entries-more 0 (l .column) (l .i) _ (λ n x. x ≡ at (a .list .now) (n * a .cells + a .c)) (search needs) (l .inv .2) refl,
     )
-
-same-length : tie.Need-same-length Inv-loop μ-loop
-same-length c = search needs
 
 returns : tie.Need-returns Inv-loop μ-loop
 returns c =
@@ -89,10 +74,10 @@ read-column-spec =
     add-column
     mul-column-2
     shared-slice-read-column
-    mul-column-3
-    slice-write-column
-    add-i
-    loop-less
+    (λ c. search needs)  -- mul-column-3
+    (λ c. search needs)  -- slice-write-column
+    (λ c. search needs)  -- add-i
+    (λ c. search needs)  -- loop-less
     loop-again
-    same-length
+    (λ c. search needs)  -- same-length
     returns)

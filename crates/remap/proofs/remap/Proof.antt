@@ -7,18 +7,6 @@ use borrow.Author.Needs.{needs}
 use Rattle.remap.proofs.remap.Statement.{statement}
 use Rattle.remap.proofs.remap.Tie as tie
 
-remap-place-requires : tie.Need-remap-place-requires
-remap-place-requires c κs = search needs
-
-number-requires : tie.Need-number-requires
-number-requires c κs = search needs
-
-same-length : tie.Need-same-length
-same-length c = search needs
-
-same-length-2 : tie.Need-same-length-2
-same-length-2 c = search needs
-
 returns : tie.Need-returns
 returns c =
     let place : tie.After-remap-place = search in
@@ -35,15 +23,6 @@ found c =
 layer-cells-requires : tie.Need-layer-cells-requires
 layer-cells-requires c κs = in-range _ (found c .fits .grid)
 
-cast-cells : tie.Need-cast-cells
-cast-cells c = search needs
-
-cast-k : tie.Need-cast-k
-cast-k c = search needs
-
-cast-n : tie.Need-cast-n
-cast-n c = search needs
-
 move-tracers-requires : tie.Need-move-tracers-requires
 move-tracers-requires c κs =
     let cells : tie.After-layer-cells = search in
@@ -55,12 +34,6 @@ move-air-requires c κs =
     let cells : tie.After-layer-cells = search in
     let accepted : tie.Then1 = search in
     air-need (found accepted) (cells .layer-cells .ensures .0)
-
-same-length-3 : tie.Need-same-length-3
-same-length-3 c = search needs
-
-same-length-4 : tie.Need-same-length-4
-same-length-4 c = search needs
 
 returns-2 : tie.Need-returns-2
 returns-2 c =
@@ -75,17 +48,17 @@ pub remap-spec : {M : Type 1} → statement M
 remap-spec =
     tie.close
     (tie.spec
-    remap-place-requires
-    number-requires
-    same-length
-    same-length-2
+    (λ c κs. search needs)  -- remap-place-requires
+    (λ c κs. search needs)  -- number-requires
+    (λ c. search needs)  -- same-length
+    (λ c. search needs)  -- same-length-2
     returns
     layer-cells-requires
-    cast-cells
-    cast-k
-    cast-n
+    (λ c. search needs)  -- cast-cells
+    (λ c. search needs)  -- cast-k
+    (λ c. search needs)  -- cast-n
     move-tracers-requires
     move-air-requires
-    same-length-3
-    same-length-4
+    (λ c. search needs)  -- same-length-3
+    (λ c. search needs)  -- same-length-4
     returns-2)

@@ -21,15 +21,6 @@ world s = worldOf (s .args .g) (s .args .air .now) (s .args .tracers .now)
 abbrev call : tie.Start → Call
 call s = remap (s .args .table .now)
 
-common-places-requires : tie.Need-common-places-requires
-common-places-requires c κs = search needs
-
-number-requires : tie.Need-number-requires
-number-requires c κs = search needs
-
-not-placed-requires : tie.Need-not-placed-requires
-not-placed-requires c κs = search needs
-
 returns : tie.Need-returns
 returns c =
     let no : tie.Else1 = search in
@@ -48,17 +39,11 @@ passed c =
 pairs : (c : tie.Then1) → let s : tie.Start = search in length (s .args .table .now) ≡ 2 * (s .args .g .k + 1)
 pairs c = eqb-true _ _ (passed c .lentFit)
 
-cast-k : tie.Need-cast-k
-cast-k c = search needs
-
 table-fits-requires : tie.Need-table-fits-requires
 table-fits-requires c κs =
     let common : tie.Then1 = search in
     let s : tie.Start = search in
     (in-range (s .args .g) (passed common .fits .grid) .highK, pairs common)
-
-not-placed-requires-2 : tie.Need-not-placed-requires-2
-not-placed-requires-2 c κs = search needs
 
 returns-2 : tie.Need-returns-2
 returns-2 c =
@@ -80,18 +65,12 @@ layer-cells-requires c κs =
     let common : tie.Then1 = search in
     in-range _ (passed common .fits .grid)
 
-cast-cells : tie.Need-cast-cells
-cast-cells c = search needs
-
 columns-serve-requires : tie.Need-columns-serve-requires
 columns-serve-requires c κs =
     let table : tie.Then2 = search in
     let common : tie.Then1 = search in
     let s : tie.Start = search in
     columns-need (world s) (c .layer-cells .ensures .0) (passed common .fits) (pairs common) (table-fit table)
-
-not-placed-requires-3 : tie.Need-not-placed-requires-3
-not-placed-requires-3 c κs = search needs
 
 returns-3 : tie.Need-returns-3
 returns-3 c =
@@ -126,17 +105,17 @@ pub remap-place-spec : {M : Type 1} → statement M
 remap-place-spec =
     tie.close
     (tie.spec
-    common-places-requires
-    number-requires
-    not-placed-requires
+    (λ c κs. search needs)  -- common-places-requires
+    (λ c κs. search needs)  -- number-requires
+    (λ c κs. search needs)  -- not-placed-requires
     returns
-    cast-k
+    (λ c. search needs)  -- cast-k
     table-fits-requires
-    not-placed-requires-2
+    (λ c κs. search needs)  -- not-placed-requires-2
     returns-2
     layer-cells-requires
-    cast-cells
+    (λ c. search needs)  -- cast-cells
     columns-serve-requires
-    not-placed-requires-3
+    (λ c κs. search needs)  -- not-placed-requires-3
     returns-3
     returns-4)

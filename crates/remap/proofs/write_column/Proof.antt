@@ -19,12 +19,6 @@ abbrev μ-loop : tie.MeasureT-loop
 loop-holds : tie.Need-loop-holds Inv-loop μ-loop
 loop-holds c = (search needs, search needs, sym (set-none _ _ _ _))
 
-mul-list : tie.Need-mul-list Inv-loop μ-loop
-mul-list c = search needs
-
-shared-slice-read-list : tie.Need-shared-slice-read-list Inv-loop μ-loop
-shared-slice-read-list c = search needs
-
 -- the cell that is written next
 next-cell : (c : tie.In-loop Inv-loop μ-loop) →
     let at-loop : tie.At-loop Inv-loop μ-loop = search in
@@ -55,12 +49,6 @@ slice-write-list c =
     let turn : tie.In-loop Inv-loop μ-loop = search in
     omega (arith, next-cell turn .0)
 
-add-i : tie.Need-add-i Inv-loop μ-loop
-add-i c = search needs
-
-loop-less : tie.Need-loop-less Inv-loop μ-loop
-loop-less c = search needs
-
 loop-again : tie.Need-loop-again Inv-loop μ-loop
 loop-again c =
     let l = c .before .before .loop in
@@ -69,9 +57,6 @@ loop-again c =
       search needs,
       set-more (a .cells) (a .list .now) (a .c) (at (a .column .now)) (l .i) (l .list) (l .inv .2),
     )
-
-same-length : tie.Need-same-length Inv-loop μ-loop
-same-length c = search needs
 
 returns : tie.Need-returns Inv-loop μ-loop
 returns c =
@@ -87,14 +72,14 @@ write-column-spec =
     Inv-loop
     μ-loop
     loop-holds
-    mul-list
-    shared-slice-read-list
+    (λ c. search needs)  -- mul-list
+    (λ c. search needs)  -- shared-slice-read-list
     mul-list-2
     add-list
     mul-list-3
     slice-write-list
-    add-i
-    loop-less
+    (λ c. search needs)  -- add-i
+    (λ c. search needs)  -- loop-less
     loop-again
-    same-length
+    (λ c. search needs)  -- same-length
     returns)

@@ -1,5 +1,4 @@
 -- `row::count` meets its contract. The loop's invariant: no number passed serves.
--- Assumes nothing.
 use Prim.Native.Nat.{_≤_, _-_}
 use mathlib.Core.Path.{sym, _∙_}
 use native.Mathlib.Omega.{arith}
@@ -19,20 +18,11 @@ abbrev μ-loop : tie.MeasureT-loop
 loop-holds : tie.Need-loop-holds Inv-loop μ-loop
 loop-holds c = (search needs, search needs, λ i high low. absurd (omega arith))
 
-copy-serves-requires : tie.Need-copy-serves-requires Inv-loop μ-loop
-copy-serves-requires c κs = search needs
-
 returns : tie.Need-returns Inv-loop μ-loop
 returns c =
     let a = the (tie.Start Inv-loop μ-loop) (search) .args in
     let l = c .before .before .before .loop in
     found-first (a .air .now) (a .fluxes .now) (l .n) (l .inv .0) (search needs) (l .inv .2) (sym (c .before .copy-serves .ensures) ∙ c .if1 .taken)
-
-add-n : tie.Need-add-n Inv-loop μ-loop
-add-n c = search needs
-
-loop-less : tie.Need-loop-less Inv-loop μ-loop
-loop-less c = search needs
 
 loop-again : tie.Need-loop-again Inv-loop μ-loop
 loop-again c =
@@ -54,9 +44,9 @@ count-spec =
     Inv-loop
     μ-loop
     loop-holds
-    copy-serves-requires
+    (λ c κs. search needs)  -- copy-serves-requires
     returns
-    add-n
-    loop-less
+    (λ c. search needs)  -- add-n
+    (λ c. search needs)  -- loop-less
     loop-again
     returns-2)

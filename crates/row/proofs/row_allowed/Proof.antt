@@ -1,5 +1,4 @@
 -- `row::row_allowed` meets its contract. The loop's invariant: `ok` is the test of every column passed.
--- Assumes nothing.
 use Prim.Native.Nat.{ℕ, _≤_, _-_}
 use mathlib.Core.Bool.{_&&_}
 use mathlib.Core.Path.{_≡_, sym, _∙_, ap, ap₂}
@@ -26,54 +25,9 @@ abbrev μ-loop : tie.MeasureT-loop
 loop-holds : tie.Need-loop-holds Inv-loop μ-loop
 loop-holds c = (search needs, search needs, sym (every-none _))
 
-west-of-requires : tie.Need-west-of-requires Inv-loop μ-loop
-west-of-requires c κs = search needs
-
-mul-have : tie.Need-mul-have Inv-loop μ-loop
-mul-have c = search needs
-
-shared-slice-read-have : tie.Need-shared-slice-read-have Inv-loop μ-loop
-shared-slice-read-have c = search needs
-
-mul-both : tie.Need-mul-both Inv-loop μ-loop
-mul-both c = search needs
-
-shared-slice-read-both : tie.Need-shared-slice-read-both Inv-loop μ-loop
-shared-slice-read-both c = search needs
-
-mul-both-2 : tie.Need-mul-both-2 Inv-loop μ-loop
-mul-both-2 c = search needs
-
-shared-slice-read-both-2 : tie.Need-shared-slice-read-both-2 Inv-loop μ-loop
-shared-slice-read-both-2 c = search needs
-
-both-requires : tie.Need-both-requires Inv-loop μ-loop
-both-requires c κs = search needs
-
-mul-both-3 : tie.Need-mul-both-3 Inv-loop μ-loop
-mul-both-3 c = search needs
-
-shared-slice-read-both-3 : tie.Need-shared-slice-read-both-3 Inv-loop μ-loop
-shared-slice-read-both-3 c = search needs
-
-mul-both-4 : tie.Need-mul-both-4 Inv-loop μ-loop
-mul-both-4 c = search needs
-
-shared-slice-read-both-4 : tie.Need-shared-slice-read-both-4 Inv-loop μ-loop
-shared-slice-read-both-4 c = search needs
-
-both-requires-2 : tie.Need-both-requires-2 Inv-loop μ-loop
-both-requires-2 c κs = search needs
-
 cell-allows-requires : tie.Need-cell-allows-requires Inv-loop μ-loop
 cell-allows-requires c κs =
     record { into = omega (arith, c .before .before .before .both .ensures .1); from = omega (arith, c .both2 .ensures .1) }
-
-add-i : tie.Need-add-i Inv-loop μ-loop
-add-i c = search needs
-
-loop-less : tie.Need-loop-less Inv-loop μ-loop
-loop-less c = search needs
 
 loop-again : tie.Need-loop-again Inv-loop μ-loop
 loop-again c =
@@ -107,21 +61,21 @@ row-allowed-spec =
     Inv-loop
     μ-loop
     loop-holds
-    west-of-requires
-    mul-have
-    shared-slice-read-have
-    mul-both
-    shared-slice-read-both
-    mul-both-2
-    shared-slice-read-both-2
-    both-requires
-    mul-both-3
-    shared-slice-read-both-3
-    mul-both-4
-    shared-slice-read-both-4
-    both-requires-2
+    (λ c κs. search needs)  -- west-of-requires
+    (λ c. search needs)  -- mul-have
+    (λ c. search needs)  -- shared-slice-read-have
+    (λ c. search needs)  -- mul-both
+    (λ c. search needs)  -- shared-slice-read-both
+    (λ c. search needs)  -- mul-both-2
+    (λ c. search needs)  -- shared-slice-read-both-2
+    (λ c κs. search needs)  -- both-requires
+    (λ c. search needs)  -- mul-both-3
+    (λ c. search needs)  -- shared-slice-read-both-3
+    (λ c. search needs)  -- mul-both-4
+    (λ c. search needs)  -- shared-slice-read-both-4
+    (λ c κs. search needs)  -- both-requires-2
     cell-allows-requires
-    add-i
-    loop-less
+    (λ c. search needs)  -- add-i
+    (λ c. search needs)  -- loop-less
     loop-again
     returns)

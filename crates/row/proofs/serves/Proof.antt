@@ -1,5 +1,4 @@
 -- `row::serves` meets its contract. The loop's invariant: every substep made was allowed, and the air is what they leave.
--- Assumes nothing.
 use Prim.Native.Nat.{ℕ, _≤_, _-_}
 use mathlib.Core.Bool.{true, _&&_}
 use mathlib.Core.Path.{_≡_, refl, sym, _∙_, ap, ap₂}
@@ -33,30 +32,6 @@ loop-holds c =
     let start-is = chain-start (a .fluxes .now) (a .n) (a .air .now) in
     (search needs, search needs, search needs, search needs, start-is, every-none _)
 
-add-fill-parts : tie.Need-add-fill-parts Inv-loop μ-loop
-add-fill-parts c = search needs
-
-slice-aggregate-fill-parts : tie.Need-slice-aggregate-fill-parts Inv-loop μ-loop
-slice-aggregate-fill-parts c = search needs
-
-slice-aggregate-fill-parts-2 : tie.Need-slice-aggregate-fill-parts-2 Inv-loop μ-loop
-slice-aggregate-fill-parts-2 c = search needs
-
-fill-parts-requires : tie.Need-fill-parts-requires Inv-loop μ-loop
-fill-parts-requires c κs = search needs
-
-slice-aggregate-row-allowed : tie.Need-slice-aggregate-row-allowed Inv-loop μ-loop
-slice-aggregate-row-allowed c = search needs
-
-slice-aggregate-row-allowed-2 : tie.Need-slice-aggregate-row-allowed-2 Inv-loop μ-loop
-slice-aggregate-row-allowed-2 c = search needs
-
-row-allowed-requires : tie.Need-row-allowed-requires Inv-loop μ-loop
-row-allowed-requires c κs = search needs
-
-same-length : tie.Need-same-length Inv-loop μ-loop
-same-length c = search needs
-
 returns : tie.Need-returns Inv-loop μ-loop
 returns c =
     let start : tie.Start Inv-loop μ-loop = search in
@@ -71,12 +46,6 @@ returns c =
     let tested = c .before .row-allowed .ensures ∙ may-is in
     sym (serves-not (a .fluxes .now) (a .n) (a .air .now) (l .s) (omega (arith, inside)) (sym tested ∙ c .if1 .left))
 
-slice-aggregate-pass-row : tie.Need-slice-aggregate-pass-row Inv-loop μ-loop
-slice-aggregate-pass-row c = search needs
-
-slice-aggregate-pass-row-2 : tie.Need-slice-aggregate-pass-row-2 Inv-loop μ-loop
-slice-aggregate-pass-row-2 c = search needs
-
 pass-row-requires : tie.Need-pass-row-requires Inv-loop μ-loop
 unfolding ring
 pass-row-requires c κs =
@@ -85,12 +54,6 @@ pass-row-requires c κs =
       room = record { high = search needs; low = search needs };
       moves = air-moves _ _ _ refl (sym allowed-is ∙ c .before .before .before .if1 .taken);
     }
-
-add-s : tie.Need-add-s Inv-loop μ-loop
-add-s c = search needs
-
-loop-less : tie.Need-loop-less Inv-loop μ-loop
-loop-less c = search needs
 
 loop-again : tie.Need-loop-again Inv-loop μ-loop
 loop-again c =
@@ -115,9 +78,6 @@ loop-again c =
       every-more (l .s) (may (a .fluxes .now) (a .n) (a .air .now)) ∙ ap₂ _&&_ (l .inv .5) permitted,
     )
 
-same-length-2 : tie.Need-same-length-2 Inv-loop μ-loop
-same-length-2 c = search needs
-
 returns-2 : tie.Need-returns-2 Inv-loop μ-loop
 returns-2 c =
     let l = c .before .loop in
@@ -132,20 +92,20 @@ serves-spec =
     Inv-loop
     μ-loop
     loop-holds
-    add-fill-parts
-    slice-aggregate-fill-parts
-    slice-aggregate-fill-parts-2
-    fill-parts-requires
-    slice-aggregate-row-allowed
-    slice-aggregate-row-allowed-2
-    row-allowed-requires
-    same-length
+    (λ c. search needs)  -- add-fill-parts
+    (λ c. search needs)  -- slice-aggregate-fill-parts
+    (λ c. search needs)  -- slice-aggregate-fill-parts-2
+    (λ c κs. search needs)  -- fill-parts-requires
+    (λ c. search needs)  -- slice-aggregate-row-allowed
+    (λ c. search needs)  -- slice-aggregate-row-allowed-2
+    (λ c κs. search needs)  -- row-allowed-requires
+    (λ c. search needs)  -- same-length
     returns
-    slice-aggregate-pass-row
-    slice-aggregate-pass-row-2
+    (λ c. search needs)  -- slice-aggregate-pass-row
+    (λ c. search needs)  -- slice-aggregate-pass-row-2
     pass-row-requires
-    add-s
-    loop-less
+    (λ c. search needs)  -- add-s
+    (λ c. search needs)  -- loop-less
     loop-again
-    same-length-2
+    (λ c. search needs)  -- same-length-2
     returns-2)

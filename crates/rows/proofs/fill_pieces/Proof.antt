@@ -1,5 +1,4 @@
 -- `rows::fill_pieces` meets its contract. The loop's invariant: the faces passed have their two pieces.
--- Assumes nothing.
 use Prim.Native.Nat.{_≤_, _-_}
 use mathlib.Core.Path.{_≡_, _∙_}
 use native.Mathlib.Omega.{arith}
@@ -27,27 +26,6 @@ abbrev μ-loop : tie.MeasureT-loop
 loop-holds : tie.Need-loop-holds Inv-loop μ-loop
 loop-holds c = (search needs, search needs, search needs, search needs, same-none _ _)
 
-west-of-requires : tie.Need-west-of-requires Inv-loop μ-loop
-west-of-requires c κs = search needs
-
-east-of-requires : tie.Need-east-of-requires Inv-loop μ-loop
-east-of-requires c κs = search needs
-
-east-of-requires-2 : tie.Need-east-of-requires-2 Inv-loop μ-loop
-east-of-requires-2 c κs = search needs
-
-mul-eastward : tie.Need-mul-eastward Inv-loop μ-loop
-mul-eastward c = search needs
-
-shared-slice-read-eastward : tie.Need-shared-slice-read-eastward Inv-loop μ-loop
-shared-slice-read-eastward c = search needs
-
-mul-westward : tie.Need-mul-westward Inv-loop μ-loop
-mul-westward c = search needs
-
-shared-slice-read-westward : tie.Need-shared-slice-read-westward Inv-loop μ-loop
-shared-slice-read-westward c = search needs
-
 high-end-requires : tie.Need-high-end-requires Inv-loop μ-loop
 high-end-requires c κs =
     let need = the (tie.Start Inv-loop μ-loop) (search) .pre in
@@ -61,24 +39,6 @@ low-end-requires c κs =
     let east = the (tie.After-east-of Inv-loop μ-loop) (search) .east-of .ensures .0 in
     let next = the (tie.After-east-of2 Inv-loop μ-loop) (search) .east-of2 .ensures .0 in
     face-gives-low need (search needs) east next
-
-mul-high : tie.Need-mul-high Inv-loop μ-loop
-mul-high c = search needs
-
-slice-write-high : tie.Need-slice-write-high Inv-loop μ-loop
-slice-write-high c = search needs
-
-mul-low : tie.Need-mul-low Inv-loop μ-loop
-mul-low c = search needs
-
-slice-write-low : tie.Need-slice-write-low Inv-loop μ-loop
-slice-write-low c = search needs
-
-add-i : tie.Need-add-i Inv-loop μ-loop
-add-i c = search needs
-
-loop-less : tie.Need-loop-less Inv-loop μ-loop
-loop-less c = search needs
 
 loop-again : tie.Need-loop-again Inv-loop μ-loop
 loop-again c =
@@ -97,12 +57,6 @@ loop-again c =
           (c .low-end .ensures ∙ face-low need (search needs) east next),
     )
 
-same-length : tie.Need-same-length Inv-loop μ-loop
-same-length c = search needs
-
-same-length-2 : tie.Need-same-length-2 Inv-loop μ-loop
-same-length-2 c = search needs
-
 returns : tie.Need-returns Inv-loop μ-loop
 returns c =
     let start : tie.Start Inv-loop μ-loop = search in
@@ -117,22 +71,22 @@ fill-pieces-spec =
     Inv-loop
     μ-loop
     loop-holds
-    west-of-requires
-    east-of-requires
-    east-of-requires-2
-    mul-eastward
-    shared-slice-read-eastward
-    mul-westward
-    shared-slice-read-westward
+    (λ c κs. search needs)  -- west-of-requires
+    (λ c κs. search needs)  -- east-of-requires
+    (λ c κs. search needs)  -- east-of-requires-2
+    (λ c. search needs)  -- mul-eastward
+    (λ c. search needs)  -- shared-slice-read-eastward
+    (λ c. search needs)  -- mul-westward
+    (λ c. search needs)  -- shared-slice-read-westward
     high-end-requires
     low-end-requires
-    mul-high
-    slice-write-high
-    mul-low
-    slice-write-low
-    add-i
-    loop-less
+    (λ c. search needs)  -- mul-high
+    (λ c. search needs)  -- slice-write-high
+    (λ c. search needs)  -- mul-low
+    (λ c. search needs)  -- slice-write-low
+    (λ c. search needs)  -- add-i
+    (λ c. search needs)  -- loop-less
     loop-again
-    same-length
-    same-length-2
+    (λ c. search needs)  -- same-length
+    (λ c. search needs)  -- same-length-2
     returns)

@@ -1,5 +1,4 @@
 -- `rows::load_rows` meets its contract. The loop's invariant: the rows of the tracers passed.
--- Assumes nothing.
 use Prim.Native.Nat.{_≤_, _-_}
 use mathlib.Core.Path.{_≡_, refl}
 use native.Mathlib.Omega.{arith}
@@ -31,38 +30,8 @@ add-e c = let room = row-room (c .before .before .before .pre) (c .before .loop 
 mul-copy : tie.Need-mul-copy Inv-loop μ-loop
 mul-copy c = let room = row-room (c .before .before .before .pre) (c .before .loop .t) (search needs) in search needs
 
-sub-copy : tie.Need-sub-copy Inv-loop μ-loop
-sub-copy c = search needs
-
-part-copy-start : tie.Need-part-copy-start Inv-loop μ-loop
-part-copy-start c = search needs
-
 part-copy-end : tie.Need-part-copy-end Inv-loop μ-loop
 part-copy-end c = let room = row-room (c .before .before .before .pre) (c .before .loop .t) (search needs) in search needs
-
-sub-copy-2 : tie.Need-sub-copy-2 Inv-loop μ-loop
-sub-copy-2 c = search needs
-
-part-row-start : tie.Need-part-row-start Inv-loop μ-loop
-part-row-start c = search needs
-
-part-row-end : tie.Need-part-row-end Inv-loop μ-loop
-part-row-end c = search needs
-
-copy-requires : tie.Need-copy-requires Inv-loop μ-loop
-copy-requires c κs = search needs
-
-mul-rows : tie.Need-mul-rows Inv-loop μ-loop
-mul-rows c = search needs
-
-array-set-from-rows : tie.Need-array-set-from-rows Inv-loop μ-loop
-array-set-from-rows c = search needs
-
-add-t : tie.Need-add-t Inv-loop μ-loop
-add-t c = search needs
-
-loop-less : tie.Need-loop-less Inv-loop μ-loop
-loop-less c = search needs
 
 loop-again : tie.Need-loop-again Inv-loop μ-loop
 loop-again c =
@@ -91,16 +60,16 @@ load-rows-spec =
     add-a
     add-e
     mul-copy
-    sub-copy
-    part-copy-start
+    (λ c. search needs)  -- sub-copy
+    (λ c. search needs)  -- part-copy-start
     part-copy-end
-    sub-copy-2
-    part-row-start
-    part-row-end
-    copy-requires
-    mul-rows
-    array-set-from-rows
-    add-t
-    loop-less
+    (λ c. search needs)  -- sub-copy-2
+    (λ c. search needs)  -- part-row-start
+    (λ c. search needs)  -- part-row-end
+    (λ c κs. search needs)  -- copy-requires
+    (λ c. search needs)  -- mul-rows
+    (λ c. search needs)  -- array-set-from-rows
+    (λ c. search needs)  -- add-t
+    (λ c. search needs)  -- loop-less
     loop-again
     returns)

@@ -1,5 +1,4 @@
 -- `rows::step_rows` meets its contract. The loop's invariant: the tracers passed are stepped, the others as they were.
--- Assumes nothing.
 use Prim.Native.Nat.{_≤_, _-_}
 use mathlib.Core.Path.{_≡_, _∙_}
 use native.Mathlib.Omega.{arith}
@@ -20,18 +19,6 @@ abbrev μ-loop : tie.MeasureT-loop
 loop-holds : tie.Need-loop-holds Inv-loop μ-loop
 loop-holds c = (search needs, search needs, stepping-none (c .before .before .before .pre) (search needs))
 
-mul-row : tie.Need-mul-row Inv-loop μ-loop
-mul-row c = search needs
-
-array-copy-out-row : tie.Need-array-copy-out-row Inv-loop μ-loop
-array-copy-out-row c = search needs
-
-sub-step-gas : tie.Need-sub-step-gas Inv-loop μ-loop
-sub-step-gas c = search needs
-
-part-row-start : tie.Need-part-row-start Inv-loop μ-loop
-part-row-start c = search needs
-
 part-row-end : tie.Need-part-row-end Inv-loop μ-loop
 part-row-end c =
     let start : tie.Start Inv-loop μ-loop = search in
@@ -43,18 +30,6 @@ step-gas-requires c κs =
     let need = the (tie.Start Inv-loop μ-loop) (search) .pre in
     let l = c .before .before .before .loop in
     rw (row-lent need (l .inv .2) (search needs)) (step-need need (l .t) (search needs))
-
-mul-rows : tie.Need-mul-rows Inv-loop μ-loop
-mul-rows c = search needs
-
-array-set-from-rows : tie.Need-array-set-from-rows Inv-loop μ-loop
-array-set-from-rows c = search needs
-
-add-t : tie.Need-add-t Inv-loop μ-loop
-add-t c = search needs
-
-loop-less : tie.Need-loop-less Inv-loop μ-loop
-loop-less c = search needs
 
 loop-again : tie.Need-loop-again Inv-loop μ-loop
 loop-again c =
@@ -78,15 +53,15 @@ step-rows-spec =
     Inv-loop
     μ-loop
     loop-holds
-    mul-row
-    array-copy-out-row
-    sub-step-gas
-    part-row-start
+    (λ c. search needs)  -- mul-row
+    (λ c. search needs)  -- array-copy-out-row
+    (λ c. search needs)  -- sub-step-gas
+    (λ c. search needs)  -- part-row-start
     part-row-end
     step-gas-requires
-    mul-rows
-    array-set-from-rows
-    add-t
-    loop-less
+    (λ c. search needs)  -- mul-rows
+    (λ c. search needs)  -- array-set-from-rows
+    (λ c. search needs)  -- add-t
+    (λ c. search needs)  -- loop-less
     loop-again
     returns)

@@ -1,5 +1,4 @@
 -- `rows::store_rows` meets its contract. The loop's invariant: the rows of the tracers passed are written, the others are as lent.
--- Assumes nothing.
 use Prim.Native.Nat.{_≤_, _-_}
 use mathlib.Core.Path.{_≡_, ap, _∙_}
 use native.Mathlib.Omega.{arith}
@@ -29,18 +28,6 @@ add-a c = let room = row-room (c .before .before .before .pre .fit) (c .before .
 add-e : tie.Need-add-e Inv-loop μ-loop
 add-e c = let room = row-room (c .before .before .before .pre .fit) (c .before .loop .t) (search needs) in search needs
 
-mul-row : tie.Need-mul-row Inv-loop μ-loop
-mul-row c = search needs
-
-array-copy-out-row : tie.Need-array-copy-out-row Inv-loop μ-loop
-array-copy-out-row c = search needs
-
-sub-copy : tie.Need-sub-copy Inv-loop μ-loop
-sub-copy c = search needs
-
-part-copy-start : tie.Need-part-copy-start Inv-loop μ-loop
-part-copy-start c = search needs
-
 part-copy-end : tie.Need-part-copy-end Inv-loop μ-loop
 part-copy-end c =
     let start : tie.Start Inv-loop μ-loop = search in
@@ -52,27 +39,12 @@ mul-copy c =
     let l = the (tie.At-loop Inv-loop μ-loop) (search) .loop in
     let room = row-room (start .pre .fit) (l .t) (search needs) in search needs
 
-sub-copy-2 : tie.Need-sub-copy-2 Inv-loop μ-loop
-sub-copy-2 c = search needs
-
-part-copy-start-2 : tie.Need-part-copy-start-2 Inv-loop μ-loop
-part-copy-start-2 c = search needs
-
 part-copy-end-2 : tie.Need-part-copy-end-2 Inv-loop μ-loop
 part-copy-end-2 c =
     let start : tie.Start Inv-loop μ-loop = search in
     let l = the (tie.At-loop Inv-loop μ-loop) (search) .loop in
     let room = row-room (start .pre .fit) (l .t) (search needs) in
     omega (arith, ap length (l .inv .1), length-stored-up-to (start .pre) (l .t) (search needs))
-
-copy-requires : tie.Need-copy-requires Inv-loop μ-loop
-copy-requires c κs = search needs
-
-add-t : tie.Need-add-t Inv-loop μ-loop
-add-t c = search needs
-
-loop-less : tie.Need-loop-less Inv-loop μ-loop
-loop-less c = search needs
 
 loop-again : tie.Need-loop-again Inv-loop μ-loop
 loop-again c =
@@ -102,18 +74,18 @@ store-rows-spec =
     mul-a
     add-a
     add-e
-    mul-row
-    array-copy-out-row
-    sub-copy
-    part-copy-start
+    (λ c. search needs)  -- mul-row
+    (λ c. search needs)  -- array-copy-out-row
+    (λ c. search needs)  -- sub-copy
+    (λ c. search needs)  -- part-copy-start
     part-copy-end
     mul-copy
-    sub-copy-2
-    part-copy-start-2
+    (λ c. search needs)  -- sub-copy-2
+    (λ c. search needs)  -- part-copy-start-2
     part-copy-end-2
-    copy-requires
-    add-t
-    loop-less
+    (λ c κs. search needs)  -- copy-requires
+    (λ c. search needs)  -- add-t
+    (λ c. search needs)  -- loop-less
     loop-again
     same-length
     returns)

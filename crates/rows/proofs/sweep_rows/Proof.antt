@@ -1,5 +1,4 @@
 -- `rows::sweep_rows` meets its contract. The loop's invariant: the air and every tracer after s substeps.
--- Assumes nothing.
 use Prim.Native.Nat.{_≤_, _-_}
 use mathlib.Core.Path.{_≡_}
 use native.Mathlib.Omega.{arith}
@@ -21,24 +20,6 @@ abbrev μ-loop : tie.MeasureT-loop
 loop-holds : tie.Need-loop-holds Inv-loop μ-loop
 loop-holds c = (search needs, search needs, search needs, after-none (c .before .pre))
 
-add-fill-parts : tie.Need-add-fill-parts Inv-loop μ-loop
-add-fill-parts c = search needs
-
-slice-aggregate-fill-parts : tie.Need-slice-aggregate-fill-parts Inv-loop μ-loop
-slice-aggregate-fill-parts c = search needs
-
-slice-aggregate-fill-parts-2 : tie.Need-slice-aggregate-fill-parts-2 Inv-loop μ-loop
-slice-aggregate-fill-parts-2 c = search needs
-
-fill-parts-requires : tie.Need-fill-parts-requires Inv-loop μ-loop
-fill-parts-requires c κs = search needs
-
-slice-aggregate-step-rows : tie.Need-slice-aggregate-step-rows Inv-loop μ-loop
-slice-aggregate-step-rows c = search needs
-
-slice-aggregate-step-rows-2 : tie.Need-slice-aggregate-step-rows-2 Inv-loop μ-loop
-slice-aggregate-step-rows-2 c = search needs
-
 step-rows-requires : tie.Need-step-rows-requires Inv-loop μ-loop
 step-rows-requires c κs =
     let start : tie.Start Inv-loop μ-loop = search in
@@ -50,12 +31,6 @@ step-rows-requires c κs =
     let room : Room (length (start .args .fluxes .now)) up down = record { high = search needs; low = search needs } in
     rows-may-step (start .pre) (l .inv .3) inside (parts .ensures) room
 
-slice-aggregate-pass-row : tie.Need-slice-aggregate-pass-row Inv-loop μ-loop
-slice-aggregate-pass-row c = search needs
-
-slice-aggregate-pass-row-2 : tie.Need-slice-aggregate-pass-row-2 Inv-loop μ-loop
-slice-aggregate-pass-row-2 c = search needs
-
 pass-row-requires : tie.Need-pass-row-requires Inv-loop μ-loop
 pass-row-requires c κs =
     let start : tie.Start Inv-loop μ-loop = search in
@@ -66,12 +41,6 @@ pass-row-requires c κs =
     let down = parts .last .1 .1 .1 .1 .0 in
     let room : Room (length (start .args .fluxes .now)) up down = record { high = search needs; low = search needs } in
     air-may-pass (start .pre) (l .inv .3) inside (parts .ensures) room
-
-add-s : tie.Need-add-s Inv-loop μ-loop
-add-s c = search needs
-
-loop-less : tie.Need-loop-less Inv-loop μ-loop
-loop-less c = search needs
 
 loop-again : tie.Need-loop-again Inv-loop μ-loop
 loop-again c =
@@ -89,9 +58,6 @@ loop-again c =
       after-more (start .pre) (l .inv .3) inside (parts .ensures) room (c .before .before .pass-row .ensures) stepped,
     )
 
-same-length : tie.Need-same-length Inv-loop μ-loop
-same-length c = search needs
-
 returns : tie.Need-returns Inv-loop μ-loop
 returns c =
     let l = c .before .loop in
@@ -104,18 +70,18 @@ sweep-rows-spec =
     Inv-loop
     μ-loop
     loop-holds
-    add-fill-parts
-    slice-aggregate-fill-parts
-    slice-aggregate-fill-parts-2
-    fill-parts-requires
-    slice-aggregate-step-rows
-    slice-aggregate-step-rows-2
+    (λ c. search needs)  -- add-fill-parts
+    (λ c. search needs)  -- slice-aggregate-fill-parts
+    (λ c. search needs)  -- slice-aggregate-fill-parts-2
+    (λ c κs. search needs)  -- fill-parts-requires
+    (λ c. search needs)  -- slice-aggregate-step-rows
+    (λ c. search needs)  -- slice-aggregate-step-rows-2
     step-rows-requires
-    slice-aggregate-pass-row
-    slice-aggregate-pass-row-2
+    (λ c. search needs)  -- slice-aggregate-pass-row
+    (λ c. search needs)  -- slice-aggregate-pass-row-2
     pass-row-requires
-    add-s
-    loop-less
+    (λ c. search needs)  -- add-s
+    (λ c. search needs)  -- loop-less
     loop-again
-    same-length
+    (λ c. search needs)  -- same-length
     returns)

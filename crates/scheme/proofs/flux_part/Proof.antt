@@ -1,5 +1,4 @@
 -- `scheme::flux_part` meets its contract: both products fit 64 bits, and the difference is the model's.
--- Assumes nothing.
 use Prim.Native.Nat.{ℕ, _*_, _-_, _^_, _≤_, _<_}
 use mathlib.Core.Path.{_≡_, refl, sym}
 use native.Mathlib.Nat.{div-one, le-refl, mul-le-mul, mul-zero, zero-div}
@@ -41,23 +40,11 @@ returns-2 c =
     let start = c .before .before .before in
     record { is = sym (flux-part-none (start .args .n) (start .args .s) (start .args .f .0) (c .if2 .taken)); within = le-refl _ }
 
-cast-size : tie.Need-cast-size
-cast-size c = search needs
-
 mul-upto : tie.Need-mul-upto
 mul-upto c = product-fits _ _ (search needs) (search needs)
 
-div-upto : tie.Need-div-upto
-div-upto c = search needs
-
-sub-before : tie.Need-sub-before
-sub-before c = search needs
-
 mul-before : tie.Need-mul-before
 mul-before c = product-fits _ _ (search needs) (search needs)
-
-div-before : tie.Need-div-before
-div-before c = search needs
 
 sub-part : tie.Need-sub-part
 sub-part c = flux-part-not-cut _ _ _ (search needs)
@@ -74,4 +61,4 @@ returns-3 c = record { is = refl; within = flux-part-le _ _ _ (search needs) (se
 
 pub flux-part-spec : {M : Type 1} → statement M
 flux-part-spec =
-    tie.close (tie.spec returns returns-2 cast-size mul-upto div-upto sub-before mul-before div-before sub-part cast-part returns-3)
+    tie.close (tie.spec returns returns-2 (λ c. search needs) mul-upto (λ c. search needs) (λ c. search needs) mul-before (λ c. search needs) sub-part cast-part returns-3)

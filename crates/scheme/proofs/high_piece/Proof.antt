@@ -1,5 +1,4 @@
 -- `scheme::high_piece` meets its contract: for a safe mismatch nothing is cut off or passes 64 bits, and the quotient is the model's piece.
--- Assumes nothing.
 use Prim.Native.Nat.{ℕ, _*_, _-_, _/_, _^_, _≤_, _<_}
 use mathlib.Core.Bool.{Bool, true, false}
 use mathlib.Core.Logic.{⊎-elim}
@@ -41,18 +40,6 @@ signed :
     x ≡ numerator (record { size = D .size; positive = b }) M T m → x ≡ numerator D M T m
 signed D M T m b e h = h ∙ ap (λ (b : Bool). numerator (record { size = D .size; positive = b }) M T m) (sym e)
 
-cast-air : tie.Need-cast-air
-cast-air c = search needs
-
-cast-amount : tie.Need-cast-amount
-cast-amount c = search needs
-
-cast-part : tie.Need-cast-part
-cast-part c = search needs
-
-mul-level : tie.Need-mul-level
-mul-level c = search needs
-
 mul-level-2 : tie.Need-mul-level-2
 mul-level-2 c = omega (arith, sizes (c .before .before .before .pre))
 
@@ -60,9 +47,6 @@ mul-tilt : tie.Need-mul-tilt
 mul-tilt c =
     let start : tie.Start = search in
     omega (arith, sizes (start .pre))
-
-sub-tilt : tie.Need-sub-tilt
-sub-tilt c = search needs
 
 mul-tilt-2 : tie.Need-mul-tilt-2
 mul-tilt-2 c =
@@ -78,9 +62,6 @@ sub-numerator : tie.Need-sub-numerator
 sub-numerator c =
     let start : tie.Start = search in
     sizes (start .pre) .tilt
-
-div-piece : tie.Need-div-piece
-div-piece c = search needs
 
 -- the quotient is the piece that the model gives: dividing by 2·S and then by M is dividing by 2·S·M
 quotient :
@@ -113,16 +94,16 @@ pub high-piece-spec : {M : Type 1} → statement M
 high-piece-spec =
     tie.close
     (tie.spec
-    cast-air
-    cast-amount
-    cast-part
-    mul-level
+    (λ c. search needs)  -- cast-air
+    (λ c. search needs)  -- cast-amount
+    (λ c. search needs)  -- cast-part
+    (λ c. search needs)  -- mul-level
     mul-level-2
     mul-tilt
-    sub-tilt
+    (λ c. search needs)  -- sub-tilt
     mul-tilt-2
     add-numerator
     sub-numerator
-    div-piece
+    (λ c. search needs)  -- div-piece
     cast-piece
     returns)

@@ -1,6 +1,5 @@
 -- `scheme::mismatch` meets its contract: twice the lesser distance is the lesser of the two limits,
 -- and the least and the greatest of the neighbours tell as much as those of all three.
--- Assumes nothing.
 use Prim.Native.Nat.{ℕ, _*_, _-_, _/_, min, max}
 use mathlib.Core.Path.{_≡_, _∙_, ap, ap₂}
 use native.Mathlib.Omega.{arith}
@@ -37,27 +36,6 @@ size-is qa q qb l h p r m e =
     (m ∙ ap₂ min (p ∙ ap (λ (x : ℕ). q - x) l ∙ below qa q qb) (r ∙ ap (λ (x : ℕ). x - q) h ∙ beyond qa q qb)) ∙
     twice-lesser (distance qa qb / 2) (q - min qa (min q qb)) (max qa (max q qb) - q)
 
-lesser-requires : tie.Need-lesser-requires
-lesser-requires c κs = search needs
-
-greater-requires : tie.Need-greater-requires
-greater-requires c κs = search needs
-
-above-requires : tie.Need-above-requires
-above-requires c κs = search needs
-
-above-requires-2 : tie.Need-above-requires-2
-above-requires-2 c κs = search needs
-
-lesser-requires-2 : tie.Need-lesser-requires-2
-lesser-requires-2 c κs = search needs
-
-sub-at-most-twice : tie.Need-sub-at-most-twice
-sub-at-most-twice c = search needs
-
-at-most-twice-requires : tie.Need-at-most-twice-requires
-at-most-twice-requires c κs = search needs
-
 returns : tie.Need-returns
 unfolding mismatch
 returns c =
@@ -73,11 +51,11 @@ pub mismatch-spec : {M : Type 1} → statement M
 mismatch-spec =
     tie.close
     (tie.spec
-    lesser-requires
-    greater-requires
-    above-requires
-    above-requires-2
-    lesser-requires-2
-    sub-at-most-twice
-    at-most-twice-requires
+    (λ c κs. search needs)  -- lesser-requires
+    (λ c κs. search needs)  -- greater-requires
+    (λ c κs. search needs)  -- above-requires
+    (λ c κs. search needs)  -- above-requires-2
+    (λ c κs. search needs)  -- lesser-requires-2
+    (λ c. search needs)  -- sub-at-most-twice
+    (λ c κs. search needs)  -- at-most-twice-requires
     returns)

@@ -1,6 +1,5 @@
 -- `scheme::split` meets its contract: what the machine reads of a flux's bits is the flux,
 -- and the size of a negative one is taken in 64 bits, so that −2^31 has one.
--- Assumes nothing.
 use Prim.Native.Nat.{ℕ, suc}
 use mathlib.Core.Bool.{true, false, false≢true}
 use mathlib.Core.Path.{_≡_, refl, sym}

@@ -1,5 +1,4 @@
 -- `substep::fill_parts` meets its contract. The loop's invariant: the faces passed have their parts.
--- Assumes nothing.
 use Prim.Native.Nat.{_≤_, _-_}
 use mathlib.Core.Path.{_≡_, _∙_, ap}
 use native.Mathlib.Omega.{arith}
@@ -26,39 +25,6 @@ abbrev μ-loop : tie.MeasureT-loop
 loop-holds : tie.Need-loop-holds Inv-loop μ-loop
 loop-holds c = (search needs, search needs, search needs, same-none _ _)
 
-mul-x : tie.Need-mul-x Inv-loop μ-loop
-mul-x c = search needs
-
-shared-slice-copy-out-x : tie.Need-shared-slice-copy-out-x Inv-loop μ-loop
-shared-slice-copy-out-x c = search needs
-
-split-requires : tie.Need-split-requires Inv-loop μ-loop
-split-requires c κs = search needs
-
-flux-part-requires : tie.Need-flux-part-requires Inv-loop μ-loop
-flux-part-requires c κs = search needs
-
-flux-part-requires-2 : tie.Need-flux-part-requires-2 Inv-loop μ-loop
-flux-part-requires-2 c κs = search needs
-
-mul-up : tie.Need-mul-up Inv-loop μ-loop
-mul-up c = search needs
-
-slice-write-up : tie.Need-slice-write-up Inv-loop μ-loop
-slice-write-up c = search needs
-
-mul-down : tie.Need-mul-down Inv-loop μ-loop
-mul-down c = search needs
-
-slice-write-down : tie.Need-slice-write-down Inv-loop μ-loop
-slice-write-down c = search needs
-
-add-i : tie.Need-add-i Inv-loop μ-loop
-add-i c = search needs
-
-loop-less : tie.Need-loop-less Inv-loop μ-loop
-loop-less c = search needs
-
 loop-again : tie.Need-loop-again Inv-loop μ-loop
 unfolding parts
 loop-again c =
@@ -75,12 +41,6 @@ loop-again c =
           (c .flux-part2 .ensures .is ∙ ap (fluxPart _ _) (halves .low ∙ ap backward same)),
     )
 
-same-length : tie.Need-same-length Inv-loop μ-loop
-same-length c = search needs
-
-same-length-2 : tie.Need-same-length-2 Inv-loop μ-loop
-same-length-2 c = search needs
-
 returns : tie.Need-returns Inv-loop μ-loop
 returns c =
     let start : tie.Start Inv-loop μ-loop = search in
@@ -95,18 +55,18 @@ fill-parts-spec =
     Inv-loop
     μ-loop
     loop-holds
-    mul-x
-    shared-slice-copy-out-x
-    split-requires
-    flux-part-requires
-    flux-part-requires-2
-    mul-up
-    slice-write-up
-    mul-down
-    slice-write-down
-    add-i
-    loop-less
+    (λ c. search needs)  -- mul-x
+    (λ c. search needs)  -- shared-slice-copy-out-x
+    (λ c κs. search needs)  -- split-requires
+    (λ c κs. search needs)  -- flux-part-requires
+    (λ c κs. search needs)  -- flux-part-requires-2
+    (λ c. search needs)  -- mul-up
+    (λ c. search needs)  -- slice-write-up
+    (λ c. search needs)  -- mul-down
+    (λ c. search needs)  -- slice-write-down
+    (λ c. search needs)  -- add-i
+    (λ c. search needs)  -- loop-less
     loop-again
-    same-length
-    same-length-2
+    (λ c. search needs)  -- same-length
+    (λ c. search needs)  -- same-length-2
     returns)

@@ -1,5 +1,4 @@
 -- `substep::fill_ratios` meets its contract. The loop's invariant: the cells passed have their ratio.
--- Assumes nothing.
 use Prim.Native.Nat.{ℕ, _≤_, _-_}
 use mathlib.Core.Path.{_≡_}
 use native.Mathlib.Omega.{arith}
@@ -21,34 +20,10 @@ abbrev μ-loop : tie.MeasureT-loop
 loop-holds : tie.Need-loop-holds Inv-loop μ-loop
 loop-holds c = (search needs, search needs, record { is = λ k h. absurd (omega arith) })
 
-mul-have : tie.Need-mul-have Inv-loop μ-loop
-mul-have c = search needs
-
-shared-slice-read-have : tie.Need-shared-slice-read-have Inv-loop μ-loop
-shared-slice-read-have c = search needs
-
-mul-amount : tie.Need-mul-amount Inv-loop μ-loop
-mul-amount c = search needs
-
-shared-slice-read-amount : tie.Need-shared-slice-read-amount Inv-loop μ-loop
-shared-slice-read-amount c = search needs
-
 ratio-requires : tie.Need-ratio-requires Inv-loop μ-loop
 ratio-requires c κs =
     let start : tie.Start Inv-loop μ-loop = search in
     start .pre .some _ (search needs)
-
-mul-q : tie.Need-mul-q Inv-loop μ-loop
-mul-q c = search needs
-
-slice-write-q : tie.Need-slice-write-q Inv-loop μ-loop
-slice-write-q c = search needs
-
-add-c : tie.Need-add-c Inv-loop μ-loop
-add-c c = search needs
-
-loop-less : tie.Need-loop-less Inv-loop μ-loop
-loop-less c = search needs
 
 loop-again : tie.Need-loop-again Inv-loop μ-loop
 loop-again c =
@@ -59,9 +34,6 @@ loop-again c =
       search needs,
       record { is = entries-more 0 (l .q) (l .c) _ is-ratio (search needs) (l .inv .2 .is) (c .ratio .ensures) },
     )
-
-same-length : tie.Need-same-length Inv-loop μ-loop
-same-length c = search needs
 
 returns : tie.Need-returns Inv-loop μ-loop
 returns c =
@@ -75,15 +47,15 @@ fill-ratios-spec =
     Inv-loop
     μ-loop
     loop-holds
-    mul-have
-    shared-slice-read-have
-    mul-amount
-    shared-slice-read-amount
+    (λ c. search needs)  -- mul-have
+    (λ c. search needs)  -- shared-slice-read-have
+    (λ c. search needs)  -- mul-amount
+    (λ c. search needs)  -- shared-slice-read-amount
     ratio-requires
-    mul-q
-    slice-write-q
-    add-c
-    loop-less
+    (λ c. search needs)  -- mul-q
+    (λ c. search needs)  -- slice-write-q
+    (λ c. search needs)  -- add-c
+    (λ c. search needs)  -- loop-less
     loop-again
-    same-length
+    (λ c. search needs)  -- same-length
     returns)

@@ -1,5 +1,4 @@
 -- `substep::high_end` meets its contract: no air carries nothing.
--- Assumes nothing.
 use mathlib.Core.Path.{sym, _∙_, ap}
 use Rattle.model.specs.Basic.{at}
 use Rattle.model.specs.Scheme.{Mismatch, highPiece}
@@ -19,42 +18,6 @@ returns c =
     let amount = at (a .gas .now) (a .c) in
     sym (ap (highPiece D have amount) (c .if1 .taken) ∙ piece-none D have amount (start .pre .some))
 
-mul-have : tie.Need-mul-have
-mul-have c = search needs
-
-shared-slice-read-have : tie.Need-shared-slice-read-have
-shared-slice-read-have c = search needs
-
-mul-amount : tie.Need-mul-amount
-mul-amount c = search needs
-
-shared-slice-read-amount : tie.Need-shared-slice-read-amount
-shared-slice-read-amount c = search needs
-
-mul-mismatch : tie.Need-mul-mismatch
-mul-mismatch c = search needs
-
-shared-slice-read-mismatch : tie.Need-shared-slice-read-mismatch
-shared-slice-read-mismatch c = search needs
-
-mul-mismatch-2 : tie.Need-mul-mismatch-2
-mul-mismatch-2 c = search needs
-
-shared-slice-read-mismatch-2 : tie.Need-shared-slice-read-mismatch-2
-shared-slice-read-mismatch-2 c = search needs
-
-mul-mismatch-3 : tie.Need-mul-mismatch-3
-mul-mismatch-3 c = search needs
-
-shared-slice-read-mismatch-3 : tie.Need-shared-slice-read-mismatch-3
-shared-slice-read-mismatch-3 c = search needs
-
-mismatch-requires : tie.Need-mismatch-requires
-mismatch-requires c κs = search needs
-
-high-piece-requires : tie.Need-high-piece-requires
-high-piece-requires c κs = search needs
-
 returns-2 : tie.Need-returns-2
 returns-2 c =
     let a = the tie.Start (search) .args in
@@ -67,16 +30,16 @@ high-end-spec =
     tie.close
     (tie.spec
     returns
-    mul-have
-    shared-slice-read-have
-    mul-amount
-    shared-slice-read-amount
-    mul-mismatch
-    shared-slice-read-mismatch
-    mul-mismatch-2
-    shared-slice-read-mismatch-2
-    mul-mismatch-3
-    shared-slice-read-mismatch-3
-    mismatch-requires
-    high-piece-requires
+    (λ c. search needs)  -- mul-have
+    (λ c. search needs)  -- shared-slice-read-have
+    (λ c. search needs)  -- mul-amount
+    (λ c. search needs)  -- shared-slice-read-amount
+    (λ c. search needs)  -- mul-mismatch
+    (λ c. search needs)  -- shared-slice-read-mismatch
+    (λ c. search needs)  -- mul-mismatch-2
+    (λ c. search needs)  -- shared-slice-read-mismatch-2
+    (λ c. search needs)  -- mul-mismatch-3
+    (λ c. search needs)  -- shared-slice-read-mismatch-3
+    (λ c κs. search needs)  -- mismatch-requires
+    (λ c κs. search needs)  -- high-piece-requires
     returns-2)

@@ -9,9 +9,6 @@ use borrow.Author.Needs.{needs}
 use Rattle.units.proofs.layer_start.Statement.{statement}
 use Rattle.units.proofs.layer_start.Tie as tie
 
-layer-cells-requires : tie.Need-layer-cells-requires
-layer-cells-requires c κs = search needs
-
 start-is : (c : tie.After-layer-cells) → c .before .args .k * c .layer-cells .result ≡ layerStart (gridOf (c .before .args .g)) (c .before .args .k)
 start-is c = ap (λ (n : ℕ). c .before .args .k * n) (c .layer-cells .ensures .0)
 
@@ -26,4 +23,4 @@ returns c =
     (start-is c, omega (arith, start-is c))
 
 pub layer-start-spec : {M : Type 1} → statement M
-layer-start-spec = tie.close (tie.spec layer-cells-requires mul-result returns)
+layer-start-spec = tie.close (tie.spec (λ c κs. search needs) mul-result returns)

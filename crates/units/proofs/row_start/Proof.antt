@@ -11,9 +11,6 @@ use borrow.Author.Needs.{needs}
 use Rattle.units.proofs.row_start.Statement.{statement}
 use Rattle.units.proofs.row_start.Tie as tie
 
-layer-cells-requires : tie.Need-layer-cells-requires
-layer-cells-requires c κs = search needs
-
 start-is : (c : tie.After-layer-cells) →
     let args = c .before .args in
     args .k * c .layer-cells .result + (1 + args .r * args .g .w) ≡ rowStart (gridOf (args .g)) (args .k) (args .r)
@@ -46,4 +43,4 @@ returns c =
 pub row-start-spec : {M : Type 1} → statement M
 row-start-spec =
     tie.close
-    (tie.spec layer-cells-requires mul-result mul-result-2 add-result add-result-2 returns)
+    (tie.spec (λ c κs. search needs) mul-result mul-result-2 add-result add-result-2 returns)

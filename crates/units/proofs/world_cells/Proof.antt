@@ -9,9 +9,6 @@ use borrow.Author.Needs.{needs}
 use Rattle.units.proofs.world_cells.Statement.{statement}
 use Rattle.units.proofs.world_cells.Tie as tie
 
-layer-cells-requires : tie.Need-layer-cells-requires
-layer-cells-requires c κs = search needs
-
 cells-are : (c : tie.After-layer-cells) → c .before .args .g .k * c .layer-cells .result ≡ worldCells (gridOf (c .before .args .g))
 cells-are c = ap (λ (n : ℕ). c .before .args .g .k * n) (c .layer-cells .ensures .0)
 
@@ -22,4 +19,4 @@ returns : tie.Need-returns
 returns c = (cells-are c, omega (arith, cells-are c, cells-most (c .before .pre)))
 
 pub world-cells-spec : {M : Type 1} → statement M
-world-cells-spec = tie.close (tie.spec layer-cells-requires mul-result returns)
+world-cells-spec = tie.close (tie.spec (λ c κs. search needs) mul-result returns)

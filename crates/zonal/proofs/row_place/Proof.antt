@@ -27,15 +27,6 @@ abbrev LeftAt : tie.Start → (ℕ → ℕ → List ℤ → List Place) → Type
 LeftAt s from =
     Left (world s) (Like (world s) (call s)) (from (s .args .layer) (s .args .row) (s .args .fluxes .now))
 
-common-places-requires : tie.Need-common-places-requires
-common-places-requires c κs = search needs
-
-number-requires : tie.Need-number-requires
-number-requires c κs = search needs
-
-not-placed-requires : tie.Need-not-placed-requires
-not-placed-requires c κs = search needs
-
 returns : tie.Need-returns
 returns c =
     let tested : tie.After-common-places = search needs in
@@ -51,9 +42,6 @@ passed c =
     let tested : tie.After-common-places = search needs in
     tested .common-places .ensures .found (sym (c .before .number .ensures) ∙ c .if1 .taken)
 
-not-placed-requires-2 : tie.Need-not-placed-requires-2
-not-placed-requires-2 c κs = search needs
-
 returns-2 : tie.Need-returns-2
 returns-2 c =
     let common : tie.Then1 = search needs in
@@ -66,9 +54,6 @@ past-layer c =
     let common : tie.Then1 = search needs in
     next (own-left (passed common) refl) (there (c .if2 .taken))
 
-not-placed-requires-3 : tie.Need-not-placed-requires-3
-not-placed-requires-3 c κs = search needs
-
 returns-3 : tie.Need-returns-3
 returns-3 c =
     let layer : tie.Then2 = search needs in
@@ -80,12 +65,6 @@ past-row : (c : tie.Then3) → let s : tie.Start = search needs in LeftAt s from
 past-row c =
     let layer : tie.Then2 = search needs in
     next (past-layer layer) (there (c .if3 .taken))
-
-fluxes-fit-requires : tie.Need-fluxes-fit-requires
-fluxes-fit-requires c κs = search needs
-
-not-placed-requires-4 : tie.Need-not-placed-requires-4
-not-placed-requires-4 c κs = search needs
 
 returns-4 : tie.Need-returns-4
 returns-4 c =
@@ -118,24 +97,6 @@ row-at c =
       inside = c .row-start .ensures .1;
     }
 
-cast-first : tie.Need-cast-first
-cast-first c = search needs
-
-cast-end : tie.Need-cast-end
-cast-end c = search needs
-
-add-end : tie.Need-add-end
-add-end c = search needs
-
-mul-count : tie.Need-mul-count
-mul-count c = search needs
-
-sub-count : tie.Need-sub-count
-sub-count c = search needs
-
-part-count-start : tie.Need-part-count-start
-part-count-start c = search needs
-
 part-count-end : tie.Need-part-count-end
 part-count-end c =
     let row : tie.After-row-start = search needs in
@@ -152,17 +113,11 @@ counted c =
     let row : tie.After-row-start = search needs in
     c .count .ensures .is ∙ count-found (row-at row)
 
-not-placed-requires-5 : tie.Need-not-placed-requires-5
-not-placed-requires-5 c κs = search needs
-
 returns-5 : tie.Need-returns-5
 returns-5 c =
     let fluxes : tie.Then4 = search needs in
     let count : tie.After-count = search needs in
     stop (past-fluxes fluxes) (eq-eqb _ _ (sym (counted count) ∙ omega arith)) (c .not-placed5 .ensures) refl
-
-cast-found : tie.Need-cast-found
-cast-found c = search needs
 
 returns-6 : tie.Need-returns-6
 returns-6 c =
@@ -184,27 +139,27 @@ pub row-place-spec : {M : Type 1} → statement M
 row-place-spec =
     tie.close
     (tie.spec
-    common-places-requires
-    number-requires
-    not-placed-requires
+    (λ c κs. search needs)  -- common-places-requires
+    (λ c κs. search needs)  -- number-requires
+    (λ c κs. search needs)  -- not-placed-requires
     returns
-    not-placed-requires-2
+    (λ c κs. search needs)  -- not-placed-requires-2
     returns-2
-    not-placed-requires-3
+    (λ c κs. search needs)  -- not-placed-requires-3
     returns-3
-    fluxes-fit-requires
-    not-placed-requires-4
+    (λ c κs. search needs)  -- fluxes-fit-requires
+    (λ c κs. search needs)  -- not-placed-requires-4
     returns-4
     row-start-requires
-    cast-first
-    cast-end
-    add-end
-    mul-count
-    sub-count
-    part-count-start
+    (λ c. search needs)  -- cast-first
+    (λ c. search needs)  -- cast-end
+    (λ c. search needs)  -- add-end
+    (λ c. search needs)  -- mul-count
+    (λ c. search needs)  -- sub-count
+    (λ c. search needs)  -- part-count-start
     part-count-end
     count-requires
-    not-placed-requires-5
+    (λ c κs. search needs)  -- not-placed-requires-5
     returns-5
-    cast-found
+    (λ c. search needs)  -- cast-found
     returns-6)

@@ -4,18 +4,6 @@ use borrow.Author.Needs.{needs}
 use Rattle.zonal.proofs.sweep_row.Statement.{statement}
 use Rattle.zonal.proofs.sweep_row.Tie as tie
 
-cast-w : tie.Need-cast-w
-cast-w c = search needs
-
-cast-n : tie.Need-cast-n
-cast-n c = search needs
-
-world-cells-requires : tie.Need-world-cells-requires
-world-cells-requires c κs = search needs
-
-cast-cells : tie.Need-cast-cells
-cast-cells c = search needs
-
 load-rows-requires : tie.Need-load-rows-requires
 load-rows-requires c κs =
     let start : tie.Start = search needs in
@@ -37,12 +25,6 @@ store-rows-requires c κs =
     let swept : tie.After-sweep-rows = search needs in
     swept-fit (start .pre) (cells .world-cells .ensures .0) (rows .load-rows .ensures) (swept .sweep-rows .ensures)
 
-same-length : tie.Need-same-length
-same-length c = search needs
-
-same-length-2 : tie.Need-same-length-2
-same-length-2 c = search needs
-
 returns : tie.Need-returns
 returns c =
     let start : tie.Start = search needs in
@@ -56,13 +38,13 @@ pub sweep-row-spec : {M : Type 1} → statement M
 sweep-row-spec =
     tie.close
     (tie.spec
-    cast-w
-    cast-n
-    world-cells-requires
-    cast-cells
+    (λ c. search needs)  -- cast-w
+    (λ c. search needs)  -- cast-n
+    (λ c κs. search needs)  -- world-cells-requires
+    (λ c. search needs)  -- cast-cells
     load-rows-requires
     sweep-rows-requires
     store-rows-requires
-    same-length
-    same-length-2
+    (λ c. search needs)  -- same-length
+    (λ c. search needs)  -- same-length-2
     returns)

@@ -9,18 +9,6 @@ use borrow.Author.Needs.{needs}
 use Rattle.zonal.proofs.zonal.Statement.{statement}
 use Rattle.zonal.proofs.zonal.Tie as tie
 
-row-place-requires : tie.Need-row-place-requires
-row-place-requires c κs = search needs
-
-number-requires : tie.Need-number-requires
-number-requires c κs = search needs
-
-same-length : tie.Need-same-length
-same-length c = search needs
-
-same-length-2 : tie.Need-same-length-2
-same-length-2 c = search needs
-
 returns : tie.Need-returns
 returns c =
     let place : tie.After-row-place = search needs in
@@ -40,9 +28,6 @@ cast-substeps c =
     let accepted : tie.Then1 = search needs in
     omega (arith, found accepted .most)
 
-cast-end : tie.Need-cast-end
-cast-end c = search needs
-
 add-end : tie.Need-add-end
 add-end c =
     let accepted : tie.Then1 = search needs in
@@ -52,12 +37,6 @@ mul-sweep-row : tie.Need-mul-sweep-row
 mul-sweep-row c =
     let accepted : tie.Then1 = search needs in
     omega (arith, row-near (found accepted .row))
-
-sub-sweep-row : tie.Need-sub-sweep-row
-sub-sweep-row c = search needs
-
-part-sweep-row-start : tie.Need-part-sweep-row-start
-part-sweep-row-start c = search needs
 
 part-sweep-row-end : tie.Need-part-sweep-row-end
 part-sweep-row-end c =
@@ -69,12 +48,6 @@ sweep-row-requires c κs =
     let accepted : tie.Then1 = search needs in
     row-ready (found accepted)
 
-same-length-3 : tie.Need-same-length-3
-same-length-3 c = search needs
-
-same-length-4 : tie.Need-same-length-4
-same-length-4 c = search needs
-
 returns-2 : tie.Need-returns-2
 returns-2 c =
     let accepted : tie.Then1 = search needs in
@@ -85,19 +58,19 @@ pub zonal-spec : {M : Type 1} → statement M
 zonal-spec =
     tie.close
     (tie.spec
-    row-place-requires
-    number-requires
-    same-length
-    same-length-2
+    (λ c κs. search needs)  -- row-place-requires
+    (λ c κs. search needs)  -- number-requires
+    (λ c. search needs)  -- same-length
+    (λ c. search needs)  -- same-length-2
     returns
     cast-substeps
-    cast-end
+    (λ c. search needs)  -- cast-end
     add-end
     mul-sweep-row
-    sub-sweep-row
-    part-sweep-row-start
+    (λ c. search needs)  -- sub-sweep-row
+    (λ c. search needs)  -- part-sweep-row-start
     part-sweep-row-end
     sweep-row-requires
-    same-length-3
-    same-length-4
+    (λ c. search needs)  -- same-length-3
+    (λ c. search needs)  -- same-length-4
     returns-2)
