@@ -31,21 +31,24 @@ enum-told-3 c = search needs
 
 mul-result : tie.Need-mul-result
 mul-result c =
-    let start = c .before .before .before .before .before .before .before in
-    let cells = c .before .before .cells-of in
-    record { fits = omega (arith, tracer-cells (start .args .g) (start .pre) (cells .result) (cells .ensures .1), cells .ensures .1) }
+    let start : tie.Start = search in
+    let cells = (let p : tie.After-cells-of = search in p .cells-of) in
+    let amounts = tracer-cells (start .args .g) (start .pre) (cells .result) (cells .ensures .1) in
+    record { fits = omega (arith, cells .ensures .1) }
 
 add-result : tie.Need-add-result
 add-result c =
-    let start = c .before .before .before .before .before .before .before in
-    let cells = c .before .before .cells-of in
-    omega (arith, tracer-cells (start .args .g) (start .pre) (cells .result) (cells .ensures .1), cells .ensures .1)
+    let start : tie.Start = search in
+    let cells = (let p : tie.After-cells-of = search in p .cells-of) in
+    let amounts = tracer-cells (start .args .g) (start .pre) (cells .result) (cells .ensures .1) in
+    omega (arith, cells .ensures .1)
 
 mul-result-2 : tie.Need-mul-result-2
 mul-result-2 c =
-    let start = c .before .before .before .before .before .before .before in
-    let cells = c .before .before .cells-of in
-    record { fits = omega (arith, tracer-cells (start .args .g) (start .pre) (cells .result) (cells .ensures .1), cells .ensures .1) }
+    let start : tie.Start = search in
+    let cells = (let p : tie.After-cells-of = search in p .cells-of) in
+    let amounts = tracer-cells (start .args .g) (start .pre) (cells .result) (cells .ensures .1) in
+    record { fits = omega (arith, cells .ensures .1) }
 
 enum-told-4 : tie.Need-enum-told-4
 enum-told-4 c = search needs
@@ -69,13 +72,25 @@ add-result-3 : tie.Need-add-result-3
 add-result-3 c = search needs
 
 mul-result-4 : tie.Need-mul-result-4
-mul-result-4 c = let start = c .before .before .before .before .before .before .before in record { fits = omega (arith, row-cells (start .args .g) (start .pre), layer-faces (start .args .g) (start .pre), start .pre .highW) }
+mul-result-4 c =
+    let start : tie.Start = search in
+    let cells = row-cells (start .args .g) (start .pre) in
+    let faces = layer-faces (start .args .g) (start .pre) in
+    record { fits = omega (arith, start .pre .highW) }
 
 mul-result-5 : tie.Need-mul-result-5
-mul-result-5 c = let start = c .before .before .before .before .before .before .before in record { fits = omega (arith, row-cells (start .args .g) (start .pre), layer-faces (start .args .g) (start .pre), start .pre .highW) }
+mul-result-5 c =
+    let start : tie.Start = search in
+    let cells = row-cells (start .args .g) (start .pre) in
+    let faces = layer-faces (start .args .g) (start .pre) in
+    record { fits = omega (arith, start .pre .highW) }
 
 add-result-4 : tie.Need-add-result-4
-add-result-4 c = let start = c .before .before .before .before .before .before .before in omega (arith, row-cells (start .args .g) (start .pre), layer-faces (start .args .g) (start .pre), start .pre .highW)
+add-result-4 c =
+    let start : tie.Start = search in
+    let cells = row-cells (start .args .g) (start .pre) in
+    let faces = layer-faces (start .args .g) (start .pre) in
+    omega (arith, start .pre .highW)
 
 enum-told-8 : tie.Need-enum-told-8
 enum-told-8 c = search needs
@@ -103,9 +118,10 @@ returns-2 c = search needs
 
 returns-3 : tie.Need-returns-3
 returns-3 c =
-    let start = c .before .before .before .before .before .before .before in
-    let cells = c .before .before .cells-of in
-    (cc (cells .ensures .0), omega (arith, tracer-cells (start .args .g) (start .pre) (cells .result) (cells .ensures .1), cells .ensures .1))
+    let start : tie.Start = search in
+    let cells = (let p : tie.After-cells-of = search in p .cells-of) in
+    let amounts = tracer-cells (start .args .g) (start .pre) (cells .result) (cells .ensures .1) in
+    (cc (cells .ensures .0), omega (arith, cells .ensures .1))
 
 returns-4 : tie.Need-returns-4
 returns-4 c = search needs
@@ -117,7 +133,11 @@ returns-6 : tie.Need-returns-6
 returns-6 c = (cc, search needs)
 
 returns-7 : tie.Need-returns-7
-returns-7 c = let start = c .before .before .before .before .before .before .before in (cc, omega (arith, row-cells (start .args .g) (start .pre), layer-faces (start .args .g) (start .pre), start .pre .highW))
+returns-7 c =
+    let start : tie.Start = search in
+    let cells = row-cells (start .args .g) (start .pre) in
+    let faces = layer-faces (start .args .g) (start .pre) in
+    (cc, omega (arith, start .pre .highW))
 
 returns-8 : tie.Need-returns-8
 returns-8 c = (cc, search needs)
