@@ -20,7 +20,9 @@ use Rattle.command_to_answer.specs.Room.{agrees-same}
 -- ---- a call that was made is the one that the command asks for
 module _ {g : declared.Grid} {c : Command} {body : List ℕ} {x : Answer} {before left : Buffers} where
   -- c is d, which asks for the call
-  pub makes-call : (d : Command) → c ≡ d → (made : Call) → commandIs (gridOf g) body d ≡ program.make made → Agrees (worldIn g before) made x (worldIn g left) → Makes g c body x before left
+  pub makes-call :
+      (d : Command) → c ≡ d → (made : Call) → commandIs (gridOf g) body d ≡ program.make made →
+      Agrees (worldIn g before) made x (worldIn g left) → Makes g c body x before left
   makes-call d told made is agrees =
       record {
         made =

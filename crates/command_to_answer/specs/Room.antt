@@ -50,11 +50,15 @@ module _ {A : Type 0} {room new : List A} {n : ℕ} (fits : n ≤ length room) w
       let back : take n (new ++ drop n room) ≡ tab n f = take-at new (drop n room) n size ∙ values in
       record { back = back; long = omega (arith, length-append new (drop n room)); sized = sym (ap length back ∙ length-tab n f) }
 
-pub filled-numbers : (room : List ℕ) (n : ℕ) (body : List ℕ) {new : List ℕ} → n ≤ length room → new ≡ numbersAt body 0 (length (take n room)) → Filled room new n (numbersAt body 0 n)
+pub filled-numbers :
+    (room : List ℕ) (n : ℕ) (body : List ℕ) {new : List ℕ} → n ≤ length room → new ≡ numbersAt body 0 (length (take n room)) →
+    Filled room new n (numbersAt body 0 n)
 filled-numbers room n body fits is = filled fits (λ j. numberAt body (0 + 4 * j) 4) is
 
 -- fluxes from byte a of a body on
-pub filled-fluxes : (room : List ℤ) (n : ℕ) (body : List ℕ) (a : ℕ) {new : List ℤ} → n ≤ length room → new ≡ fluxesAt (take (length body - a) (drop a body)) 0 (length (take n room)) → Filled room new n (fluxesAt body a n)
+pub filled-fluxes :
+    (room : List ℤ) (n : ℕ) (body : List ℕ) (a : ℕ) {new : List ℤ} → n ≤ length room →
+    new ≡ fluxesAt (take (length body - a) (drop a body)) 0 (length (take n room)) → Filled room new n (fluxesAt body a n)
 filled-fluxes room n body a {new} fits is =
     subst (Filled room new n) (fluxes-from body a n)
     (filled fits (λ j. signed (numberAt (take (length body - a) (drop a body)) (0 + 4 * j) 4)) is)

@@ -9,7 +9,9 @@ use Rattle.stages.specs.Buffers.{Buffers, empty}
 use Rattle.stages.specs.Stage.{plainState}
 
 -- ---- a byte other than 1 to 9 names no kind
-pub no-kind : (byte : ℕ) → (byte ≡ 1 → ⊥) → (byte ≡ 2 → ⊥) → (byte ≡ 3 → ⊥) → (byte ≡ 4 → ⊥) → (byte ≡ 5 → ⊥) → (byte ≡ 6 → ⊥) → (byte ≡ 7 → ⊥) → (byte ≡ 8 → ⊥) → (byte ≡ 9 → ⊥) → program.kindOf byte ≡ program.unknown
+pub no-kind :
+    (byte : ℕ) → (byte ≡ 1 → ⊥) → (byte ≡ 2 → ⊥) → (byte ≡ 3 → ⊥) → (byte ≡ 4 → ⊥) → (byte ≡ 5 → ⊥) → (byte ≡ 6 → ⊥) → (byte ≡ 7 → ⊥) →
+    (byte ≡ 8 → ⊥) → (byte ≡ 9 → ⊥) → program.kindOf byte ≡ program.unknown
 no-kind zero n1 n2 n3 n4 n5 n6 n7 n8 n9 = refl
 no-kind (suc zero) n1 n2 n3 n4 n5 n6 n7 n8 n9 = absurd (n1 refl)
 no-kind (suc (suc zero)) n1 n2 n3 n4 n5 n6 n7 n8 n9 = absurd (n2 refl)

@@ -52,7 +52,9 @@ module _ {stage r : Stage} (settled : IsSettled stage r) {input : List ℕ} {ans
       (ap (readingIs (program.gridOf (stateOf stage b)) input) (sym e) ∙ cell-is)
       (record { same = refl; leftIs = refl })
 
-  pub carries-fault : {f : Fault} {number : ℕ} → answer ≡ Faulty f → number ≡ faultNumber f → Carries stage input (outcome.Last (record { kind = at input 0; answer = number; count = 0 })) b b
+  pub carries-fault :
+      {f : Fault} {number : ℕ} → answer ≡ Faulty f → number ≡ faultNumber f →
+      Carries stage input (outcome.Last (record { kind = at input 0; answer = number; count = 0 })) b b
   unfolding program.outcomeOf
   carries-fault {f} {number} e n =
       subst (λ (v : program.Finding). Leaves (program.outcomeOf (stateOf stage b) (at input 0) v) (outcome.Last (record { kind = at input 0; answer = number; count = 0 })) b b)
@@ -60,7 +62,9 @@ module _ {stage r : Stage} (settled : IsSettled stage r) {input : List ℕ} {ans
       (record { same = ap (λ (m : ℕ). program.last (program.line (at input 0) m 0)) n; leftIs = refl })
 
 -- ---- a stage at which a record other than a grid's is in place has a grid that the program took
-taken-of : (r : Stage) (k : program.Kind) (b : Buffers) → stageRefusal r ≡ 0 → program.inPlace (plainState r b) k ≡ true → (k ≡ program.gridKind → ⊥) → program.gridRefusal (gridOfStage r) ≡ 0
+taken-of :
+    (r : Stage) (k : program.Kind) (b : Buffers) → stageRefusal r ≡ 0 → program.inPlace (plainState r b) k ≡ true →
+    (k ≡ program.gridKind → ⊥) → program.gridRefusal (gridOfStage r) ≡ 0
 taken-of (Gridded h) k b taken placed noGrid = taken
 taken-of (Loaded h) k b taken placed noGrid = taken
 taken-of Start program.unknown b taken placed noGrid = absurd (false≢true placed)
@@ -116,7 +120,9 @@ module _ {stage r : Stage} (settled : IsSettled stage r) {input : List ℕ} {ans
       loaded-of r b (subst (λ (v : program.State). program.isLoaded v ≡ true) (settled .same b) is) ∙
       ap (λ (x : model.Grid). program.loaded (held x b)) (sym grid)
 
-  pub carries-record : {o : code.Outcome} {left : Buffers} → CarriesCommand g (at input 0) c (take (length input - 1) (drop 1 input)) o b left → Carries stage input o b left
+  pub carries-record :
+      {o : code.Outcome} {left : Buffers} → CarriesCommand g (at input 0) c (take (length input - 1) (drop 1 input)) o b left →
+      Carries stage input o b left
   unfolding program.outcomeOf
   carries-record {o} {left} carries =
       subst (λ (v : program.Finding). Leaves (program.outcomeOf (stateOf stage b) (at input 0) v) o b left) found-is

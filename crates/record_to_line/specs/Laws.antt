@@ -27,19 +27,25 @@ use Rattle.record_to_line.specs.Outcome.{TakesGrid, AnswersLoad, TakeNee
 use Rattle.record_to_line.specs.Leaves.{parts, Sized}
 
 -- ---- a grid's record: taken, or refused as the program's last line
-pub grid-taken : (byte : ℕ) (wanted : declared.Grid) (n : ℕ) → n ≡ program.gridRefusal (gridOf wanted) → n ≡ 0 → TakesGrid byte wanted (Next (record { kind = byte; answer = n; count = 0 }) (Gridded wanted))
+pub grid-taken :
+    (byte : ℕ) (wanted : declared.Grid) (n : ℕ) → n ≡ program.gridRefusal (gridOf wanted) → n ≡ 0 →
+    TakesGrid byte wanted (Next (record { kind = byte; answer = n; count = 0 }) (Gridded wanted))
 unfolding program.carriedOut
 grid-taken byte wanted n e z s b =
     let r : program.gridRefusal (gridOf wanted) ≡ 0 = sym e ∙ z in
     rw (r, program.carriedOut, stateOf, z)
 
-pub grid-refused : (byte : ℕ) (wanted : declared.Grid) (n : ℕ) → n ≡ program.gridRefusal (gridOf wanted) → (n ≡ 0 → ⊥) → TakesGrid byte wanted (Last (record { kind = byte; answer = n; count = 0 }))
+pub grid-refused :
+    (byte : ℕ) (wanted : declared.Grid) (n : ℕ) → n ≡ program.gridRefusal (gridOf wanted) → (n ≡ 0 → ⊥) →
+    TakesGrid byte wanted (Last (record { kind = byte; answer = n; count = 0 }))
 unfolding program.carriedOut
 grid-refused byte wanted zero e nonzero s b = absurd (nonzero refl)
 grid-refused byte wanted (suc n) e nonzero s b = rw (← e, program.carriedOut)
 
 -- ---- a load that was decoded into room of its own
-pub answers-load : {g : declared.Grid} {body : List ℕ} {cells amounts : ℕ} {x : Answer} {before left : Buffers} → length (before .air) ≡ cells → length (before .tracers) ≡ amounts → MakesLoad g body before x left → AnswersLoad g body cells amounts x
+pub answers-load :
+    {g : declared.Grid} {body : List ℕ} {cells amounts : ℕ} {x : Answer} {before left : Buffers} → length (before .air) ≡ cells →
+    length (before .tracers) ≡ amounts → MakesLoad g body before x left → AnswersLoad g body cells amounts x
 answers-load {g} {body} {cells} {amounts} {x} {before} {left} p q made =
     let same : worldIn g left ≡ bodyWorld (gridOf g) body cells amounts = made .is ∙ ap₂ (bodyWorld (gridOf g) body) p q in
     record {
@@ -75,7 +81,9 @@ module _ {g : declared.Grid} {c : Command} {body : List ℕ} {b : Buffers} (need
         }
 
 -- both lists of a load are in its body
-pub load-whole : (g : declared.Grid) (cells : ℕ) (body : List ℕ) → cells ≡ model.worldCells (gridOf g) → program.bodyLength (gridOf g) program.loadKind ≤ length body → 4 * cells + 4 * (g .n * cells) ≤ length body
+pub load-whole :
+    (g : declared.Grid) (cells : ℕ) (body : List ℕ) → cells ≡ model.worldCells (gridOf g) →
+    program.bodyLength (gridOf g) program.loadKind ≤ length body → 4 * cells + 4 * (g .n * cells) ≤ length body
 load-whole g cells body sized h =
     subst (λ (n : ℕ). 4 * n + 4 * (g .n * n) ≤ length body) (sym sized) (omega arith)
 
@@ -85,7 +93,9 @@ pub record IsCall (c : Command) : Type 0 where
   pub call : model.Grid → List ℕ → Call
   pub asks : (g : model.Grid) (body : List ℕ) → commandIs g body c ≡ program.make (call g body)
 
-pub take-need : {g : declared.Grid} {c : Command} {body : List ℕ} {b : Buffers} → CarryNeed g c body b → {d : Command} → c ≡ d → (kindOfCommand d ≡ program.gridKind → ⊥) → TakeNeed g d body b
+pub take-need :
+    {g : declared.Grid} {c : Command} {body : List ℕ} {b : Buffers} → CarryNeed g c body b → {d : Command} → c ≡ d →
+    (kindOfCommand d ≡ program.gridKind → ⊥) → TakeNeed g d body b
 take-need {g} {c} {body} {b} need e noGrid =
     subst (λ (x : Command). TakeNeed g x body b) e
     (record { taken = need .taken (λ p. noGrid (sym (ap kindOfCommand e) ∙ p)); whole = need .whole; room = need .room })

@@ -41,6 +41,10 @@ pub record Sized (g : declared.Grid) (cells : ℕ) (new : Buffers) : Type 0 wher
 written-first : (l new : List ℕ) (n : ℕ) → length new ≡ n → new ++ drop n l ≡ written l 0 new
 written-first l new n e = ap (λ (m : ℕ). new ++ drop m l) (sym (zero-add (length new) ∙ e))
 
+-- a line is that of a call's answer
+abbrev pub IsLine : lines.Line → ℕ → Answer → Type 0
+IsLine l byte x = lineIs l ≡ program.line byte (numberOf x) (countOf x)
+
 -- ---- the state after a load
 loaded-after : (w : model.World) → step w load .answer ≡ 0 → program.afterLoad w ≡ program.loaded w
 loaded-after w e = rw (e, program.afterLoad) (ap program.loaded (loaded-same w e))
@@ -50,11 +54,13 @@ gridded-after w zero e nonzero = absurd (nonzero refl)
 gridded-after w (suc n) e nonzero = rw (e, program.afterLoad)
 
 -- ---- what a load leaves, from what `onward` leaves with the state after it
-module _ (g : declared.Grid) {cells : ℕ} (sized : cells ≡ model.worldCells (gridOf g)) (byte : ℕ) (body : List ℕ) (x : Answer) (l : lines.Line) (s : program.State) (sameLine : lineIs l ≡ program.line byte (numberOf x) (countOf x)) (answers : AnswersLoad g body cells (g .n * cells) x) where
+module _ (g : declared.Grid) {cells : ℕ} (sized : cells ≡ model.worldCells (gridOf g)) (byte : ℕ) (body : List ℕ) (x : Answer) (l : lines.Line) (s : program.State) (sameLine : IsLine l byte x) (answers : AnswersLoad g body cells (g .n * cells) x) where
   w : model.World
   w = bodyWorld (gridOf g) body cells (g .n * cells)
 
-  load-onward : (next : program.State) (o : code.Outcome) (b left : Buffers) → program.afterLoad w ≡ next → Leaves (program.onward (lineIs l) next) o b left → Leaves (program.carriedOut s byte (commandIs (gridOf g) body Load)) o b left
+  load-onward :
+      (next : program.State) (o : code.Outcome) (b left : Buffers) → program.afterLoad w ≡ next →
+      Leaves (program.onward (lineIs l) next) o b left → Leaves (program.carriedOut s byte (commandIs (gridOf g) body Load)) o b left
   unfolding program.carriedOut w
   load-onward next o b left e leaves =
       let line = sameLine ∙ ap₂ (program.line byte) (answers .number) (answers .count) in
@@ -62,7 +68,9 @@ module _ (g : declared.Grid) {cells : ℕ} (sized : cells ≡ model.worldCells (
       (subst (λ (v : program.Outcome). Leaves v o b left) (ap₂ program.onward line (sym e)) leaves)
 
   -- a refused load: nothing is written
-  pub load-refused : (b : Buffers) → program.gridRefusal (gridOf g) ≡ 0 → (numberOf x ≡ 0 → ⊥) → Leaves (program.carriedOut s byte (commandIs (gridOf g) body Load)) (Next l (Gridded g)) b b
+  pub load-refused :
+      (b : Buffers) → program.gridRefusal (gridOf g) ≡ 0 → (numberOf x ≡ 0 → ⊥) →
+      Leaves (program.carriedOut s byte (commandIs (gridOf g) body Load)) (Next l (Gridded g)) b b
   unfolding w
   load-refused b taken nonzero =
       load-onward (program.gridded (gridOf g)) (Next l (Gridded g)) b b
@@ -85,7 +93,9 @@ module _ {g : declared.Grid} {cells : ℕ} (sized : cells ≡ model.worldCells (
       ap₂ buffers (written-first (b .air) (new .air) cells (long .air))
       (written-first (b .tracers) (new .tracers) (g .n * cells) (long .tracers))
 
-  leaves-loaded : program.gridRefusal (gridOf g) ≡ 0 → (l : lines.Line) (line : program.Line) (next : model.World) → lineIs l ≡ line → worldIn g new ≡ next → Leaves (program.onward line (program.loaded next)) (Next l (Loaded g)) b (joined g cells new b)
+  leaves-loaded :
+      program.gridRefusal (gridOf g) ≡ 0 → (l : lines.Line) (line : program.Line) (next : model.World) → lineIs l ≡ line →
+      worldIn g new ≡ next → Leaves (program.onward line (program.loaded next)) (Next l (Loaded g)) b (joined g cells new b)
   leaves-loaded taken l line next sameLine e =
       record {
         same = ap₂ program.onward sameLine (rw (taken, stateOf) (ap program.loaded (held-joined ∙ e)));
@@ -93,7 +103,10 @@ module _ {g : declared.Grid} {cells : ℕ} (sized : cells ≡ model.worldCells (
       }
 
   -- a call that was made in the world at the start of the buffers
-  pub call-leaves : program.gridRefusal (gridOf g) ≡ 0 → (byte : ℕ) (call : Call) (x : Answer) (l : lines.Line) → lineIs l ≡ program.line byte (numberOf x) (countOf x) → Agrees (worldIn g (parts g cells b)) call x (worldIn g new) → Leaves (program.carriedOut (program.loaded (held (gridOf g) b)) byte (program.make call)) (Next l (Loaded g)) b (joined g cells new b)
+  pub call-leaves :
+      program.gridRefusal (gridOf g) ≡ 0 → (byte : ℕ) (call : Call) (x : Answer) (l : lines.Line) → IsLine l byte x →
+      Agrees (worldIn g (parts g cells b)) call x (worldIn g new) →
+      Leaves (program.carriedOut (program.loaded (held (gridOf g) b)) byte (program.make call)) (Next l (Loaded g)) b (joined g cells new b)
   unfolding program.carriedOut
   call-leaves taken byte call x l sameLine agrees =
       let w = worldIn g (parts g cells b) in
@@ -102,7 +115,10 @@ module _ {g : declared.Grid} {cells : ℕ} (sized : cells ≡ model.worldCells (
       (sameLine ∙ ap₂ (program.line byte) (agrees .number) (agrees .count)) (agrees .left))
 
   -- an accepted load
-  pub load-leaves : program.gridRefusal (gridOf g) ≡ 0 → (byte : ℕ) (body : List ℕ) (x : Answer) (l : lines.Line) (s : program.State) → lineIs l ≡ program.line byte (numberOf x) (countOf x) → AnswersLoad g body cells (g .n * cells) x → numberOf x ≡ 0 → worldIn g new ≡ bodyWorld (gridOf g) body cells (g .n * cells) → Leaves (program.carriedOut s byte (commandIs (gridOf g) body Load)) (Next l (Loaded g)) b (joined g cells new b)
+  pub load-leaves :
+      program.gridRefusal (gridOf g) ≡ 0 → (byte : ℕ) (body : List ℕ) (x : Answer) (l : lines.Line) (s : program.State) → IsLine l byte x →
+      AnswersLoad g body cells (g .n * cells) x → numberOf x ≡ 0 → worldIn g new ≡ bodyWorld (gridOf g) body cells (g .n * cells) →
+      Leaves (program.carriedOut s byte (commandIs (gridOf g) body Load)) (Next l (Loaded g)) b (joined g cells new b)
   unfolding w
   load-leaves taken byte body x l s sameLine answers zeroed e =
       load-onward g sized byte body x l s sameLine answers _ (Next l (Loaded g)) b (joined g cells new b)

@@ -34,7 +34,9 @@ module _ (stage r : Stage) (byte : ℕ) (k : program.Kind) (settled : IsSettled 
         few = omega arith;
       }
 
-  pub needs-body : (g : model.Grid) (n : ℕ) → program.inPlace (plainState r empty) k ≡ true → g ≡ gridOfStage r → n ≡ program.bodyLength g k → n ≤ programBody → NeedsBytes stage byte n
+  pub needs-body :
+      (g : model.Grid) (n : ℕ) → program.inPlace (plainState r empty) k ≡ true → g ≡ gridOfStage r → n ≡ program.bodyLength g k →
+      n ≤ programBody → NeedsBytes stage byte n
   needs-body g n e same length few =
       record {
         number =
@@ -63,7 +65,9 @@ known-in-place s program.cellKind e = refl
 pub take-rest : (l : List ℕ) (a : ℕ) → take (length l - a) (drop a l) ≡ drop a l
 take-rest l a = take-all (length l - a) (drop a l) (omega (arith, length-drop a l))
 
-pub parse-need : (k : program.Kind) (input : List ℕ) (s : program.State) (g : model.Grid) → program.inPlace s k ≡ true → program.bodyLength g k ≤ length input - 1 → ParseNeed k (take (length input - 1) (drop 1 input))
+pub parse-need :
+    (k : program.Kind) (input : List ℕ) (s : program.State) (g : model.Grid) → program.inPlace s k ≡ true →
+    program.bodyLength g k ≤ length input - 1 → ParseNeed k (take (length input - 1) (drop 1 input))
 parse-need k input s g placed whole =
     rw (take-rest input 1)
     (record { known = known-in-place s k placed; grid = g; whole = omega (arith, length-drop 1 input) })
@@ -84,7 +88,9 @@ module _ (stage r : Stage) (input : List ℕ) (k : program.Kind) (settled : IsSe
     grid-in-state : gridOfStage r ≡ program.gridOf (stateOf stage b)
     grid-in-state = sym (ap program.gridOf (settled .same b) ∙ grid-any r b)
 
-    length-in-state : (g : model.Grid) → g ≡ gridOfStage r → program.bodyLength g k ≡ program.bodyLength (program.gridOf (stateOf stage b)) (program.kindOf (at input 0))
+    length-in-state :
+        (g : model.Grid) → g ≡ gridOfStage r →
+        program.bodyLength g k ≡ program.bodyLength (program.gridOf (stateOf stage b)) (program.kindOf (at input 0))
     length-in-state g e = ap₂ program.bodyLength (e ∙ grid-in-state) kind
 
   pub finds-misplaced : program.inPlace (plainState r empty) k ≡ false → Finds stage input (Faulty fault.Kind)

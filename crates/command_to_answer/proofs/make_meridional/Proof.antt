@@ -1,7 +1,8 @@
 -- `command_to_answer::make_meridional` meets its contract: the fluxes decoded from the body are those that the call is made with.
-use Prim.Native.Nat.{_+_, _*_}
+use Prim.Native.Nat.{_+_, _*_, _≤_}
 use mathlib.Core.Path.{sym, ap}
 use native.Mathlib.Omega.{arith}
+use lib.ListN.{length}
 use lib.Seq.{length-take-le}
 use Rattle.model.specs.Step.{meridional}
 use Rattle.stages.specs.Laws.{few-faces}
@@ -44,7 +45,9 @@ slice-aggregate-decode-fluxes : tie.Need-slice-aggregate-decode-fluxes
 slice-aggregate-decode-fluxes c =
     let start : tie.Start = search in
     let space = (let p : tie.After-layer-space = search in p .layer-space) in
-    sym (length-take-le (start .args .g .w * (start .args .g .r + 1)) _ (omega (arith, space .ensures, few-faces (start .args .g) (start .pre .0) (start .pre .1))))
+    let few = few-faces (start .args .g) (start .pre .0) (start .pre .1) in
+    let fits : start .args .g .w * (start .args .g .r + 1) ≤ length (space .result) = omega (arith, space .ensures) in
+    sym (length-take-le (start .args .g .w * (start .args .g .r + 1)) _ fits)
 
 decode-fluxes-requires : tie.Need-decode-fluxes-requires
 decode-fluxes-requires c κs =
@@ -58,14 +61,18 @@ array-share-prefix-fluxes c =
     let start : tie.Start = search in
     let space = (let p : tie.After-layer-space = search in p .layer-space) in
     let decoded = (let p : tie.After-decode-fluxes = search in p .decode-fluxes) in
-    filled-fluxes (space .result) (start .args .g .w * (start .args .g .r + 1)) (start .args .body .now) 1 (omega (arith, space .ensures, few-faces (start .args .g) (start .pre .0) (start .pre .1))) (decoded .ensures) .long
+    let few = few-faces (start .args .g) (start .pre .0) (start .pre .1) in
+    let fits : start .args .g .w * (start .args .g .r + 1) ≤ length (space .result) = omega (arith, space .ensures) in
+    filled-fluxes (space .result) (start .args .g .w * (start .args .g .r + 1)) (start .args .body .now) 1 fits (decoded .ensures) .long
 
 slice-aggregate-meridional : tie.Need-slice-aggregate-meridional
 slice-aggregate-meridional c =
     let start : tie.Start = search in
     let space = (let p : tie.After-layer-space = search in p .layer-space) in
     let decoded = (let p : tie.After-decode-fluxes = search in p .decode-fluxes) in
-    filled-fluxes (space .result) (start .args .g .w * (start .args .g .r + 1)) (start .args .body .now) 1 (omega (arith, space .ensures, few-faces (start .args .g) (start .pre .0) (start .pre .1))) (decoded .ensures) .sized
+    let few = few-faces (start .args .g) (start .pre .0) (start .pre .1) in
+    let fits : start .args .g .w * (start .args .g .r + 1) ≤ length (space .result) = omega (arith, space .ensures) in
+    filled-fluxes (space .result) (start .args .g .w * (start .args .g .r + 1)) (start .args .body .now) 1 fits (decoded .ensures) .sized
 
 meridional-requires : tie.Need-meridional-requires
 meridional-requires c κs = search needs
@@ -82,7 +89,9 @@ returns c =
     let space = (let p : tie.After-layer-space = search in p .layer-space) in
     let decoded = (let p : tie.After-decode-fluxes = search in p .decode-fluxes) in
     let swept = (let p : tie.After-meridional = search in p .meridional) in
-    let fluxes = filled-fluxes (space .result) (start .args .g .w * (start .args .g .r + 1)) (start .args .body .now) 1 (omega (arith, space .ensures, few-faces (start .args .g) (start .pre .0) (start .pre .1))) (decoded .ensures) .back in
+    let few = few-faces (start .args .g) (start .pre .0) (start .pre .1) in
+    let fits : start .args .g .w * (start .args .g .r + 1) ≤ length (space .result) = omega (arith, space .ensures) in
+    let fluxes = filled-fluxes (space .result) (start .args .g .w * (start .args .g .r + 1)) (start .args .body .now) 1 fits (decoded .ensures) .back in
     agrees-same _ _ _ _ _ (ap (meridional (start .args .p .layer)) fluxes) (swept .ensures)
 
 pub make-meridional-spec : {M : Type 1} → statement M

@@ -1,7 +1,8 @@
 -- `command_to_answer::make_remap` meets its contract: the table decoded from the body is that which the call is made with.
-use Prim.Native.Nat.{_+_, _*_}
+use Prim.Native.Nat.{_+_, _*_, _≤_}
 use mathlib.Core.Path.{sym, ap}
 use native.Mathlib.Omega.{arith}
+use lib.ListN.{length}
 use lib.Seq.{length-take-le}
 use Rattle.model.specs.Step.{remap}
 use Rattle.command_to_answer.specs.Room.{take-short, filled-numbers, agrees-same}
@@ -41,14 +42,16 @@ array-share-prefix-table c =
     let start : tie.Start = search in
     let space = (let p : tie.After-table-space = search in p .table-space) in
     let decoded = (let p : tie.After-decode = search in p .decode) in
-    filled-numbers (space .result) (2 * (start .args .g .k + 1)) (start .args .body .now) (omega (arith, space .ensures, start .pre .0 .highK)) (decoded .ensures) .long
+    let fits : 2 * (start .args .g .k + 1) ≤ length (space .result) = omega (arith, space .ensures, start .pre .0 .highK) in
+    filled-numbers (space .result) (2 * (start .args .g .k + 1)) (start .args .body .now) fits (decoded .ensures) .long
 
 slice-aggregate-remap : tie.Need-slice-aggregate-remap
 slice-aggregate-remap c =
     let start : tie.Start = search in
     let space = (let p : tie.After-table-space = search in p .table-space) in
     let decoded = (let p : tie.After-decode = search in p .decode) in
-    filled-numbers (space .result) (2 * (start .args .g .k + 1)) (start .args .body .now) (omega (arith, space .ensures, start .pre .0 .highK)) (decoded .ensures) .sized
+    let fits : 2 * (start .args .g .k + 1) ≤ length (space .result) = omega (arith, space .ensures, start .pre .0 .highK) in
+    filled-numbers (space .result) (2 * (start .args .g .k + 1)) (start .args .body .now) fits (decoded .ensures) .sized
 
 remap-requires : tie.Need-remap-requires
 remap-requires c κs = search needs
@@ -65,7 +68,8 @@ returns c =
     let space = (let p : tie.After-table-space = search in p .table-space) in
     let decoded = (let p : tie.After-decode = search in p .decode) in
     let made = (let p : tie.After-remap = search in p .remap) in
-    let table = filled-numbers (space .result) (2 * (start .args .g .k + 1)) (start .args .body .now) (omega (arith, space .ensures, start .pre .0 .highK)) (decoded .ensures) .back in
+    let fits : 2 * (start .args .g .k + 1) ≤ length (space .result) = omega (arith, space .ensures, start .pre .0 .highK) in
+    let table = filled-numbers (space .result) (2 * (start .args .g .k + 1)) (start .args .body .now) fits (decoded .ensures) .back in
     agrees-same _ _ _ _ _ (ap remap table) (made .ensures)
 
 pub make-remap-spec : {M : Type 1} → statement M

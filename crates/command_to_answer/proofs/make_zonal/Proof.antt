@@ -1,6 +1,8 @@
 -- `command_to_answer::make_zonal` meets its contract: the fluxes decoded from the body are those that the call is made with.
+use Prim.Native.Nat.{_≤_}
 use mathlib.Core.Path.{sym, ap}
 use native.Mathlib.Omega.{arith}
+use lib.ListN.{length}
 use lib.Seq.{length-take-le}
 use Rattle.model.specs.Step.{zonal}
 use Rattle.command_to_answer.specs.Room.{take-short, rest-long, filled-fluxes, agrees-same}
@@ -43,14 +45,16 @@ array-share-prefix-fluxes c =
     let start : tie.Start = search in
     let space = (let p : tie.After-row-space = search in p .row-space) in
     let decoded = (let p : tie.After-decode-fluxes = search in p .decode-fluxes) in
-    filled-fluxes (space .result) (start .args .g .w) (start .args .body .now) 2 (omega (arith, space .ensures, start .pre .0 .highW)) (decoded .ensures) .long
+    let fits : start .args .g .w ≤ length (space .result) = omega (arith, space .ensures, start .pre .0 .highW) in
+    filled-fluxes (space .result) (start .args .g .w) (start .args .body .now) 2 fits (decoded .ensures) .long
 
 slice-aggregate-zonal : tie.Need-slice-aggregate-zonal
 slice-aggregate-zonal c =
     let start : tie.Start = search in
     let space = (let p : tie.After-row-space = search in p .row-space) in
     let decoded = (let p : tie.After-decode-fluxes = search in p .decode-fluxes) in
-    filled-fluxes (space .result) (start .args .g .w) (start .args .body .now) 2 (omega (arith, space .ensures, start .pre .0 .highW)) (decoded .ensures) .sized
+    let fits : start .args .g .w ≤ length (space .result) = omega (arith, space .ensures, start .pre .0 .highW) in
+    filled-fluxes (space .result) (start .args .g .w) (start .args .body .now) 2 fits (decoded .ensures) .sized
 
 zonal-requires : tie.Need-zonal-requires
 zonal-requires c κs = search needs
@@ -67,7 +71,8 @@ returns c =
     let space = (let p : tie.After-row-space = search in p .row-space) in
     let decoded = (let p : tie.After-decode-fluxes = search in p .decode-fluxes) in
     let swept = (let p : tie.After-zonal = search in p .zonal) in
-    let fluxes = filled-fluxes (space .result) (start .args .g .w) (start .args .body .now) 2 (omega (arith, space .ensures, start .pre .0 .highW)) (decoded .ensures) .back in
+    let fits : start .args .g .w ≤ length (space .result) = omega (arith, space .ensures, start .pre .0 .highW) in
+    let fluxes = filled-fluxes (space .result) (start .args .g .w) (start .args .body .now) 2 fits (decoded .ensures) .back in
     agrees-same _ _ _ _ _ (ap (zonal (start .args .p .layer) (start .args .p .row)) fluxes) (swept .ensures)
 
 pub make-zonal-spec : {M : Type 1} → statement M

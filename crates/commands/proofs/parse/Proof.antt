@@ -2,7 +2,7 @@
 use mathlib.Core.Path.{_≡_, refl, ap}
 use mathlib.Core.Bool.{true, false, false≢true}
 use native.Mathlib.Omega.{arith}
-use Prim.Native.Nat.{ℕ, _+_, _*_}
+use Prim.Native.Nat.{_+_, _*_}
 use Rattle.model.specs.Step as step
 use Rattle.program.specs.Bytes.{fluxesAt}
 use Rattle.program.specs.Records as program
@@ -137,7 +137,11 @@ returns-7 : tie.Need-returns-7
 returns-7 c =
     let start : tie.Start = search needs in
     let told : tie.After-enum-told7 = search needs in
-    parses-as (told .enum-told7 .given .1) (record { commands = λ g. ap (λ (k : ℕ). program.make (step.meridional k (fluxesAt (start .args .body .now) 1 (g .W * (g .R + 1))))) (c .number-13 .ensures .0); sameKind = refl })
+    parses-as (told .enum-told7 .given .1)
+    (record {
+      commands = λ g i. program.make (step.meridional (c .number-13 .ensures .0 i) (fluxesAt (start .args .body .now) 1 (g .W * (g .R + 1))));
+      sameKind = refl;
+    })
 
 returns-8 : tie.Need-returns-8
 returns-8 c =
@@ -146,7 +150,8 @@ returns-8 c =
 returns-9 : tie.Need-returns-9
 returns-9 c =
     let told : tie.After-enum-told9 = search needs in
-    parses-as (told .enum-told9 .given .1) (record { commands = λ g. ap (λ (t : ℕ). program.make (step.total t)) (c .number-14 .ensures .0); sameKind = refl })
+    parses-as (told .enum-told9 .given .1)
+    (record { commands = λ g i. program.make (step.total (c .number-14 .ensures .0 i)); sameKind = refl })
 
 returns-10 : tie.Need-returns-10
 returns-10 c =

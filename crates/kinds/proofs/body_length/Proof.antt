@@ -32,20 +32,23 @@ enum-told-3 c = search needs
 mul-result : tie.Need-mul-result
 mul-result c =
     let start : tie.Start = search in
-    let cells = c .before .before .cells-of in
-    record { fits = omega (arith, tracer-cells (start .args .g) (start .pre) (cells .result) (cells .ensures .1), cells .ensures .1) }
+    let cells = (let p : tie.After-cells-of = search in p .cells-of) in
+    let amounts = tracer-cells (start .args .g) (start .pre) (cells .result) (cells .ensures .1) in
+    record { fits = omega (arith, cells .ensures .1) }
 
 add-result : tie.Need-add-result
 add-result c =
     let start : tie.Start = search in
-    let cells = c .before .before .cells-of in
-    omega (arith, tracer-cells (start .args .g) (start .pre) (cells .result) (cells .ensures .1), cells .ensures .1)
+    let cells = (let p : tie.After-cells-of = search in p .cells-of) in
+    let amounts = tracer-cells (start .args .g) (start .pre) (cells .result) (cells .ensures .1) in
+    omega (arith, cells .ensures .1)
 
 mul-result-2 : tie.Need-mul-result-2
 mul-result-2 c =
     let start : tie.Start = search in
-    let cells = c .before .before .cells-of in
-    record { fits = omega (arith, tracer-cells (start .args .g) (start .pre) (cells .result) (cells .ensures .1), cells .ensures .1) }
+    let cells = (let p : tie.After-cells-of = search in p .cells-of) in
+    let amounts = tracer-cells (start .args .g) (start .pre) (cells .result) (cells .ensures .1) in
+    record { fits = omega (arith, cells .ensures .1) }
 
 enum-told-4 : tie.Need-enum-told-4
 enum-told-4 c = search needs
@@ -71,17 +74,23 @@ add-result-3 c = search needs
 mul-result-4 : tie.Need-mul-result-4
 mul-result-4 c =
     let start : tie.Start = search in
-    record { fits = omega (arith, row-cells (start .args .g) (start .pre), layer-faces (start .args .g) (start .pre), start .pre .highW) }
+    let cells = row-cells (start .args .g) (start .pre) in
+    let faces = layer-faces (start .args .g) (start .pre) in
+    record { fits = omega (arith, start .pre .highW) }
 
 mul-result-5 : tie.Need-mul-result-5
 mul-result-5 c =
     let start : tie.Start = search in
-    record { fits = omega (arith, row-cells (start .args .g) (start .pre), layer-faces (start .args .g) (start .pre), start .pre .highW) }
+    let cells = row-cells (start .args .g) (start .pre) in
+    let faces = layer-faces (start .args .g) (start .pre) in
+    record { fits = omega (arith, start .pre .highW) }
 
 add-result-4 : tie.Need-add-result-4
 add-result-4 c =
     let start : tie.Start = search in
-    omega (arith, row-cells (start .args .g) (start .pre), layer-faces (start .args .g) (start .pre), start .pre .highW)
+    let cells = row-cells (start .args .g) (start .pre) in
+    let faces = layer-faces (start .args .g) (start .pre) in
+    omega (arith, start .pre .highW)
 
 enum-told-8 : tie.Need-enum-told-8
 enum-told-8 c = search needs
@@ -110,8 +119,9 @@ returns-2 c = search needs
 returns-3 : tie.Need-returns-3
 returns-3 c =
     let start : tie.Start = search in
-    let cells = c .before .before .cells-of in
-    (cc (cells .ensures .0), omega (arith, tracer-cells (start .args .g) (start .pre) (cells .result) (cells .ensures .1), cells .ensures .1))
+    let cells = (let p : tie.After-cells-of = search in p .cells-of) in
+    let amounts = tracer-cells (start .args .g) (start .pre) (cells .result) (cells .ensures .1) in
+    (cc (cells .ensures .0), omega (arith, cells .ensures .1))
 
 returns-4 : tie.Need-returns-4
 returns-4 c = search needs
@@ -125,7 +135,9 @@ returns-6 c = (cc, search needs)
 returns-7 : tie.Need-returns-7
 returns-7 c =
     let start : tie.Start = search in
-    (cc, omega (arith, row-cells (start .args .g) (start .pre), layer-faces (start .args .g) (start .pre), start .pre .highW))
+    let cells = row-cells (start .args .g) (start .pre) in
+    let faces = layer-faces (start .args .g) (start .pre) in
+    (cc, omega (arith, start .pre .highW))
 
 returns-8 : tie.Need-returns-8
 returns-8 c = (cc, search needs)

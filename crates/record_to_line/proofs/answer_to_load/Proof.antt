@@ -47,7 +47,10 @@ returns c =
     let airs = (let p : tie.After-air-space = search in p .air-space) in
     let amounts = (let p : tie.After-tracer-space = search in p .tracer-space) in
     let made = (let p : tie.After-make-load = search in p .make-load) in
-    answers-load (length-take-le (start .args .cells) (airs .result) (omega (arith, airs .ensures, start .pre .fewCells))) (length-take-le (start .args .amounts) (amounts .result) (omega (arith, amounts .ensures, start .pre .fewAmounts))) (made .ensures)
+    answers-load
+    (length-take-le (start .args .cells) (airs .result) (omega (arith, airs .ensures, start .pre .fewCells)))
+    (length-take-le (start .args .amounts) (amounts .result) (omega (arith, amounts .ensures, start .pre .fewAmounts)))
+    (made .ensures)
 
 pub answer-to-load-spec : {M : Type 1} → statement M
 answer-to-load-spec =

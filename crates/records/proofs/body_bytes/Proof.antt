@@ -22,18 +22,26 @@ grid-of-requires c κs = search needs
 
 body-length-requires : tie.Need-body-length-requires
 body-length-requires c κs =
-    let settled = c .before .before .before .settled in
-    stage-small (settled .result) _ (c .grid-of .ensures) (settled .ensures .taken)
+    let sound = (let p : tie.After-settled = search in p .settled) in
+    stage-small (sound .result) _ (c .grid-of .ensures) (sound .ensures .taken)
 
 returns : tie.Need-returns
 returns c =
-    let tests = c .before .before .before in
-    needs-body _ (tests .before .settled .result) _ (kindIs (tests .before .before .kind-of .result)) (tests .before .settled .ensures) (tests .before .before .kind-of .ensures) (gridOf (c .before .grid-of .result)) _ (sym (tests .in-place .ensures) ∙ c .before .before .if1 .taken) (c .before .grid-of .ensures) (c .body-length .ensures .0) (c .body-length .ensures .1)
+    let sound = (let p : tie.After-settled = search in p .settled) in
+    let kind = (let p : tie.After-kind-of = search in p .kind-of) in
+    let place = (let p : tie.After-in-place = search in p .in-place) in
+    let placed = (let p : tie.Then1 = search in p .if1) in
+    let grid = (let p : tie.After-grid-of = search in p .grid-of) in
+    needs-body _ (sound .result) _ (kindIs (kind .result)) (sound .ensures) (kind .ensures)
+    (gridOf (grid .result)) _ (sym (place .ensures) ∙ placed .taken) (grid .ensures) (c .body-length .ensures .0) (c .body-length .ensures .1)
 
 returns-2 : tie.Need-returns-2
 returns-2 c =
-    let tests = c .before in
-    needs-none _ (tests .before .settled .result) _ (kindIs (tests .before .before .kind-of .result)) (tests .before .settled .ensures) (tests .before .before .kind-of .ensures) (sym (tests .in-place .ensures) ∙ c .if1 .left)
+    let sound = (let p : tie.After-settled = search in p .settled) in
+    let kind = (let p : tie.After-kind-of = search in p .kind-of) in
+    let place = (let p : tie.After-in-place = search in p .in-place) in
+    needs-none _ (sound .result) _ (kindIs (kind .result)) (sound .ensures) (kind .ensures)
+    (sym (place .ensures) ∙ c .if1 .left)
 
 pub body-bytes-spec : {M : Type 1} → statement M
 body-bytes-spec =

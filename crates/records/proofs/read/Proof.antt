@@ -11,7 +11,7 @@ use Rattle.records.proofs.read.Tie as tie
 
 returns : tie.Need-returns
 returns c =
-    let start = c .before .before in
+    let start : tie.Start = search in
     finds-nothing (start .args .stage) (start .args .input .now) (c .if1 .taken)
 
 shared-slice-read-kind-of : tie.Need-shared-slice-read-kind-of
@@ -28,26 +28,35 @@ in-place-requires c κs = search needs
 
 returns-2 : tie.Need-returns-2
 returns-2 c =
-    let tests = c .before in
-    let start = tests .before .before .before .before .before .before in
-    finds-misplaced (start .args .stage) (tests .before .settled .result) (start .args .input .now) (kindIs (tests .before .before .kind-of .result)) (tests .before .settled .ensures) (tests .before .before .kind-of .ensures) (search needs) (sym (tests .in-place .ensures) ∙ c .if2 .left)
+    let start : tie.Start = search in
+    let sound = (let p : tie.After-settled = search in p .settled) in
+    let kind = (let p : tie.After-kind-of = search in p .kind-of) in
+    let place = (let p : tie.After-in-place = search in p .in-place) in
+    finds-misplaced (start .args .stage) (sound .result) (start .args .input .now) (kindIs (kind .result)) (sound .ensures) (kind .ensures) (search needs)
+    (sym (place .ensures) ∙ c .if2 .left)
 
 grid-of-requires : tie.Need-grid-of-requires
 grid-of-requires c κs = search needs
 
 body-length-requires : tie.Need-body-length-requires
 body-length-requires c κs =
-    let settled = c .before .before .before .settled in
-    stage-small (settled .result) _ (c .grid-of .ensures) (settled .ensures .taken)
+    let sound = (let p : tie.After-settled = search in p .settled) in
+    stage-small (sound .result) _ (c .grid-of .ensures) (sound .ensures .taken)
 
 sub-if3 : tie.Need-sub-if3
 sub-if3 c = search needs
 
 returns-3 : tie.Need-returns-3
 returns-3 c =
-    let tests = c .before .before .before .before in
-    let start = tests .before .before .before .before .before .before in
-    finds-short (start .args .stage) (tests .before .settled .result) (start .args .input .now) (kindIs (tests .before .before .kind-of .result)) (tests .before .settled .ensures) (tests .before .before .kind-of .ensures) (search needs) (gridOf (c .before .before .grid-of .result)) (c .before .before .grid-of .ensures) (sym (tests .in-place .ensures) ∙ c .before .before .before .if2 .taken) (omega (arith, c .before .body-length .ensures .0, c .if3 .left))
+    let start : tie.Start = search in
+    let sound = (let p : tie.After-settled = search in p .settled) in
+    let kind = (let p : tie.After-kind-of = search in p .kind-of) in
+    let place = (let p : tie.After-in-place = search in p .in-place) in
+    let placed = (let p : tie.Then2 = search in p .if2) in
+    let grid = (let p : tie.After-grid-of = search in p .grid-of) in
+    let size = (let p : tie.After-body-length = search in p .body-length) in
+    finds-short (start .args .stage) (sound .result) (start .args .input .now) (kindIs (kind .result)) (sound .ensures) (kind .ensures) (search needs)
+    (gridOf (grid .result)) (grid .ensures) (sym (place .ensures) ∙ placed .taken) (omega (arith, size .ensures .0, c .if3 .left))
 
 sub-parse : tie.Need-sub-parse
 sub-parse c = search needs
@@ -60,15 +69,28 @@ part-parse-end c = search needs
 
 parse-requires : tie.Need-parse-requires
 parse-requires c κs =
-    let tests = c .before .before .before .before .before in
-    let start = tests .before .before .before .before .before .before in
-    parse-need (kindIs (tests .before .before .kind-of .result)) (start .args .input .now) _ (gridOf (c .before .before .before .grid-of .result)) (sym (tests .in-place .ensures) ∙ c .before .before .before .before .if2 .taken) (omega (arith, c .before .before .body-length .ensures .0, c .before .if3 .taken))
+    let start : tie.Start = search in
+    let kind = (let p : tie.After-kind-of = search in p .kind-of) in
+    let place = (let p : tie.After-in-place = search in p .in-place) in
+    let placed = (let p : tie.Then2 = search in p .if2) in
+    let grid = (let p : tie.After-grid-of = search in p .grid-of) in
+    let size = (let p : tie.After-body-length = search in p .body-length) in
+    let whole = (let p : tie.Then3 = search in p .if3) in
+    parse-need (kindIs (kind .result)) (start .args .input .now) _ (gridOf (grid .result)) (sym (place .ensures) ∙ placed .taken)
+    (omega (arith, size .ensures .0, whole .taken))
 
 returns-4 : tie.Need-returns-4
 returns-4 c =
-    let tests = c .before .before .before .before .before .before in
-    let start = tests .before .before .before .before .before .before in
-    finds-record (start .args .stage) (tests .before .settled .result) (start .args .input .now) (kindIs (tests .before .before .kind-of .result)) (tests .before .settled .ensures) (tests .before .before .kind-of .ensures) (search needs) (gridOf (c .before .before .before .before .grid-of .result)) (c .before .before .before .before .grid-of .ensures) (sym (tests .in-place .ensures) ∙ c .before .before .before .before .before .if2 .taken) (omega (arith, c .before .before .before .body-length .ensures .0, c .before .before .if3 .taken)) (c .parse .result) (c .parse .ensures)
+    let start : tie.Start = search in
+    let sound = (let p : tie.After-settled = search in p .settled) in
+    let kind = (let p : tie.After-kind-of = search in p .kind-of) in
+    let place = (let p : tie.After-in-place = search in p .in-place) in
+    let placed = (let p : tie.Then2 = search in p .if2) in
+    let grid = (let p : tie.After-grid-of = search in p .grid-of) in
+    let size = (let p : tie.After-body-length = search in p .body-length) in
+    let whole = (let p : tie.Then3 = search in p .if3) in
+    finds-record (start .args .stage) (sound .result) (start .args .input .now) (kindIs (kind .result)) (sound .ensures) (kind .ensures) (search needs)
+    (gridOf (grid .result)) (grid .ensures) (sym (place .ensures) ∙ placed .taken) (omega (arith, size .ensures .0, whole .taken)) (c .parse .result) (c .parse .ensures)
 
 pub read-spec : {M : Type 1} → statement M
 read-spec =
