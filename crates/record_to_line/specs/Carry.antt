@@ -85,7 +85,10 @@ loaded-of (Gridded h) b e = absurd (false≢true e)
 loaded-of (Loaded h) b e = refl
 
 -- ---- a record with its command
-module _ {stage r : Stage} (settled : IsSettled stage r) {input : List ℕ} {answer : found.Found} (finds : Finds r input answer) (b : Buffers) (some : 0 < length input) (g : declared.Grid) (grid : gridOf g ≡ gridOfStage r) {c : Command} (e : answer ≡ Record c) where
+module _
+    {stage r : Stage} (settled : IsSettled stage r) {input : List ℕ} {answer : found.Found} (finds : Finds r input answer)
+    (b : Buffers) (some : 0 < length input) (g : declared.Grid) (grid : gridOf g ≡ gridOfStage r) {c : Command}
+    (e : answer ≡ Record c) where
   grid-is : gridOf g ≡ program.gridOf (stateOf stage b)
   grid-is = grid ∙ sym (ap program.gridOf (settled .same b) ∙ grid-any r b)
 

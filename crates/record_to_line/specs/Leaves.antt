@@ -54,7 +54,9 @@ gridded-after w zero e nonzero = absurd (nonzero refl)
 gridded-after w (suc n) e nonzero = rw (e, program.afterLoad)
 
 -- ---- what a load leaves, from what `onward` leaves with the state after it
-module _ (g : declared.Grid) {cells : ℕ} (sized : cells ≡ model.worldCells (gridOf g)) (byte : ℕ) (body : List ℕ) (x : Answer) (l : lines.Line) (s : program.State) (sameLine : IsLine l byte x) (answers : AnswersLoad g body cells (g .n * cells) x) where
+module _
+    (g : declared.Grid) {cells : ℕ} (sized : cells ≡ model.worldCells (gridOf g)) (byte : ℕ) (body : List ℕ) (x : Answer)
+    (l : lines.Line) (s : program.State) (sameLine : IsLine l byte x) (answers : AnswersLoad g body cells (g .n * cells) x) where
   w : model.World
   w = bodyWorld (gridOf g) body cells (g .n * cells)
 

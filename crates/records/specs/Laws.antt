@@ -77,7 +77,9 @@ unfolding program.found
 finds-nothing stage [] e = record { cell = λ b. refl; whole = λ b. tt }
 finds-nothing stage (byte ∷ body) e = absurd (omega (arith, e))
 
-module _ (stage r : Stage) (input : List ℕ) (k : program.Kind) (settled : IsSettled stage r) (kind : k ≡ program.kindOf (at input 0)) (some : 0 < length input) where
+module _
+    (stage r : Stage) (input : List ℕ) (k : program.Kind) (settled : IsSettled stage r)
+    (kind : k ≡ program.kindOf (at input 0)) (some : 0 < length input) where
   split : input ≡ at input 0 ∷ drop 1 input
   split = drop-cons input 0 0 some
 

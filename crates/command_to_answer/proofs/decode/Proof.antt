@@ -6,6 +6,7 @@ use lib.ListN.{length, take, length-set}
 use native.Mathlib.Omega.{arith}
 use Rattle.program.specs.Bytes.{numberAt, numbersAt}
 use Rattle.command_to_answer.specs.Fill.{filled-none, filled-more, filled}
+use Rattle.units.specs.The.{the}
 use borrow.Author.Needs.{needs}
 use Rattle.command_to_answer.proofs.decode.Statement.{statement}
 use Rattle.command_to_answer.proofs.decode.Tie as tie
@@ -21,41 +22,20 @@ loop-holds c =
     let start = c .before .before in
     (omega arith, refl, filled-none (start .args .out .now) (λ (j : ℕ). numberAt (start .args .bytes .now) (0 + 4 * j) 4))
 
-mul-number-4 : tie.Need-mul-number-4 Inv-loop μ-loop
-mul-number-4 c = search needs
-
-number-4-requires : tie.Need-number-4-requires Inv-loop μ-loop
-number-4-requires c κs = search needs
-
-mul-out : tie.Need-mul-out Inv-loop μ-loop
-mul-out c = search needs
-
-slice-write-out : tie.Need-slice-write-out Inv-loop μ-loop
-slice-write-out c = search needs
-
-add-i : tie.Need-add-i Inv-loop μ-loop
-add-i c = search needs
-
-loop-less : tie.Need-loop-less Inv-loop μ-loop
-loop-less c = search needs
-
 loop-again : tie.Need-loop-again Inv-loop μ-loop
 loop-again c =
     let start : tie.Start Inv-loop μ-loop = search in
-    let turn = (let p : tie.At-loop Inv-loop μ-loop = search in p .loop) in
-    let again = (let p : tie.In-loop Inv-loop μ-loop = search in p .loop-test) in
+    let turn = the (tie.At-loop Inv-loop μ-loop) (search) .loop in
+    let again = the (tie.In-loop Inv-loop μ-loop) (search) .loop-test in
     let bytes = start .args .bytes .now in
     let is = c .number-4 .ensures ∙ sym (ap (λ (a : ℕ). numberAt bytes a 4) (zero-add (4 * turn .i))) in
     let size = length-set (turn .out) (turn .i) (c .number-4 .result) in
     (omega arith, size ∙ turn .inv .1, filled-more (turn .out) (λ (j : ℕ). numberAt bytes (0 + 4 * j) 4) (turn .i) _ is (again .taken) (turn .inv .2))
 
-same-length : tie.Need-same-length Inv-loop μ-loop
-same-length c = search needs
-
 returns : tie.Need-returns Inv-loop μ-loop
 returns c =
     let start : tie.Start Inv-loop μ-loop = search in
-    let end = (let p : tie.At-loop Inv-loop μ-loop = search in p .loop) in
+    let end = the (tie.At-loop Inv-loop μ-loop) (search) .loop in
     filled (end .out) (λ (j : ℕ). numberAt (start .args .bytes .now) (0 + 4 * j) 4) (end .i) _ (end .inv .2) (omega arith) (end .inv .0) (end .inv .1)
 
 pub decode-spec : {M : Type 1} → statement M
@@ -65,12 +45,12 @@ decode-spec =
     Inv-loop
     μ-loop
     loop-holds
-    mul-number-4
-    number-4-requires
-    mul-out
-    slice-write-out
-    add-i
-    loop-less
+    (λ c. search needs)  -- mul-number-4
+    (λ c κs. search needs)  -- number-4-requires
+    (λ c. search needs)  -- mul-out
+    (λ c. search needs)  -- slice-write-out
+    (λ c. search needs)  -- add-i
+    (λ c. search needs)  -- loop-less
     loop-again
-    same-length
+    (λ c. search needs)  -- same-length
     returns)

@@ -9,6 +9,7 @@ use mir.Syntax.{w32}
 use mir.Val.{toZ, ofZ}
 use Rattle.program.specs.Bytes.{numberAt, signed, fluxesAt}
 use Rattle.command_to_answer.specs.Fill.{filled-none, filled-more, filled}
+use Rattle.units.specs.The.{the}
 use borrow.Author.Needs.{needs}
 use Rattle.command_to_answer.proofs.decode_fluxes.Statement.{statement}
 use Rattle.command_to_answer.proofs.decode_fluxes.Tie as tie
@@ -22,33 +23,12 @@ abbrev μ-loop : tie.MeasureT-loop
 loop-holds : tie.Need-loop-holds Inv-loop μ-loop
 loop-holds c = (omega arith, refl, filled-none (c .before .args .out .now) (λ (j : ℕ). signed (numberAt (c .before .args .bytes .now) (0 + 4 * j) 4)))
 
-mul-number-4 : tie.Need-mul-number-4 Inv-loop μ-loop
-mul-number-4 c = search needs
-
-number-4-requires : tie.Need-number-4-requires Inv-loop μ-loop
-number-4-requires c κs = search needs
-
-signed-requires : tie.Need-signed-requires Inv-loop μ-loop
-signed-requires c κs = search needs
-
-mul-flux : tie.Need-mul-flux Inv-loop μ-loop
-mul-flux c = search needs
-
-slice-set-from-flux : tie.Need-slice-set-from-flux Inv-loop μ-loop
-slice-set-from-flux c = search needs
-
-add-i : tie.Need-add-i Inv-loop μ-loop
-add-i c = search needs
-
-loop-less : tie.Need-loop-less Inv-loop μ-loop
-loop-less c = search needs
-
 loop-again : tie.Need-loop-again Inv-loop μ-loop
 loop-again c =
     let start : tie.Start Inv-loop μ-loop = search in
-    let turn = (let p : tie.At-loop Inv-loop μ-loop = search in p .loop) in
-    let again = (let p : tie.In-loop Inv-loop μ-loop = search in p .loop-test) in
-    let number = (let p : tie.After-number-4 Inv-loop μ-loop = search in p .number-4) in
+    let turn = the (tie.At-loop Inv-loop μ-loop) (search) .loop in
+    let again = the (tie.In-loop Inv-loop μ-loop) (search) .loop-test in
+    let number = the (tie.After-number-4 Inv-loop μ-loop) (search) .number-4 in
     let bytes = start .args .bytes .now in
     let flux = c .signed .result in
     let read : toZ w32 (ofZ w32 flux) ≡ flux = search needs in
@@ -57,13 +37,10 @@ loop-again c =
     let size = length-set (turn .out) (turn .i) (toZ w32 (ofZ w32 flux)) in
     (omega arith, size ∙ turn .inv .1, filled-more (turn .out) (λ (j : ℕ). signed (numberAt bytes (0 + 4 * j) 4)) (turn .i) _ is (again .taken) (turn .inv .2))
 
-same-length : tie.Need-same-length Inv-loop μ-loop
-same-length c = search needs
-
 returns : tie.Need-returns Inv-loop μ-loop
 returns c =
     let start : tie.Start Inv-loop μ-loop = search in
-    let end = (let p : tie.At-loop Inv-loop μ-loop = search in p .loop) in
+    let end = the (tie.At-loop Inv-loop μ-loop) (search) .loop in
     let flux-at : ℕ → ℤ = λ j. signed (numberAt (start .args .bytes .now) (0 + 4 * j) 4) in
     filled (end .out) flux-at (end .i) _ (end .inv .2) (omega arith) (end .inv .0) (end .inv .1)
 
@@ -74,13 +51,13 @@ decode-fluxes-spec =
     Inv-loop
     μ-loop
     loop-holds
-    mul-number-4
-    number-4-requires
-    signed-requires
-    mul-flux
-    slice-set-from-flux
-    add-i
-    loop-less
+    (λ c. search needs)  -- mul-number-4
+    (λ c κs. search needs)  -- number-4-requires
+    (λ c κs. search needs)  -- signed-requires
+    (λ c. search needs)  -- mul-flux
+    (λ c. search needs)  -- slice-set-from-flux
+    (λ c. search needs)  -- add-i
+    (λ c. search needs)  -- loop-less
     loop-again
-    same-length
+    (λ c. search needs)  -- same-length
     returns)

@@ -6,42 +6,16 @@ use Rattle.model.specs.Laws.Basic.{length-tab}
 use Rattle.units.specs.Grid.{worldOf}
 use Rattle.program.specs.Bytes.{numbersAt}
 use Rattle.command_to_answer.specs.Room.{numbers-from}
+use Rattle.units.specs.The.{the}
 use borrow.Author.Needs.{needs}
 use Rattle.command_to_answer.proofs.make_load.Statement.{statement}
 use Rattle.command_to_answer.proofs.make_load.Tie as tie
 
-decode-requires : tie.Need-decode-requires
-decode-requires c κs = search needs
-
-mul-at : tie.Need-mul-at
-mul-at c = search needs
-
-sub-decode : tie.Need-sub-decode
-sub-decode c = search needs
-
-part-decode-start : tie.Need-part-decode-start
-part-decode-start c = search needs
-
-part-decode-end : tie.Need-part-decode-end
-part-decode-end c = search needs
-
-decode-requires-2 : tie.Need-decode-requires-2
-decode-requires-2 c κs = search needs
-
-load-requires : tie.Need-load-requires
-load-requires c κs = search needs
-
-same-length : tie.Need-same-length
-same-length c = search needs
-
-same-length-2 : tie.Need-same-length-2
-same-length-2 c = search needs
-
 returns : tie.Need-returns
 returns c =
     let start : tie.Start = search in
-    let first = (let p : tie.After-decode = search in p .decode .ensures) in
-    let second = (let p : tie.After-decode2 = search in p .decode2 .ensures) in
+    let first = the tie.After-decode (search) .decode .ensures in
+    let second = the tie.After-decode2 (search) .decode2 .ensures in
     let body = start .args .body .now in
     let amounts = length (start .args .tracers .now) in
     record {
@@ -55,13 +29,13 @@ pub make-load-spec : {M : Type 1} → statement M
 make-load-spec =
     tie.close
     (tie.spec
-    decode-requires
-    mul-at
-    sub-decode
-    part-decode-start
-    part-decode-end
-    decode-requires-2
-    load-requires
-    same-length
-    same-length-2
+    (λ c κs. search needs)  -- decode-requires
+    (λ c. search needs)  -- mul-at
+    (λ c. search needs)  -- sub-decode
+    (λ c. search needs)  -- part-decode-start
+    (λ c. search needs)  -- part-decode-end
+    (λ c κs. search needs)  -- decode-requires-2
+    (λ c κs. search needs)  -- load-requires
+    (λ c. search needs)  -- same-length
+    (λ c. search needs)  -- same-length-2
     returns)

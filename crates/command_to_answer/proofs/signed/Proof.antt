@@ -10,17 +10,8 @@ use borrow.Author.Needs.{needs}
 use Rattle.command_to_answer.proofs.signed.Statement.{statement}
 use Rattle.command_to_answer.proofs.signed.Tie as tie
 
-cast-result : tie.Need-cast-result
-cast-result c = search needs
-
 returns : tie.Need-returns
 returns c = toZ-pos w32 (c .if1 .taken) ∙ sym (signed-low (c .before .args .x) (c .if1 .taken))
-
-sub-size : tie.Need-sub-size
-sub-size c = search needs
-
-cast-result-2 : tie.Need-cast-result-2
-cast-result-2 c = search needs
 
 sub-result : tie.Need-sub-result
 sub-result c =
@@ -34,4 +25,4 @@ returns-2 c =
     (sym (signed-high x (c .if1 .left) (omega (arith, c .before .fits .x))))
 
 pub signed-spec : {M : Type 1} → statement M
-signed-spec = tie.close (tie.spec cast-result returns sub-size cast-result-2 sub-result returns-2)
+signed-spec = tie.close (tie.spec (λ c. search needs) returns (λ c. search needs) (λ c. search needs) sub-result returns-2)

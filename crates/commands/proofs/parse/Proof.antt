@@ -11,38 +11,20 @@ use borrow.Author.Needs.{needs}
 use Rattle.commands.proofs.parse.Statement.{statement}
 use Rattle.commands.proofs.parse.Tie as tie
 
-enum-told : tie.Need-enum-told
-enum-told c = search needs
-
-enum-told-2 : tie.Need-enum-told-2
-enum-told-2 c = search needs
-
 parse-grid-requires : tie.Need-parse-grid-requires
 parse-grid-requires c κs =
     let start : tie.Start = search needs in
     omega (arith, whole-of (c .enum-told2 .given .1) (start .pre))
-
-enum-told-3 : tie.Need-enum-told-3
-enum-told-3 c = search needs
-
-enum-told-4 : tie.Need-enum-told-4
-enum-told-4 c = search needs
 
 parse-amount-requires : tie.Need-parse-amount-requires
 parse-amount-requires c κs =
     let start : tie.Start = search needs in
     omega (arith, whole-of (c .enum-told4 .given .1) (start .pre))
 
-enum-told-5 : tie.Need-enum-told-5
-enum-told-5 c = search needs
-
 parse-amount-requires-2 : tie.Need-parse-amount-requires-2
 parse-amount-requires-2 c κs =
     let start : tie.Start = search needs in
     omega (arith, whole-of (c .enum-told5 .given .1) (start .pre))
-
-enum-told-6 : tie.Need-enum-told-6
-enum-told-6 c = search needs
 
 number-1-requires : tie.Need-number-1-requires
 number-1-requires c κs =
@@ -55,27 +37,15 @@ number-1-requires-2 c κs =
     let told : tie.After-enum-told6 = search needs in
     omega (arith, whole-of (told .enum-told6 .given .1) (start .pre))
 
-enum-told-7 : tie.Need-enum-told-7
-enum-told-7 c = search needs
-
 number-1-requires-3 : tie.Need-number-1-requires-3
 number-1-requires-3 c κs =
     let start : tie.Start = search needs in
     omega (arith, whole-of (c .enum-told7 .given .1) (start .pre))
 
-enum-told-8 : tie.Need-enum-told-8
-enum-told-8 c = search needs
-
-enum-told-9 : tie.Need-enum-told-9
-enum-told-9 c = search needs
-
 number-1-requires-4 : tie.Need-number-1-requires-4
 number-1-requires-4 c κs =
     let start : tie.Start = search needs in
     omega (arith, whole-of (c .enum-told9 .given .1) (start .pre))
-
-enum-told-10 : tie.Need-enum-told-10
-enum-told-10 c = search needs
 
 number-1-requires-5 : tie.Need-number-1-requires-5
 number-1-requires-5 c κs =
@@ -167,23 +137,23 @@ pub parse-spec : {M : Type 1} → statement M
 parse-spec =
     tie.close
     (tie.spec
-    enum-told
-    enum-told-2
+    (λ c. search needs)  -- enum-told
+    (λ c. search needs)  -- enum-told-2
     parse-grid-requires
-    enum-told-3
-    enum-told-4
+    (λ c. search needs)  -- enum-told-3
+    (λ c. search needs)  -- enum-told-4
     parse-amount-requires
-    enum-told-5
+    (λ c. search needs)  -- enum-told-5
     parse-amount-requires-2
-    enum-told-6
+    (λ c. search needs)  -- enum-told-6
     number-1-requires
     number-1-requires-2
-    enum-told-7
+    (λ c. search needs)  -- enum-told-7
     number-1-requires-3
-    enum-told-8
-    enum-told-9
+    (λ c. search needs)  -- enum-told-8
+    (λ c. search needs)  -- enum-told-9
     number-1-requires-4
-    enum-told-10
+    (λ c. search needs)  -- enum-told-10
     number-1-requires-5
     number-2-requires
     returns

@@ -5,9 +5,6 @@ use borrow.Author.Needs.{needs}
 use Rattle.fields.proofs.number_1.Statement.{statement}
 use Rattle.fields.proofs.number_1.Tie as tie
 
-shared-slice-read-result : tie.Need-shared-slice-read-result
-shared-slice-read-result c = search needs
-
 cast-result : tie.Need-cast-result
 cast-result c = omega (arith, c .shared-slice-known .given (c .before .args .at))
 
@@ -15,4 +12,4 @@ returns : tie.Need-returns
 returns c = (refl, omega (arith, c .shared-slice-known .given (c .before .args .at)))
 
 pub number-1-spec : {M : Type 1} → statement M
-number-1-spec = tie.close (tie.spec shared-slice-read-result cast-result returns)
+number-1-spec = tie.close (tie.spec (λ c. search needs) cast-result returns)

@@ -5,15 +5,6 @@ use borrow.Author.Needs.{needs}
 use Rattle.fields.proofs.number_2.Statement.{statement}
 use Rattle.fields.proofs.number_2.Tie as tie
 
-number-1-requires : tie.Need-number-1-requires
-number-1-requires c κs = search needs
-
-add-number-1 : tie.Need-add-number-1
-add-number-1 c = search needs
-
-number-1-requires-2 : tie.Need-number-1-requires-2
-number-1-requires-2 c κs = search needs
-
 mul-result : tie.Need-mul-result
 mul-result c = omega (arith, c .number-12 .ensures .1)
 
@@ -30,4 +21,4 @@ returns c =
 pub number-2-spec : {M : Type 1} → statement M
 number-2-spec =
     tie.close
-    (tie.spec number-1-requires add-number-1 number-1-requires-2 mul-result add-result returns)
+    (tie.spec (λ c κs. search needs) (λ c. search needs) (λ c κs. search needs) mul-result add-result returns)

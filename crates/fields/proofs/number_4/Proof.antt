@@ -5,15 +5,6 @@ use borrow.Author.Needs.{needs}
 use Rattle.fields.proofs.number_4.Statement.{statement}
 use Rattle.fields.proofs.number_4.Tie as tie
 
-number-2-requires : tie.Need-number-2-requires
-number-2-requires c κs = search needs
-
-add-number-2 : tie.Need-add-number-2
-add-number-2 c = search needs
-
-number-2-requires-2 : tie.Need-number-2-requires-2
-number-2-requires-2 c κs = search needs
-
 mul-result : tie.Need-mul-result
 mul-result c = omega (arith, c .number-22 .ensures .1)
 
@@ -30,4 +21,4 @@ returns c =
 pub number-4-spec : {M : Type 1} → statement M
 number-4-spec =
     tie.close
-    (tie.spec number-2-requires add-number-2 number-2-requires-2 mul-result add-result returns)
+    (tie.spec (λ c κs. search needs) (λ c. search needs) (λ c κs. search needs) mul-result add-result returns)

@@ -3,15 +3,6 @@ use borrow.Author.Needs.{needs}
 use Rattle.fields.proofs.parse_amount.Statement.{statement}
 use Rattle.fields.proofs.parse_amount.Tie as tie
 
-number-1-requires : tie.Need-number-1-requires
-number-1-requires c κs = search needs
-
-number-2-requires : tie.Need-number-2-requires
-number-2-requires c κs = search needs
-
-number-4-requires : tie.Need-number-4-requires
-number-4-requires c κs = search needs
-
 returns : tie.Need-returns
 returns c =
     let tracer : tie.After-number-1 = search needs in
@@ -20,4 +11,4 @@ returns c =
 
 pub parse-amount-spec : {M : Type 1} → statement M
 parse-amount-spec =
-    tie.close (tie.spec number-1-requires number-2-requires number-4-requires returns)
+    tie.close (tie.spec (λ c κs. search needs) (λ c κs. search needs) (λ c κs. search needs) returns)

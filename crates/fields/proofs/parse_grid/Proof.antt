@@ -3,18 +3,6 @@ use borrow.Author.Needs.{needs}
 use Rattle.fields.proofs.parse_grid.Statement.{statement}
 use Rattle.fields.proofs.parse_grid.Tie as tie
 
-number-1-requires : tie.Need-number-1-requires
-number-1-requires c κs = search needs
-
-number-1-requires-2 : tie.Need-number-1-requires-2
-number-1-requires-2 c κs = search needs
-
-number-1-requires-3 : tie.Need-number-1-requires-3
-number-1-requires-3 c κs = search needs
-
-number-1-requires-4 : tie.Need-number-1-requires-4
-number-1-requires-4 c κs = search needs
-
 returns : tie.Need-returns
 returns c =
     let first : tie.After-number-1 = search needs in
@@ -32,8 +20,8 @@ pub parse-grid-spec : {M : Type 1} → statement M
 parse-grid-spec =
     tie.close
     (tie.spec
-    number-1-requires
-    number-1-requires-2
-    number-1-requires-3
-    number-1-requires-4
+    (λ c κs. search needs)  -- number-1-requires
+    (λ c κs. search needs)  -- number-1-requires-2
+    (λ c κs. search needs)  -- number-1-requires-3
+    (λ c κs. search needs)  -- number-1-requires-4
     returns)

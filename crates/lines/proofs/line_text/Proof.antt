@@ -8,24 +8,6 @@ use Rattle.lines.specs.Laws.{put-on, text-parts}
 use Rattle.lines.proofs.line_text.Statement.{statement}
 use Rattle.lines.proofs.line_text.Tie as tie
 
-put-byte-requires : tie.Need-put-byte-requires
-put-byte-requires c κs = search needs
-
-put-decimal-requires : tie.Need-put-decimal-requires
-put-decimal-requires c κs = search needs
-
-put-byte-requires-2 : tie.Need-put-byte-requires-2
-put-byte-requires-2 c κs = search needs
-
-put-decimal-requires-2 : tie.Need-put-decimal-requires-2
-put-decimal-requires-2 c κs = search needs
-
-put-byte-requires-3 : tie.Need-put-byte-requires-3
-put-byte-requires-3 c κs = search needs
-
-put-decimal-requires-3 : tie.Need-put-decimal-requires-3
-put-decimal-requires-3 c κs = search needs
-
 returns : tie.Need-returns
 returns c =
     -- the places after each call, the last call's first
@@ -45,10 +27,10 @@ pub line-text-spec : {M : Type 1} → statement M
 line-text-spec =
     tie.close
     (tie.spec
-    put-byte-requires
-    put-decimal-requires
-    put-byte-requires-2
-    put-decimal-requires-2
-    put-byte-requires-3
-    put-decimal-requires-3
+    (λ c κs. search needs)  -- put-byte-requires
+    (λ c κs. search needs)  -- put-decimal-requires
+    (λ c κs. search needs)  -- put-byte-requires-2
+    (λ c κs. search needs)  -- put-decimal-requires-2
+    (λ c κs. search needs)  -- put-byte-requires-3
+    (λ c κs. search needs)  -- put-decimal-requires-3
     returns)

@@ -21,23 +21,8 @@ abbrev μ-loop : tie.MeasureT-loop
 room : (c : tie.At-loop Inv-loop μ-loop) → 1 ≤ c .loop .at
 room c = omega (arith, length-pos (c .loop .rest), length-u32 (c .before .args .n) (search needs))
 
-loop-holds : tie.Need-loop-holds Inv-loop μ-loop
-loop-holds c = search needs
-
 sub-at : tie.Need-sub-at Inv-loop μ-loop
 sub-at c = room (c .before)
-
-cast-out : tie.Need-cast-out Inv-loop μ-loop
-cast-out c = search needs
-
-add-out : tie.Need-add-out Inv-loop μ-loop
-add-out c = search needs
-
-slice-write-out : tie.Need-slice-write-out Inv-loop μ-loop
-slice-write-out c = search needs
-
-loop-less : tie.Need-loop-less Inv-loop μ-loop
-loop-less c = search needs
 
 loop-again : tie.Need-loop-again Inv-loop μ-loop
 loop-again c =
@@ -52,18 +37,6 @@ loop-again c =
 
 sub-at-2 : tie.Need-sub-at-2 Inv-loop μ-loop
 sub-at-2 c = room (c .before)
-
-cast-out-2 : tie.Need-cast-out-2 Inv-loop μ-loop
-cast-out-2 c = search needs
-
-add-out-2 : tie.Need-add-out-2 Inv-loop μ-loop
-add-out-2 c = search needs
-
-slice-write-out-2 : tie.Need-slice-write-out-2 Inv-loop μ-loop
-slice-write-out-2 c = search needs
-
-same-length : tie.Need-same-length Inv-loop μ-loop
-same-length c = search needs
 
 returns : tie.Need-returns Inv-loop μ-loop
 returns c =
@@ -81,16 +54,16 @@ put-decimal-spec =
     (tie.spec
     Inv-loop
     μ-loop
-    loop-holds
+    (λ c. search needs)  -- loop-holds
     sub-at
-    cast-out
-    add-out
-    slice-write-out
-    loop-less
+    (λ c. search needs)  -- cast-out
+    (λ c. search needs)  -- add-out
+    (λ c. search needs)  -- slice-write-out
+    (λ c. search needs)  -- loop-less
     loop-again
     sub-at-2
-    cast-out-2
-    add-out-2
-    slice-write-out-2
-    same-length
+    (λ c. search needs)  -- cast-out-2
+    (λ c. search needs)  -- add-out-2
+    (λ c. search needs)  -- slice-write-out-2
+    (λ c. search needs)  -- same-length
     returns)

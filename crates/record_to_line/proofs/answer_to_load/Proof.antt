@@ -4,39 +4,28 @@ use native.Mathlib.Omega.{arith}
 use lib.Seq.{length-take-le}
 use Rattle.command_to_answer.specs.Room.{take-short}
 use Rattle.record_to_line.specs.Laws.{answers-load}
+use Rattle.units.specs.The.{the}
 use borrow.Author.Needs.{needs}
 use Rattle.record_to_line.proofs.answer_to_load.Statement.{statement}
 use Rattle.record_to_line.proofs.answer_to_load.Tie as tie
 
-air-space-requires : tie.Need-air-space-requires
-air-space-requires c κs = search needs
-
-tracer-space-requires : tie.Need-tracer-space-requires
-tracer-space-requires c κs = search needs
-
-array-borrow-prefix-air : tie.Need-array-borrow-prefix-air
-array-borrow-prefix-air c = search needs
-
 slice-aggregate-make-load : tie.Need-slice-aggregate-make-load
 slice-aggregate-make-load c =
     let start : tie.Start = search in
-    let airs = (let p : tie.After-air-space = search in p .air-space) in
+    let airs = the tie.After-air-space (search) .air-space in
     sym (length-take-le (start .args .cells) _ (omega (arith, airs .ensures, start .pre .fewCells)))
-
-array-borrow-prefix-tracers : tie.Need-array-borrow-prefix-tracers
-array-borrow-prefix-tracers c = search needs
 
 slice-aggregate-make-load-2 : tie.Need-slice-aggregate-make-load-2
 slice-aggregate-make-load-2 c =
     let start : tie.Start = search in
-    let amounts = (let p : tie.After-tracer-space = search in p .tracer-space) in
+    let amounts = the tie.After-tracer-space (search) .tracer-space in
     sym (length-take-le (start .args .amounts) _ (omega (arith, amounts .ensures, start .pre .fewAmounts)))
 
 make-load-requires : tie.Need-make-load-requires
 make-load-requires c κs =
     let start : tie.Start = search in
-    let airs = (let p : tie.After-air-space = search in p .air-space) in
-    let amounts = (let p : tie.After-tracer-space = search in p .tracer-space) in
+    let airs = the tie.After-air-space (search) .air-space in
+    let amounts = the tie.After-tracer-space (search) .tracer-space in
     let cells = take-short (start .args .cells) (airs .result) in
     let numbers = take-short (start .args .amounts) (amounts .result) in
     record { whole = omega (arith, start .pre .whole) }
@@ -44,9 +33,9 @@ make-load-requires c κs =
 returns : tie.Need-returns
 returns c =
     let start : tie.Start = search in
-    let airs = (let p : tie.After-air-space = search in p .air-space) in
-    let amounts = (let p : tie.After-tracer-space = search in p .tracer-space) in
-    let made = (let p : tie.After-make-load = search in p .make-load) in
+    let airs = the tie.After-air-space (search) .air-space in
+    let amounts = the tie.After-tracer-space (search) .tracer-space in
+    let made = the tie.After-make-load (search) .make-load in
     answers-load
     (length-take-le (start .args .cells) (airs .result) (omega (arith, airs .ensures, start .pre .fewCells)))
     (length-take-le (start .args .amounts) (amounts .result) (omega (arith, amounts .ensures, start .pre .fewAmounts)))
@@ -56,11 +45,11 @@ pub answer-to-load-spec : {M : Type 1} → statement M
 answer-to-load-spec =
     tie.close
     (tie.spec
-    air-space-requires
-    tracer-space-requires
-    array-borrow-prefix-air
+    (λ c κs. search needs)  -- air-space-requires
+    (λ c κs. search needs)  -- tracer-space-requires
+    (λ c. search needs)  -- array-borrow-prefix-air
     slice-aggregate-make-load
-    array-borrow-prefix-tracers
+    (λ c. search needs)  -- array-borrow-prefix-tracers
     slice-aggregate-make-load-2
     make-load-requires
     returns)

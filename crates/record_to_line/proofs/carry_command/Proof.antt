@@ -12,6 +12,7 @@ use Rattle.commands.proofs.Command.{the-type}
 use Rattle.commands.specs.declared.Command.{Command}
 use Rattle.commands.specs.declared.Command.the-variants.{Grid, Load, Emission, Withdrawal, Zonal, Meridional, Remap, Total, Cell}
 use Rattle.record_to_line.specs.Laws.{IsCall, take-need, carries-grid, carries-load, carries-call}
+use Rattle.units.specs.The.{the}
 use borrow.Author.Needs.{needs}
 use Rattle.record_to_line.proofs.carry_command.Statement.{statement}
 use Rattle.record_to_line.proofs.carry_command.Tie as tie
@@ -63,70 +64,49 @@ is-call (Cell p) h =
       asks = λ g body. refl;
     }
 
-enum-known-c : tie.Need-enum-known-c
-enum-known-c c = search needs
-
-take-grid-requires : tie.Need-take-grid-requires
-take-grid-requires c κs = search needs
-
-enum-told : tie.Need-enum-told
-enum-told c = search needs
-
 take-load-requires : tie.Need-take-load-requires
 take-load-requires c κs =
     let start : tie.Start = search in
-    let told = (let p : tie.After-enum-told = search in p .enum-told) in
+    let told = the tie.After-enum-told (search) .enum-told in
     take-need (start .pre) (told .given .1) (λ e. let z : _≡_ {A = ℕ} 0 1 = cc in omega arith)
 
 take-call-requires : tie.Need-take-call-requires
 take-call-requires c κs =
     let start : tie.Start = search in
-    let arm = (let p : tie.At-match-keys3 = search in p .match) in
+    let arm = the tie.At-match-keys3 (search) .match in
     take-need (start .pre) refl (is-call (start .args .c) (arm .keys3) .noGrid)
 
 returns : tie.Need-returns
 returns c =
-    let told = (let p : tie.After-c = search in p .c) in
+    let told = the tie.After-c (search) .c in
     carries-grid (told .given .1) (c .take-grid .ensures)
-
-same-length : tie.Need-same-length
-same-length c = search needs
-
-same-length-2 : tie.Need-same-length-2
-same-length-2 c = search needs
 
 returns-2 : tie.Need-returns-2
 returns-2 c =
-    let told = (let p : tie.After-enum-told = search in p .enum-told) in
-    let taken = (let p : tie.After-take-load = search in p .take-load) in
+    let told = the tie.After-enum-told (search) .enum-told in
+    let taken = the tie.After-take-load (search) .take-load in
     carries-load (told .given .1) (taken .ensures)
-
-same-length-3 : tie.Need-same-length-3
-same-length-3 c = search needs
-
-same-length-4 : tie.Need-same-length-4
-same-length-4 c = search needs
 
 returns-3 : tie.Need-returns-3
 returns-3 c =
     let start : tie.Start = search in
-    let arm = (let p : tie.At-match-keys3 = search in p .match) in
-    let taken = (let p : tie.After-take-call = search in p .take-call) in
+    let arm = the tie.At-match-keys3 (search) .match in
+    let taken = the tie.After-take-call (search) .take-call in
     carries-call (is-call (start .args .c) (arm .keys3)) (taken .ensures)
 
 pub carry-command-spec : {M : Type 1} → statement M
 carry-command-spec =
     tie.close
     (tie.spec
-    enum-known-c
-    take-grid-requires
-    enum-told
+    (λ c. search needs)  -- enum-known-c
+    (λ c κs. search needs)  -- take-grid-requires
+    (λ c. search needs)  -- enum-told
     take-load-requires
     take-call-requires
     returns
-    same-length
-    same-length-2
+    (λ c. search needs)  -- same-length
+    (λ c. search needs)  -- same-length-2
     returns-2
-    same-length-3
-    same-length-4
+    (λ c. search needs)  -- same-length-3
+    (λ c. search needs)  -- same-length-4
     returns-3)

@@ -7,15 +7,6 @@ use borrow.Author.Needs.{needs}
 use Rattle.record_to_line.proofs.line_of.Statement.{statement}
 use Rattle.record_to_line.proofs.line_of.Tie as tie
 
-enum-known-answer : tie.Need-enum-known-answer
-enum-known-answer c = search needs
-
-enum-told : tie.Need-enum-told
-enum-told c = search needs
-
-number-requires : tie.Need-number-requires
-number-requires c κs = search needs
-
 returns : tie.Need-returns
 returns c = ap₂ (line (c .before .before .before .args .kind)) (c .number .ensures) (sym (ap countOf (c .before .enum-told .given .1)))
 
@@ -23,4 +14,4 @@ returns-2 : tie.Need-returns-2
 returns-2 c = sym (ap (λ (a : Answer). line (c .before .before .before .args .kind) (numberOf a) (countOf a)) (c .before .answer .given .1))
 
 pub line-of-spec : {M : Type 1} → statement M
-line-of-spec = tie.close (tie.spec enum-known-answer enum-told number-requires returns returns-2)
+line-of-spec = tie.close (tie.spec (λ c. search needs) (λ c. search needs) (λ c κs. search needs) returns returns-2)

@@ -3,6 +3,7 @@ use mathlib.Core.Path.{sym, _∙_}
 use Rattle.stages.specs.Buffers.{buffers}
 use Rattle.record_to_line.specs.Laws.{small, make-need, amounts-few, tracers-room, parts-sized}
 use Rattle.record_to_line.specs.Leaves.{call-leaves}
+use Rattle.units.specs.The.{the}
 use borrow.Author.Needs.{needs}
 use Rattle.record_to_line.proofs.take_call.Statement.{statement}
 use Rattle.record_to_line.proofs.take_call.Tie as tie
@@ -12,35 +13,29 @@ cells-of-requires c κs =
     let start : tie.Start = search in
     small (start .pre)
 
-cast-amounts : tie.Need-cast-amounts
-cast-amounts c = search needs
-
 mul-amounts : tie.Need-mul-amounts
 mul-amounts c =
     let start : tie.Start = search in
-    let cells = (let p : tie.After-cells-of = search in p .cells-of) in
+    let cells = the tie.After-cells-of (search) .cells-of in
     let few = amounts-few (start .pre) (cells .ensures .1) in
     search needs
-
-slice-relend-prefix-make : tie.Need-slice-relend-prefix-make
-slice-relend-prefix-make c = search needs
 
 slice-aggregate-make : tie.Need-slice-aggregate-make
 slice-aggregate-make c =
     let start : tie.Start = search in
-    let cells = (let p : tie.After-cells-of = search in p .cells-of) in
+    let cells = the tie.After-cells-of (search) .cells-of in
     sym (parts-sized (start .pre) (cells .ensures .1) .air)
 
 slice-relend-prefix-make-2 : tie.Need-slice-relend-prefix-make-2
 slice-relend-prefix-make-2 c =
     let start : tie.Start = search in
-    let cells = (let p : tie.After-cells-of = search in p .cells-of) in
+    let cells = the tie.After-cells-of (search) .cells-of in
     tracers-room (start .pre) (cells .ensures .1)
 
 slice-aggregate-make-2 : tie.Need-slice-aggregate-make-2
 slice-aggregate-make-2 c =
     let start : tie.Start = search in
-    let cells = (let p : tie.After-cells-of = search in p .cells-of) in
+    let cells = the tie.After-cells-of (search) .cells-of in
     sym (parts-sized (start .pre) (cells .ensures .1) .tracers)
 
 make-requires : tie.Need-make-requires
@@ -48,20 +43,11 @@ make-requires c κs =
     let start : tie.Start = search in
     make-need (start .pre)
 
-line-of-requires : tie.Need-line-of-requires
-line-of-requires c κs = search needs
-
-same-length : tie.Need-same-length
-same-length c = search needs
-
-same-length-2 : tie.Need-same-length-2
-same-length-2 c = search needs
-
 returns : tie.Need-returns
 returns c =
     let start : tie.Start = search in
-    let cells = (let p : tie.After-cells-of = search in p .cells-of) in
-    let made = (let p : tie.After-make = search in p .make) in
+    let cells = the tie.After-cells-of (search) .cells-of in
+    let made = the tie.After-make (search) .make in
     let parts = parts-sized (start .pre) (cells .ensures .1) in
     let kept = made .kept .1 .1 .1 in
     λ call asked.
@@ -74,14 +60,14 @@ take-call-spec =
     tie.close
     (tie.spec
     cells-of-requires
-    cast-amounts
+    (λ c. search needs)  -- cast-amounts
     mul-amounts
-    slice-relend-prefix-make
+    (λ c. search needs)  -- slice-relend-prefix-make
     slice-aggregate-make
     slice-relend-prefix-make-2
     slice-aggregate-make-2
     make-requires
-    line-of-requires
-    same-length
-    same-length-2
+    (λ c κs. search needs)  -- line-of-requires
+    (λ c. search needs)  -- same-length
+    (λ c. search needs)  -- same-length-2
     returns)

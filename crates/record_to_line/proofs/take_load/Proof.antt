@@ -8,6 +8,7 @@ use Rattle.command_to_answer.specs.Makes.{bodyWorld}
 use Rattle.command_to_answer.specs.Room.{take-short}
 use Rattle.record_to_line.specs.Laws.{small, amounts-few, tracers-room, parts-sized, load-whole}
 use Rattle.record_to_line.specs.Leaves.{load-leaves, load-refused}
+use Rattle.units.specs.The.{the}
 use borrow.Author.Needs.{needs}
 use Rattle.record_to_line.proofs.take_load.Statement.{statement}
 use Rattle.record_to_line.proofs.take_load.Tie as tie
@@ -17,88 +18,70 @@ cells-of-requires c κs =
     let start : tie.Start = search in
     small (start .pre)
 
-cast-amounts : tie.Need-cast-amounts
-cast-amounts c = search needs
-
 mul-amounts : tie.Need-mul-amounts
 mul-amounts c =
     let start : tie.Start = search in
-    let cells = (let p : tie.After-cells-of = search in p .cells-of) in
+    let cells = the tie.After-cells-of (search) .cells-of in
     let few = amounts-few (start .pre) (cells .ensures .1) in
     search needs
 
 answer-to-load-requires : tie.Need-answer-to-load-requires
 answer-to-load-requires c κs =
     let start : tie.Start = search in
-    let cells = (let p : tie.After-cells-of = search in p .cells-of) in
+    let cells = the tie.After-cells-of (search) .cells-of in
     record {
       fewCells = cells .ensures .1;
       fewAmounts = amounts-few (start .pre) (cells .ensures .1);
       whole = load-whole (start .args .g) _ (start .args .body .now) (cells .ensures .0) (start .pre .whole);
     }
 
-line-of-requires : tie.Need-line-of-requires
-line-of-requires c κs = search needs
-
-number-requires : tie.Need-number-requires
-number-requires c κs = search needs
-
 returns : tie.Need-returns
 returns c =
     let start : tie.Start = search in
-    let cells = (let p : tie.After-cells-of = search in p .cells-of) in
-    let answer = (let p : tie.After-answer-to-load = search in p .answer-to-load) in
-    let line = (let p : tie.After-line-of = search in p .line-of) in
-    let number = (let p : tie.After-number = search in p .number) in
+    let cells = the tie.After-cells-of (search) .cells-of in
+    let answer = the tie.After-answer-to-load (search) .answer-to-load in
+    let line = the tie.After-line-of (search) .line-of in
+    let number = the tie.After-number (search) .number in
     λ s.
     load-refused (start .args .g) (cells .ensures .0) (start .args .kind) (start .args .body .now) (answer .result) _ s (line .ensures) (answer .ensures)
     (buffers _ _) (start .pre .taken) (λ e. omega (arith, e, number .ensures, c .if1 .left))
 
-slice-relend-prefix-make-load : tie.Need-slice-relend-prefix-make-load
-slice-relend-prefix-make-load c = search needs
-
 slice-aggregate-make-load : tie.Need-slice-aggregate-make-load
 slice-aggregate-make-load c =
     let start : tie.Start = search in
-    let cells = (let p : tie.After-cells-of = search in p .cells-of) in
+    let cells = the tie.After-cells-of (search) .cells-of in
     sym (parts-sized (start .pre) (cells .ensures .1) .air)
 
 slice-relend-prefix-make-load-2 : tie.Need-slice-relend-prefix-make-load-2
 slice-relend-prefix-make-load-2 c =
     let start : tie.Start = search in
-    let cells = (let p : tie.After-cells-of = search in p .cells-of) in
+    let cells = the tie.After-cells-of (search) .cells-of in
     tracers-room (start .pre) (cells .ensures .1)
 
 slice-aggregate-make-load-2 : tie.Need-slice-aggregate-make-load-2
 slice-aggregate-make-load-2 c =
     let start : tie.Start = search in
-    let cells = (let p : tie.After-cells-of = search in p .cells-of) in
+    let cells = the tie.After-cells-of (search) .cells-of in
     sym (parts-sized (start .pre) (cells .ensures .1) .tracers)
 
 make-load-requires : tie.Need-make-load-requires
 make-load-requires c κs =
     let start : tie.Start = search in
-    let cells = (let p : tie.After-cells-of = search in p .cells-of) in
+    let cells = the tie.After-cells-of (search) .cells-of in
     let airs = take-short (cells .result) (start .args .air .now) in
     let amounts = take-short (start .args .g .n * cells .result) (start .args .tracers .now) in
     let whole = load-whole (start .args .g) _ (start .args .body .now) (cells .ensures .0) (start .pre .whole) in
     record { whole = omega arith }
 
-same-length : tie.Need-same-length
-same-length c = search needs
-
-same-length-2 : tie.Need-same-length-2
-same-length-2 c = search needs
-
 returns-2 : tie.Need-returns-2
 returns-2 c =
     let start : tie.Start = search in
-    let cells = (let p : tie.After-cells-of = search in p .cells-of) in
-    let answer = (let p : tie.After-answer-to-load = search in p .answer-to-load) in
-    let line = (let p : tie.After-line-of = search in p .line-of) in
-    let number = (let p : tie.After-number = search in p .number) in
-    let accepted = (let p : tie.Then1 = search in p .if1) in
-    let made = (let p : tie.After-make-load = search in p .make-load) in
+    let cells = the tie.After-cells-of (search) .cells-of in
+    let answer = the tie.After-answer-to-load (search) .answer-to-load in
+    let line = the tie.After-line-of (search) .line-of in
+    let number = the tie.After-number (search) .number in
+    let accepted = the tie.Then1 (search) .if1 in
+    let made = the tie.After-make-load (search) .make-load in
     let parts = parts-sized (start .pre) (cells .ensures .1) in
     let kept = made .kept .1 .1 in
     let is = made .ensures .is ∙ ap₂ (bodyWorld (gridOf (start .args .g)) (start .args .body .now)) (parts .air) (parts .tracers) in
@@ -112,17 +95,17 @@ take-load-spec =
     tie.close
     (tie.spec
     cells-of-requires
-    cast-amounts
+    (λ c. search needs)  -- cast-amounts
     mul-amounts
     answer-to-load-requires
-    line-of-requires
-    number-requires
+    (λ c κs. search needs)  -- line-of-requires
+    (λ c κs. search needs)  -- number-requires
     returns
-    slice-relend-prefix-make-load
+    (λ c. search needs)  -- slice-relend-prefix-make-load
     slice-aggregate-make-load
     slice-relend-prefix-make-load-2
     slice-aggregate-make-load-2
     make-load-requires
-    same-length
-    same-length-2
+    (λ c. search needs)  -- same-length
+    (λ c. search needs)  -- same-length-2
     returns-2)

@@ -3,15 +3,6 @@ use borrow.Author.Needs.{needs}
 use Rattle.stages.proofs.grid_of.Statement.{statement}
 use Rattle.stages.proofs.grid_of.Tie as tie
 
-enum-told : tie.Need-enum-told
-enum-told c = search needs
-
-enum-known-stage : tie.Need-enum-known-stage
-enum-known-stage c = search needs
-
-enum-known-stage-2 : tie.Need-enum-known-stage-2
-enum-known-stage-2 c = search needs
-
 returns : tie.Need-returns
 returns c = cc
 
@@ -23,4 +14,4 @@ returns-3 c = cc
 
 pub grid-of-spec : {M : Type 1} → statement M
 grid-of-spec =
-    tie.close (tie.spec enum-told enum-known-stage enum-known-stage-2 returns returns-2 returns-3)
+    tie.close (tie.spec (λ c. search needs) (λ c. search needs) (λ c. search needs) returns returns-2 returns-3)

@@ -9,12 +9,6 @@ use borrow.Author.Needs.{needs}
 use Rattle.stages.proofs.grid_refusal.Statement.{statement}
 use Rattle.stages.proofs.grid_refusal.Tie as tie
 
-grid-fits-requires : tie.Need-grid-fits-requires
-grid-fits-requires c κs = search needs
-
-refusal-number-requires : tie.Need-refusal-number-requires
-refusal-number-requires c κs = search needs
-
 returns : tie.Need-returns
 returns c =
     let tested : tie.After-grid-fits = search needs in
@@ -29,23 +23,11 @@ fits c = sym (c .before .grid-fits .ensures) ∙ c .if1 .taken
 world-cells-requires : tie.Need-world-cells-requires
 world-cells-requires c κs = in-range (c .before .before .args .g) (fits c)
 
-cast-if2 : tie.Need-cast-if2
-cast-if2 c = search needs
-
-fault-number-requires : tie.Need-fault-number-requires
-fault-number-requires c κs = search needs
-
 returns-2 : tie.Need-returns-2
 returns-2 c =
     let start : tie.Start = search needs in
     let inside : tie.Then1 = search needs in
     c .fault-number .ensures ∙ sym (refused-cells (gridOf (start .args .g)) (fits inside) (search needs))
-
-cast-if3 : tie.Need-cast-if3
-cast-if3 c = search needs
-
-fault-number-requires-2 : tie.Need-fault-number-requires-2
-fault-number-requires-2 c κs = search needs
 
 returns-3 : tie.Need-returns-3
 returns-3 c =
@@ -63,14 +45,14 @@ pub grid-refusal-spec : {M : Type 1} → statement M
 grid-refusal-spec =
     tie.close
     (tie.spec
-    grid-fits-requires
-    refusal-number-requires
+    (λ c κs. search needs)  -- grid-fits-requires
+    (λ c κs. search needs)  -- refusal-number-requires
     returns
     world-cells-requires
-    cast-if2
-    fault-number-requires
+    (λ c. search needs)  -- cast-if2
+    (λ c κs. search needs)  -- fault-number-requires
     returns-2
-    cast-if3
-    fault-number-requires-2
+    (λ c. search needs)  -- cast-if3
+    (λ c κs. search needs)  -- fault-number-requires-2
     returns-3
     returns-4)

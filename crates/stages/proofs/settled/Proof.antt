@@ -10,21 +10,6 @@ use Rattle.stages.proofs.settled.Reads as reads
 use Rattle.stages.proofs.settled.Lts as lts
 use Rattle.stages.proofs.grid_refusal.Reads as grid-refusal-reads
 
-enum-told : tie.Need-enum-told
-enum-told c = search needs
-
-enum-known-stage : tie.Need-enum-known-stage
-enum-known-stage c = search needs
-
-grid-refusal-requires : tie.Need-grid-refusal-requires
-grid-refusal-requires c κs = search needs
-
-enum-known-stage-2 : tie.Need-enum-known-stage-2
-enum-known-stage-2 c = search needs
-
-grid-refusal-requires-2 : tie.Need-grid-refusal-requires-2
-grid-refusal-requires-2 c κs = search needs
-
 returns : tie.Need-returns
 returns c = settled-same _ Start (cc) refl
 
@@ -54,11 +39,11 @@ pub settled-spec : {M : Type 1} → statement M
 settled-spec =
     tie.close
     (tie.spec
-    enum-told
-    enum-known-stage
-    grid-refusal-requires
-    enum-known-stage-2
-    grid-refusal-requires-2
+    (λ c. search needs)  -- enum-told
+    (λ c. search needs)  -- enum-known-stage
+    (λ c κs. search needs)  -- grid-refusal-requires
+    (λ c. search needs)  -- enum-known-stage-2
+    (λ c κs. search needs)  -- grid-refusal-requires-2
     returns
     returns-2
     returns-3
