@@ -36,7 +36,7 @@ pub record Spans (k : ℕ) (air e : List ℕ) : Type 0 where
 
 -- ---- a tracer's remap
 -- such layers and edges, tracer within the limit, and room for the ratios and the new amounts
-pub record GasNeed (k : ℕ) (air gas q e new : List ℕ) : Type 0 where
+pub record ColumnGasNeed (k : ℕ) (air gas q e new : List ℕ) : Type 0 where
   pub spans : Spans k air e
   pub total : sum k (at gas) ≤ totalLimit
   pub roomGas : k ≤ length gas
@@ -45,7 +45,7 @@ pub record GasNeed (k : ℕ) (air gas q e new : List ℕ) : Type 0 where
 
 -- the same, with the ratios in q
 pub record WalkNeed (k : ℕ) (air gas q e new : List ℕ) : Type 0 where
-  pub column : GasNeed k air gas q e new
+  pub column : ColumnGasNeed k air gas q e new
   pub ratios : AreRatios k air gas q
 
 -- r has the new layers' tracer, whatever table the edges are of

@@ -15,7 +15,7 @@ use Rattle.model.specs.Remap.{airAbove, shareAir, columnCount}
 use Rattle.model.specs.Laws.Basic.{sum-none, sum-more, sum-ext, sum-fewer, at-tab}
 use Rattle.column.specs.Column.{firsts, AreEdges}
 use Rattle.column.specs.Gas.{Spans, IsPairs}
-use Rattle.column.specs.Walk.{Place, rises-next, last-is, next-is}
+use Rattle.column.specs.Walk.{WalkPlace, rises-next, last-is, next-is}
 
 -- ---- how many
 how-many-ext : (n : ℕ) (p q : ℕ → Bool) → ((t : ℕ) → t < n → p t ≡ q t) → howMany n p ≡ howMany n q
@@ -84,7 +84,7 @@ module _ (air : List ℕ) (e : List ℕ) (j t : ℕ) where
   starts-past : at e (j + 1) ≤ sum t (at air) → sharesAt air e j t ≡ false
   starts-past h = le-ltb (top air e j t) (end air e j t) (omega arith)
 
-module _ {k : ℕ} {air : List ℕ} {e : List ℕ} (spans : Spans k air e) {i j passed : ℕ} (p : Place k air e i j passed) where
+module _ {k : ℕ} {air : List ℕ} {e : List ℕ} (spans : Spans k air e) {i j passed : ℕ} (p : WalkPlace k air e i j passed) where
   -- the old layers above end before here
   none-above : (x : ℕ) → passed ≤ at e x → howMany i (sharesAt air e x) ≡ 0
   none-above x h =

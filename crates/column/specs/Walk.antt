@@ -49,7 +49,7 @@ module _ (f : ℕ → ColumnLayer) (n : ℕ) (has : (k : ℕ) → k < n → 1 �
       )
 
 -- ---- where the walk stands: in old layer i, before the lower edge of new layer j, with the air of the layers above passed
-pub record Place (k : ℕ) (air : List ℕ) (e : List ℕ) (i j passed : ℕ) : Type 0 where
+pub record WalkPlace (k : ℕ) (air : List ℕ) (e : List ℕ) (i j passed : ℕ) : Type 0 where
   pub layer : i < k
   pub edge : j ≤ k
   pub is : passed ≡ sum i (at air)
@@ -70,7 +70,7 @@ module _ {k : ℕ} {air : List ℕ} {e : List ℕ} (spans : Spans k air e) where
   air-fits i h =
       omega (arith, sum-le i (at air) (λ t. airLimit) (λ t p. spans .most t (omega arith)), sum-same i airLimit, spans .fit)
 
-  pub place-start : Place k air e 0 0 0
+  pub place-start : WalkPlace k air e 0 0 0
   place-start =
       record {
         layer = spans .some;
@@ -79,7 +79,7 @@ module _ {k : ℕ} {air : List ℕ} {e : List ℕ} (spans : Spans k air e) where
         ahead = λ h. omega (arith, rises-next 0 h, spans .first);
       }
 
-  module _ {i j passed : ℕ} (p : Place k air e i j passed) where
+  module _ {i j passed : ℕ} (p : WalkPlace k air e i j passed) where
     pub next-is : passed + at air i ≡ sum (i + 1) (at air)
     next-is = omega (arith, sum-more i (at air), p .is)
 
@@ -87,7 +87,7 @@ module _ {k : ℕ} {air : List ℕ} {e : List ℕ} (spans : Spans k air e) where
     next-fits = rw next-is (air-fits (i + 1) (omega (arith, p .layer)))
 
     -- a layer that ends before the next edge is not the last
-    pub pass-layer : j < k → passed + at air i < at e (j + 1) → Place k air e (i + 1) j (passed + at air i)
+    pub pass-layer : j < k → passed + at air i < at e (j + 1) → WalkPlace k air e (i + 1) j (passed + at air i)
     pass-layer h lt =
         record {
           layer = ⊎-elim (λ (last : k ≤ i + 1). absurd (not-last last)) (λ (q : i + 1 < k). q) (le-or-lt k (i + 1));
@@ -101,7 +101,7 @@ module _ {k : ℕ} {air : List ℕ} {e : List ℕ} (spans : Spans k air e) where
             let all : k ≡ i + 1 = omega (arith, p .layer) in
             omega (arith, lt, edge-most (j + 1) (omega (arith, h)), next-is, ap (λ (n : ℕ). sum n (at air)) all)
 
-    pub pass-edge : j < k → Place k air e i (j + 1) passed
+    pub pass-edge : j < k → WalkPlace k air e i (j + 1) passed
     pass-edge h =
         record {
           layer = p .layer;
@@ -138,7 +138,7 @@ module _ (cap : Bool) {k : ℕ} {air gas q e new : List ℕ} (need : WalkNeed k 
   gas-fits i h = omega (arith, sum-more i (at gas), sum-fewer (at gas) (i + 1) k (omega arith), need .column .total)
 
   -- the edge passed lies in layer i
-  module _ {i j passed : ℕ} (p : Place k air e i j passed) (h : j < k) (le : at e (j + 1) ≤ passed + at air i) where
+  module _ {i j passed : ℕ} (p : WalkPlace k air e i j passed) (h : j < k) (le : at e (j + 1) ≤ passed + at air i) where
     module _ (d : code.Mismatch) (is : mismatchOf d ≡ slopeAt cap k q i) where
       pub walk-giver :
           (have : Air) (t : Tracer) (m : Air) → have .0 ≡ at air i → t .0 ≡ at gas i → m .0 ≡ at e (j + 1) - passed → Giver d have t m

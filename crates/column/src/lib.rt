@@ -6,20 +6,20 @@ ghost use mathlib.Core.Bool.{_&&_};
 ghost use Prim.Native.Nat.{_+_, _-_, _*_, _/_, _≤_, _<_, min};
 ghost use lib.ListN.{length};
 ghost use lib.Dec.{leb, ltb};
-ghost use Rattle.model.specs.Limits.{airLimit, totalLimit, tableLimit, tableScale};
+ghost use Rattle.model.specs.Limits.{airLimit, totalLimit, tableLimit, tableScale, mostLayers};
 ghost use Rattle.model.specs.Step.{tableFits};
 ghost use Rattle.scheme.specs.Leaves.{mismatchOf};
 ghost use Rattle.column.specs.Column.{AirNeed, IsAirSum, EdgesNeed, AreEdges, IsServing, Served, IsNewAir};
-ghost use Rattle.column.specs.Gas.{slopeAt, Spans, WalkNeed, IsPairs, GasNeed, IsRemapped};
+ghost use Rattle.column.specs.Gas.{slopeAt, Spans, WalkNeed, IsPairs, ColumnGasNeed, IsRemapped};
 use scheme::low_piece;
 use scheme::mismatch;
 use substep::fill_ratios;
+use units::AIR_LIMIT;
 use units::Air;
 use units::Mismatch;
+use units::TABLE_LIMIT;
+use units::TABLE_SCALE;
 use units::Tracer;
-
-// The scale of a table's b.
-const TABLE_SCALE: u64 = 65536;
 
 // P, the air of a column of k layers.
 pub fn air_sum(air: &[u32], k: usize) -> u64
@@ -39,16 +39,16 @@ pub fn air_sum(air: &[u32], k: usize) -> u64
 fn pair_fits(a: u32, b: u32) -> bool
     ensures { λ r. ⌜ r ≡ leb a tableLimit && leb b tableScale ⌝ }
 {
-    (a <= 2097120) & (b <= 65536)
+    (a <= TABLE_LIMIT) & (b <= TABLE_SCALE)
 }
 
 // Place 11: whether the table's first pair is (0, 0), its last (0, 65,536), and every pair in its ranges.
 pub fn table_fits(table: &[u32], k: usize) -> bool
-    requires { ⌜ (k ≤ 32) × (length (now table) ≡ 2 * (k + 1)) ⌝ }
+    requires { ⌜ (k ≤ mostLayers) × (length (now table) ≡ 2 * (k + 1)) ⌝ }
     ensures { λ r. ⌜ r ≡ tableFits k (now (table .entry)) ⌝ }
 {
     let first = (table[0] == 0) & (table[1] == 0);
-    let ends = first & (table[2 * k] == 0) & (table[2 * k + 1] == 65536);
+    let ends = first & (table[2 * k] == 0) & (table[2 * k + 1] == TABLE_SCALE);
     let mut ok = true;
     let mut j = 0;
     while j < k + 1 {
@@ -60,10 +60,10 @@ pub fn table_fits(table: &[u32], k: usize) -> bool
 
 // The edge of the pair (a, b) in a column of p units of air.
 fn edge_of(a: u32, b: u32, p: u64) -> u64
-    requires { ⌜ p ≤ 2097120 ⌝ }
+    requires { ⌜ p ≤ tableLimit ⌝ }
     ensures { λ r. ⌜ r ≡ a + b * p / tableScale ⌝ }
 {
-    (a as u64) + (b as u64) * p / TABLE_SCALE
+    (a as u64) + (b as u64) * p / (TABLE_SCALE as u64)
 }
 
 // The k + 1 edges of a column of p units of air.
@@ -83,7 +83,7 @@ fn layer_serves(upper: u64, lower: u64) -> bool
     ensures { λ r. ⌜ r ≡ ltb upper lower && leb (lower - upper) airLimit ⌝ }
 {
     if upper < lower {
-        lower - upper <= 65535
+        lower - upper <= (AIR_LIMIT as u64)
     } else {
         false
     }
@@ -91,7 +91,7 @@ fn layer_serves(upper: u64, lower: u64) -> bool
 
 // Place 12 in one column: whether its edges rise strictly, with no new layer above 65,535.
 pub fn edges_serve(e: &[u64], k: usize) -> bool
-    requires { ⌜ (k ≤ 32) × (k < length (now e)) ⌝ }
+    requires { ⌜ (k ≤ mostLayers) × (k < length (now e)) ⌝ }
     ensures { λ r. ⌜ IsServing k (now (e .entry)) r ⌝ }
 {
     let mut ok = true;
@@ -117,7 +117,7 @@ pub fn new_air(e: &[u64], k: usize, new: &mut [u32])
 
 // The mismatch of layer i with those above and below it: none in a cap's column, and none in the top and bottom layers.
 fn mismatch_at(q: &[u64], cap: bool, i: usize, k: usize) -> Mismatch
-    requires { ⌜ (k ≤ 32) × (k ≤ length (now q)) × (i < k) ⌝ }
+    requires { ⌜ (k ≤ mostLayers) × (k ≤ length (now q)) × (i < k) ⌝ }
     ensures { λ r. ⌜ mismatchOf r ≡ slopeAt cap k (now (q .entry)) i ⌝ }
 {
     let plain = Mismatch {
@@ -191,7 +191,7 @@ pub fn remap_gas(
     q: &mut [u64],
     new: &mut [u32],
 )
-    requires { ⌜ GasNeed k (now air) (now gas) (now q) (now e) (now new) ⌝ }
+    requires { ⌜ ColumnGasNeed k (now air) (now gas) (now q) (now e) (now new) ⌝ }
     ensures { λ r. ⌜ IsRemapped cap k (now (air .entry)) (now (gas .entry)) (now (e .entry)) (now (new .exit)) ⌝ }
 {
     fill_ratios(air, gas, k, q);

@@ -69,7 +69,7 @@ module _ (w rows : ℕ) where
 
 -- ---- a piece through face i
 -- the cell c beside it can give m units of its air, whatever its neighbours
-pub record Gives (w rows : ℕ) (air gas q : List ℕ) (i c m : ℕ) : Type 0 where
+pub record GivesPiece (w rows : ℕ) (air gas q : List ℕ) (i c m : ℕ) : Type 0 where
   pub size : Size w rows
   pub face : i < w + rows * w
   pub ratios : AreRatios (layer w rows .cells) air gas q
@@ -104,7 +104,7 @@ module _ {w rows : ℕ} {air gas up down q high low : List ℕ} (step : Step w r
   inside = omega arith
 
   -- the cell south of face i gives from its high end, the cell north of it from its low end
-  pub gives-north : Gives w rows air gas q i south (at up i)
+  pub gives-north : GivesPiece w rows air gas q i south (at up i)
   unfolding layer
   gives-north =
       record {
@@ -114,7 +114,7 @@ module _ {w rows : ℕ} {air gas up down q high low : List ℕ} (step : Step w r
         need = λ a b near. high-need (layer-regular w rows) (step .need) q ratios room near i inside refl;
       }
 
-  pub gives-south : Gives w rows air gas q i north (at down i)
+  pub gives-south : GivesPiece w rows air gas q i north (at down i)
   unfolding layer
   gives-south =
       record {

@@ -4,6 +4,7 @@
 ghost use mathlib.Core.Path.{_≡_};
 ghost use Prim.Native.Nat.{_+_, _*_, _≤_};
 ghost use lib.ListN.{length};
+ghost use Rattle.model.specs.Limits.{mostFaces};
 ghost use Rattle.model.specs.Basic.{at, every};
 ghost use Rattle.model.specs.Scheme.{highPiece, lowPiece, mismatch};
 ghost use Rattle.model.specs.Sweep.{southOf, northOf, layer, afterFlow, allowed, cellMismatch, pieces};
@@ -11,7 +12,7 @@ ghost use Rattle.substep.specs.Faces.{flowOf, Same, stepped};
 ghost use Rattle.substep.specs.Cells.{cellAllowed, Moves};
 ghost use Rattle.substep.specs.Pieces.{AreRatios};
 ghost use Rattle.layer.specs.Cells.{Fit, CapFaces, IsSum, Begun, MovedOn};
-ghost use Rattle.layer.specs.Gas.{Gives, Step};
+ghost use Rattle.layer.specs.Gas.{GivesPiece, Step};
 use substep::amount_after;
 use substep::both;
 use substep::cell_allows;
@@ -97,7 +98,7 @@ pub fn pass_layer(amounts: &mut [u32], up: &[u32], down: &[u32], w: usize, rows:
 
 // The cell south of a face, and the cell north of it, where n cells lie between the caps.
 fn south_of(w: usize, face: usize) -> usize
-    requires { ⌜ face ≤ 3240 ⌝ }
+    requires { ⌜ face ≤ mostFaces ⌝ }
     ensures { λ r. ⌜ r ≡ southOf w face ⌝ }
 {
     if face < w { 0 } else { 1 + (face - w) }
@@ -113,7 +114,7 @@ fn north_of(n: usize, face: usize) -> usize
 // The piece of m units of air that pass face i northward, from the high end of the cell south of it.
 // The south cap is its own neighbour on both sides, so that its mismatch is none.
 fn northward(air: &[u32], gas: &[u32], q: &[u64], w: usize, rows: usize, i: usize, m: Air) -> Tracer
-    requires { ⌜ Gives w rows (now air) (now gas) (now q) i (southOf w i) (m .0) ⌝ }
+    requires { ⌜ GivesPiece w rows (now air) (now gas) (now q) i (southOf w i) (m .0) ⌝ }
     ensures { λ p. ⌜ p .0 ≡ highPiece (cellMismatch mismatch (layer w rows) (now (air .entry)) (now (gas .entry)) (southOf w i)) (at (now (air .entry)) (southOf w i)) (at (now (gas .entry)) (southOf w i)) (m .0) ⌝ }
 {
     let c = south_of(w, i);
@@ -125,7 +126,7 @@ fn northward(air: &[u32], gas: &[u32], q: &[u64], w: usize, rows: usize, i: usiz
 
 // The same southward, from the low end of the cell north of it.
 fn southward(air: &[u32], gas: &[u32], q: &[u64], w: usize, rows: usize, i: usize, m: Air) -> Tracer
-    requires { ⌜ Gives w rows (now air) (now gas) (now q) i (northOf (rows * w) i) (m .0) ⌝ }
+    requires { ⌜ GivesPiece w rows (now air) (now gas) (now q) i (northOf (rows * w) i) (m .0) ⌝ }
     ensures { λ p. ⌜ p .0 ≡ lowPiece (cellMismatch mismatch (layer w rows) (now (air .entry)) (now (gas .entry)) (northOf (rows * w) i)) (at (now (air .entry)) (northOf (rows * w) i)) (at (now (gas .entry)) (northOf (rows * w) i)) (m .0) ⌝ }
 {
     let n = rows * w;

@@ -6,6 +6,7 @@ use native.Mathlib.Nat.{le-refl, add-sub-cancel-left, mod-eq-of-lt, mul-le-mul, 
 use native.Mathlib.Omega.{arith}
 use lib.Bits.{bitOr}
 use lib.ListN.{length, set}
+use Rattle.model.specs.Limits.{mostCells, mostTracers, mostAmounts}
 use Rattle.model.specs.Basic.{at, part, sum}
 use Rattle.model.specs.Laws.Basic.{length-part, at-part, sum-none, sum-more, sum-split, sum-ext}
 use Rattle.model.specs.Laws.Entries.{entries-more}
@@ -17,7 +18,7 @@ pub record IsTotal (gas : List ℕ) (r : ℕ) : Type 0 where
   pub small : r ≤ length gas * 4294967295
 
 pub record TracersFit (tracers : List ℕ) (cells n : ℕ) : Type 0 where
-  pub fewCells : cells ≤ 101440
+  pub fewCells : cells ≤ mostCells
   pub fewTracers : n ≤ 8
   pub long : n * cells ≤ length tracers
 
@@ -42,10 +43,10 @@ totals-more {tracers} {cells} {n} {sums} {x} room old is fits =
 -- where tracer t lies
 pub tracer-room :
     {tracers : List ℕ} {cells n : ℕ} → TracersFit tracers cells n → (t : ℕ) → t < n →
-    (t * cells + cells ≤ length tracers) × (t * cells + cells ≤ 811520)
+    (t * cells + cells ≤ length tracers) × (t * cells + cells ≤ mostAmounts)
 tracer-room {tracers} {cells} {n} fit t h =
     let below : suc t * cells ≤ n * cells = mul-le-mul-right cells h in
-    let most : n * cells ≤ 8 * 101440 = mul-le-mul (fit .fewTracers) (fit .fewCells) in
+    let most : n * cells ≤ mostTracers * mostCells = mul-le-mul (fit .fewTracers) (fit .fewCells) in
     let long : n * cells ≤ length tracers = fit .long in
     (omega arith, omega arith)
 

@@ -5,7 +5,7 @@ ghost use Prim.Native.Nat.{_+_, _*_, _≤_, _<_};
 ghost use lib.ListN.{length};
 ghost use lib.Dec.{leb};
 ghost use lib.IntN.{natAbs};
-ghost use Rattle.model.specs.Limits.{totalLimit};
+ghost use Rattle.model.specs.Limits.{totalLimit, mostCells};
 ghost use Rattle.model.specs.Basic.{at, sum, every};
 ghost use Rattle.model.specs.World.{airFits};
 ghost use Rattle.model.specs.Sweep.{flux};
@@ -14,10 +14,13 @@ ghost use Rattle.places.specs.Totals.{IsTotal, TracersFit, AreTotals};
 ghost use Rattle.places.specs.Tested.{lentServes, lengthsServe, IsTested};
 use scheme::split;
 use std::num::wrapping_add_u32;
+use units::AIR_LIMIT;
 use units::Air;
 use units::Answer;
 use units::Grid;
+use units::MOST_TRACERS;
 use units::Refusal;
+use units::TOTAL_LIMIT;
 use units::grid_fits;
 use units::world_cells;
 
@@ -25,7 +28,7 @@ use units::world_cells;
 pub fn air_in_range(m: Air) -> bool
     ensures { λ r. ⌜ r ≡ airFits (m .0) ⌝ }
 {
-    (1 <= m.0) & (m.0 <= 65535)
+    (1 <= m.0) & (m.0 <= AIR_LIMIT)
 }
 
 // Place 3: whether every cell's air is in range. `all` has the bits of every cell's air.
@@ -41,12 +44,12 @@ pub fn air_fits(air: &[u32]) -> bool
         some = some & (1 <= m);
         i += 1;
     }
-    some & (all <= 65535)
+    some & (all <= AIR_LIMIT)
 }
 
 // A sum of amounts, each added in 64 bits.
 fn wide_total(gas: &[u32]) -> u64
-    requires { ⌜ length (now gas) ≤ 101440 ⌝ }
+    requires { ⌜ length (now gas) ≤ mostCells ⌝ }
     ensures { λ r. ⌜ IsTotal (now (gas .entry)) r ⌝ }
 {
     let mut sum: u64 = 0;
@@ -95,7 +98,7 @@ fn block_end(a: usize, n: usize) -> usize
 
 // A tracer's sum over all cells.
 pub fn gas_total(gas: &[u32]) -> u64
-    requires { ⌜ length (now gas) ≤ 101440 ⌝ }
+    requires { ⌜ length (now gas) ≤ mostCells ⌝ }
     ensures { λ r. ⌜ (r ≡ sum (length (now (gas .entry))) (at (now (gas .entry)))) × (r < 562949953421312) ⌝ }
 {
     let mut sum: u64 = 0;
@@ -109,11 +112,11 @@ pub fn gas_total(gas: &[u32]) -> u64
 }
 
 // The totals of the first n tracers, each over `cells` cells; 0 for the others.
-pub fn totals(tracers: &[u32], cells: usize, n: usize) -> [u64; 8]
+pub fn totals(tracers: &[u32], cells: usize, n: usize) -> [u64; MOST_TRACERS]
     requires { ⌜ TracersFit (now tracers) cells n ⌝ }
     ensures { λ r. ⌜ AreTotals (now (tracers .entry)) cells n r ⌝ }
 {
-    let mut sums = [0u64; 8];
+    let mut sums = [0u64; MOST_TRACERS];
     let mut t = 0;
     while t < n {
         let a = t * cells;
@@ -125,14 +128,14 @@ pub fn totals(tracers: &[u32], cells: usize, n: usize) -> [u64; 8]
 }
 
 // Place 4: whether the totals of the first n tracers are at most 268,435,455.
-pub fn totals_fit(sums: [u64; 8], n: usize) -> bool
+pub fn totals_fit(sums: [u64; MOST_TRACERS], n: usize) -> bool
     requires { ⌜ n ≤ 8 ⌝ }
     ensures { λ r. ⌜ r ≡ every n (λ t. leb (at sums t) totalLimit) ⌝ }
 {
     let mut ok = true;
     let mut t = 0;
     while t < n {
-        ok = ok & (sums[t] <= 268435455);
+        ok = ok & (sums[t] <= TOTAL_LIMIT);
         t += 1;
     }
     ok
@@ -165,7 +168,7 @@ pub fn lent_fits(g: Grid, lent: Lent) -> bool
 // The answer of places 1 to 4, and every tracer's total where all four are passed.
 pub struct Tested {
     pub answer: Answer,
-    pub totals: [u64; 8],
+    pub totals: [u64; MOST_TRACERS],
 }
 
 fn refused(place: Refusal) -> Tested
@@ -173,7 +176,7 @@ fn refused(place: Refusal) -> Tested
 {
     Tested {
         answer: Answer::Refused(place),
-        totals: [0u64; 8],
+        totals: [0u64; MOST_TRACERS],
     }
 }
 

@@ -18,7 +18,7 @@ use Rattle.stages.specs.declared.Fault.{Fault}
 use Rattle.commands.specs.declared.Command.{Command}
 use Rattle.records.specs.declared.Found as found
 use Rattle.records.specs.declared.Found.the-variants.{Nothing, Faulty, Record}
-use Rattle.stages.specs.Buffers.{Buffers, held, Room}
+use Rattle.stages.specs.Buffers.{Buffers, held, BufferRoom}
 use Rattle.stages.specs.Stage.{faultNumber, stageRefusal, plainState, stateOf, gridOfStage, IsSettled}
 use Rattle.commands.specs.Command.{commandIs, kindOfCommand}
 use Rattle.records.specs.Found.{readingIs, FoundWhole, IsWhole, Finds}
@@ -101,7 +101,7 @@ module _
   is-whole : IsWhole (stateOf stage b) (drop 1 input) c
   is-whole = subst (λ (v : found.Found). FoundWhole (stateOf stage b) (drop 1 input) v) e (whole-is settled finds b)
 
-  pub carry-need : Room b → CarryNeed g c (take (length input - 1) (drop 1 input)) b
+  pub carry-need : BufferRoom b → CarryNeed g c (take (length input - 1) (drop 1 input)) b
   carry-need room =
       record {
         taken =

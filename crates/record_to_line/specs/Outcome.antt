@@ -16,7 +16,7 @@ use Rattle.stages.specs.declared.Stage.{Stage}
 use Rattle.commands.specs.declared.Command.{Command}
 use Rattle.commands.specs.declared.Command.the-variants.{Load}
 use Rattle.stages.specs.Limits.{programAmounts}
-use Rattle.stages.specs.Buffers.{Buffers, held, over, Room}
+use Rattle.stages.specs.Buffers.{Buffers, held, over, BufferRoom}
 use Rattle.stages.specs.Stage.{stateOf}
 use Rattle.commands.specs.Command.{commandIs, kindOfCommand}
 use Rattle.command_to_answer.specs.Makes.{bodyWorld}
@@ -68,7 +68,7 @@ pub record AnswersLoad (g : declared.Grid) (body : List ℕ) (cells amounts : �
 pub record TakeNeed (g : declared.Grid) (c : Command) (body : List ℕ) (b : Buffers) : Type 0 where
   pub taken : program.gridRefusal (gridOf g) ≡ 0
   pub whole : program.bodyLength (gridOf g) (kindOfCommand c) ≤ length body
-  pub room : Room b
+  pub room : BufferRoom b
 
 -- a load's record, in any state
 abbrev pub TakesLoad : declared.Grid → ℕ → List ℕ → code.Outcome → Buffers → Buffers → Type 0
@@ -85,7 +85,7 @@ TakesCall g byte c body o before left =
 pub record CarryNeed (g : declared.Grid) (c : Command) (body : List ℕ) (b : Buffers) : Type 0 where
   pub taken : (kindOfCommand c ≡ program.gridKind → ⊥) → program.gridRefusal (gridOf g) ≡ 0
   pub whole : program.bodyLength (gridOf g) (kindOfCommand c) ≤ length body
-  pub room : Room b
+  pub room : BufferRoom b
 
 -- the state has the buffers' world loaded where the command is a call
 abbrev pub Ready : declared.Grid → Command → List ℕ → Buffers → program.State → Type 0

@@ -14,7 +14,7 @@ use Rattle.model.specs.Laws.Basic.{at-tab, sum-tab, sum-columns, term-le-sum}
 use Rattle.model.specs.Scheme.{mismatch}
 use Rattle.model.specs.Laws.Column.{Edges}
 use Rattle.column.specs.Column.{firsts, IsNewAir, Served}
-use Rattle.column.specs.Gas.{GasNeed, IsRemapped}
+use Rattle.column.specs.Gas.{ColumnGasNeed, IsRemapped}
 use Rattle.remap.specs.Columns.{ColumnNeed, columnOf, columnSet}
 use Rattle.remap.specs.Served.{ReadNeed, IsColumn, ColumnsNeed, columnSum, read-need, column-spans, column-served, column-edges}
 use Rattle.remap.specs.Upto.{Upto, column-left, upto-more}
@@ -101,7 +101,7 @@ module _
         term-le-sum cells (λ c. sum k (λ i. at gas (i * cells + c))) c h in
         omega (arith, own, whole, term, need .total)
 
-    pub gas-need : {q new : List ℕ} → k ≤ length old → k ≤ length q → k ≤ length new → GasNeed k a old q e new
+    pub gas-need : {q new : List ℕ} → k ≤ length old → k ≤ length q → k ≤ length new → ColumnGasNeed k a old q e new
     gas-need roomGas roomRatios room =
         record {
           spans = column-spans (need .moves .columns .fit) (need .moves .columns .some) is (need .moves .edges c h);

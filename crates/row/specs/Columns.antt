@@ -11,13 +11,13 @@ use Rattle.substep.specs.Cells.{Cell, Moves, cellAllowed}
 use Rattle.substep.specs.Pieces.{Neighbours}
 
 -- lists that have what passes each of w faces
-pub record Room (w : ℕ) (up down : List ℕ) : Type 0 where
+pub record FaceRoom (w : ℕ) (up down : List ℕ) : Type 0 where
   pub high : w ≤ length up
   pub low : w ≤ length down
 
 -- a row whose amounts can be passed on
 pub record Passing (amounts up down : List ℕ) : Type 0 where
-  pub room : Room (length amounts) up down
+  pub room : FaceRoom (length amounts) up down
   pub moves : Moves (ring (length amounts)) (flowOf up down) amounts
 
 -- the model's test of a substep is the test of every column

@@ -4,13 +4,15 @@ ghost use Prim.Native.Nat.{_<_};
 ghost use lib.ListN.{length};
 ghost use Rattle.model.specs.Sweep.{ring, eastOf, westOf, allowed, afterFlow, serves};
 ghost use Rattle.substep.specs.Faces.{flowOf};
-ghost use Rattle.row.specs.Columns.{Room, Passing};
+ghost use Rattle.row.specs.Columns.{FaceRoom, Passing};
 ghost use Rattle.row.specs.Substeps.{rowMesh, RowNeed, IsFound};
 use substep::amount_after;
 use substep::both;
 use substep::cell_allows;
 use substep::fill_parts;
 use units::Air;
+use units::MOST_COLUMNS;
+use units::MOST_SUBSTEPS;
 
 // The columns east and west of column i in a row of w.
 pub fn east_of(w: usize, i: usize) -> usize
@@ -41,7 +43,7 @@ pub fn copy(from: &[u32], to: &mut [u32])
 
 // Whether the substep is allowed in every column.
 fn row_allowed(air: &[u32], up: &[u32], down: &[u32]) -> bool
-    requires { ⌜ Room (length (now air)) (now up) (now down) ⌝ }
+    requires { ⌜ FaceRoom (length (now air)) (now up) (now down) ⌝ }
     ensures { λ r. ⌜ r ≡ allowed (ring (length (now (air .entry)))) (flowOf (now (up .entry)) (now (down .entry))) (now (air .entry)) ⌝ }
 {
     let w = air.len();
@@ -75,8 +77,8 @@ fn serves(air: &mut [u32], fluxes: &[i32], n: u32) -> bool
     requires { ⌜ RowNeed (now air) (now fluxes) ⌝ }
     ensures { λ r. ⌜ r ≡ serves (rowMesh (now (fluxes .entry))) (now (fluxes .entry)) (now (air .entry)) n ⌝ }
 {
-    let mut up = [0u32; 72];
-    let mut down = [0u32; 72];
+    let mut up = [0u32; MOST_COLUMNS];
+    let mut down = [0u32; MOST_COLUMNS];
     let mut s = 0;
     while s < n {
         fill_parts(fluxes, n, s + 1, &mut up, &mut down);
@@ -95,7 +97,7 @@ fn copy_serves(air: &[u32], fluxes: &[i32], n: u32) -> bool
     ensures { λ r. ⌜ r ≡ serves (rowMesh (now (fluxes .entry))) (now (fluxes .entry)) (now (air .entry)) n ⌝ }
 {
     let w = air.len();
-    let mut room = [0u32; 72];
+    let mut room = [0u32; MOST_COLUMNS];
     let row = &mut room[0..w];
     copy(air, row);
     serves(row, fluxes, n)
@@ -107,7 +109,7 @@ pub fn count(air: &[u32], fluxes: &[i32]) -> u32
     ensures { λ r. ⌜ IsFound (now (air .entry)) (now (fluxes .entry)) r ⌝ }
 {
     let mut n = 1;
-    while n <= 16 {
+    while n <= MOST_SUBSTEPS {
         if copy_serves(air, fluxes, n) {
             return n;
         }

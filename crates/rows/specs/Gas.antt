@@ -22,22 +22,22 @@ use Rattle.substep.specs.Faces.{flowOf, Same, stepped}
 use Rattle.substep.specs.Pieces.{GasNeed, HasAir, AreRatios, Neighbours, PieceNeed, mismatchIn}
 use Rattle.substep.specs.Pieces.{has-air, high-need, high-is, low-need, low-is, gas-moves, gas-after}
 use Rattle.substep.specs.Lent.{front-lent, front-back, length-front}
-use Rattle.row.specs.Columns.{Room, Passing, column-neighbours, back-west}
+use Rattle.row.specs.Columns.{FaceRoom, Passing, column-neighbours, back-west}
 
 -- ---- one tracer, in a row of as many columns as its air has entries
 -- a substep of at most 72 columns
 pub record StepNeed (gas air up down : List ℕ) : Type 0 where
   pub wide : length air ≤ 72
-  pub room : Room (length air) up down
+  pub room : FaceRoom (length air) up down
   pub need : GasNeed (ring (length air)) (flowOf up down) air gas
 
 -- with the ratios, and room for the pieces
 pub record PiecesNeed (air gas q up down high low : List ℕ) : Type 0 where
   pub need : GasNeed (ring (length air)) (flowOf up down) air gas
-  pub room : Room (length air) up down
+  pub room : FaceRoom (length air) up down
   pub ratios : AreRatios (length air) air gas q
   pub fit : length air ≤ length q
-  pub pieceRoom : Room (length air) high low
+  pub pieceRoom : FaceRoom (length air) high low
 
 -- two lists hold the piece through each face
 abbrev pub ArePieces : List ℕ → List ℕ → Flow → Flow → Type 0
@@ -72,7 +72,7 @@ module _ {gas air up down : List ℕ} (need : StepNeed gas air up down) where
     unfolding ring
     same = are
 
-    pub pieces-pass : Room (length air) high low → Passing gas high low
+    pub pieces-pass : FaceRoom (length air) high low → Passing gas high low
     pieces-pass room = record { room = rw gas-long room; moves = rw gas-long (gas-moves (ring-regular _) (need .need) same) }
 
     pub pieces-passed : afterFlow (ring (length gas)) (flowOf high low) gas ≡ rowStepped gas air up down
@@ -136,7 +136,7 @@ pub record StepsNeed (n : ℕ) (rows : List (List ℕ)) (air up down : List ℕ)
   pub few : n ≤ 8
   pub wideRows : Wide n rows
   pub wide : length air ≤ 72
-  pub room : Room (length air) up down
+  pub room : FaceRoom (length air) up down
   pub airIn : AirIn (length air) air
   pub permits : allowed (ring (length air)) (flowOf up down) air ≡ true
   pub total : (t : ℕ) → t < n → sum (length air) (at (rowOf (length air) rows t)) ≤ totalLimit

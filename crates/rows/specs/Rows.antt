@@ -7,6 +7,7 @@ use native.Mathlib.Omega.{arith}
 use borrow.Rule.Slice.PartMut.{putMid}
 use lib.ListN.{length, length-append, length-drop, getD, set, drop, take-append-drop, drop-of-length-le}
 use lib.Seq.{drop-drop}
+use Rattle.model.specs.Limits.{mostCells, mostTracers, mostAmounts}
 use Rattle.model.specs.Basic.{part, written, joined, tabFrom, tab}
 use Rattle.model.specs.Laws.Basic.{length-part, length-tab, getD-tab, length-written, length-joined}
 use Rattle.model.specs.Laws.Entries.{entries-more, joined-more, written-middle}
@@ -17,7 +18,7 @@ use Rattle.rows.specs.Gas.{rowOf, Wide, length-row}
 pub record RowsFit (tracers : List ℕ) (first cells w n : ℕ) : Type 0 where
   pub fewColumns : w ≤ 72
   pub rowInside : first + w ≤ cells
-  pub fewCells : cells ≤ 101440
+  pub fewCells : cells ≤ mostCells
   pub fewTracers : n ≤ 8
   pub long : length tracers ≡ n * cells
 
@@ -38,10 +39,10 @@ pub record StoreNeed (tracers : List ℕ) (first cells w n : ℕ) (rows : List (
 -- where tracer t's row lies
 pub row-room :
     {tracers : List ℕ} {first cells w n : ℕ} → RowsFit tracers first cells w n → (t : ℕ) → t < n →
-    (t * cells + first + w ≤ length tracers) × (t * cells + first + w ≤ 811520)
+    (t * cells + first + w ≤ length tracers) × (t * cells + first + w ≤ mostAmounts)
 row-room {tracers} {first} {cells} {w} {n} fit t h =
     let below : suc t * cells ≤ n * cells = mul-le-mul-right cells h in
-    let most : n * cells ≤ 8 * 101440 = mul-le-mul (fit .fewTracers) (fit .fewCells) in
+    let most : n * cells ≤ mostTracers * mostCells = mul-le-mul (fit .fewTracers) (fit .fewCells) in
     let long : length tracers ≡ n * cells = fit .long in
     let inside : first + w ≤ cells = fit .rowInside in
     (omega arith, omega arith)

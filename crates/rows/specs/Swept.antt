@@ -16,7 +16,7 @@ use Rattle.model.specs.Scheme.{mismatch}
 use Rattle.model.specs.Laws.Chain.{air-after-in}
 use Rattle.substep.specs.Faces.{flowOf, Same, AreParts, stepped, same-stepped}
 use Rattle.substep.specs.Cells.{air-moves}
-use Rattle.row.specs.Columns.{Room, Passing}
+use Rattle.row.specs.Columns.{FaceRoom, Passing}
 use Rattle.row.specs.Substeps.{rowMesh, RowNeed, chain, chain-start, may-here, after-here, serves-step}
 use Rattle.rows.specs.Gas.{rowOf, Wide, rowStepped, StepsNeed, AreSteps, step-need, total-stepped}
 
@@ -41,7 +41,7 @@ pub record AreSwept (rows : List (List ℕ)) (air : List ℕ) (fluxes : List ℤ
   pub each : (t : ℕ) → t < tracers → rowOf (length fluxes) r t ≡ gasChain rows air fluxes n n t
 
 -- the loop over the substeps: the air and every tracer after s of them
-pub record After (rows : List (List ℕ)) (air : List ℕ) (fluxes : List ℤ) (n tracers s : ℕ) (nowAir : List ℕ) (now : List (List ℕ)) : Type 0 where
+pub record SweptSoFar (rows : List (List ℕ)) (air : List ℕ) (fluxes : List ℤ) (n tracers s : ℕ) (nowAir : List ℕ) (now : List (List ℕ)) : Type 0 where
   pub long : length nowAir ≡ length fluxes
   pub airIs : nowAir ≡ chain fluxes n air s
   pub wideRows : Wide tracers now
@@ -49,7 +49,7 @@ pub record After (rows : List (List ℕ)) (air : List ℕ) (fluxes : List ℤ) (
   pub total : (t : ℕ) → t < tracers → sum (length fluxes) (at (rowOf (length fluxes) now t)) ≤ totalLimit
 
 module _ {rows : List (List ℕ)} {air : List ℕ} {fluxes : List ℤ} {n tracers : ℕ} (need : SweepNeed rows air fluxes n tracers) where
-  pub after-none : After rows air fluxes n tracers 0 air rows
+  pub after-none : SweptSoFar rows air fluxes n tracers 0 air rows
   unfolding gasAfter
   after-none =
       record {
@@ -61,8 +61,8 @@ module _ {rows : List (List ℕ)} {air : List ℕ} {fluxes : List ℤ} {n tracer
       }
 
   -- substep s + 1, of which up and down have the parts
-  module _ {s : ℕ} {nowAir : List ℕ} {now : List (List ℕ)} (reached : After rows air fluxes n tracers s nowAir now) (inside : s < n)
-      {up down : List ℕ} (are : AreParts fluxes n (s + 1) up down) (room : Room (length fluxes) up down) where
+  module _ {s : ℕ} {nowAir : List ℕ} {now : List (List ℕ)} (reached : SweptSoFar rows air fluxes n tracers s nowAir now) (inside : s < n)
+      {up down : List ℕ} (are : AreParts fluxes n (s + 1) up down) (room : FaceRoom (length fluxes) up down) where
     step-allowed : allowed (ring (length nowAir)) (flowOf up down) nowAir ≡ true
     step-allowed =
         may-here fluxes n air s up down nowAir are (reached .airIs) (reached .long) ∙
@@ -109,7 +109,7 @@ module _ {rows : List (List ℕ)} {air : List ℕ} {fluxes : List ℤ} {n tracer
           ap (λ (w : ℕ). rowOf w next t) (sym (reached .long)) ∙ steps .each t h ∙
           ap (λ (w : ℕ). rowStepped (rowOf w now t) nowAir up down) (reached .long)
 
-      pub after-more : After rows air fluxes n tracers (s + 1) nextAir next
+      pub after-more : SweptSoFar rows air fluxes n tracers (s + 1) nextAir next
       unfolding ring
       after-more =
           record {
@@ -132,7 +132,7 @@ module _ {rows : List (List ℕ)} {air : List ℕ} {fluxes : List ℤ} {n tracer
 
   -- all n
   pub after-all :
-      {s : ℕ} {nowAir : List ℕ} {now : List (List ℕ)} → After rows air fluxes n tracers s nowAir now → s ≡ n →
+      {s : ℕ} {nowAir : List ℕ} {now : List (List ℕ)} → SweptSoFar rows air fluxes n tracers s nowAir now → s ≡ n →
       AreSwept rows air fluxes n tracers nowAir now
   after-all reached e =
       record {

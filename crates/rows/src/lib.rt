@@ -14,6 +14,8 @@ use substep::fill_ratios;
 use substep::high_end;
 use substep::low_end;
 use units::Air;
+use units::MOST_COLUMNS;
+use units::MOST_TRACERS;
 
 // The pieces through each face i: from column i's high end, and from the low end of the column east of it.
 fn fill_pieces(
@@ -49,9 +51,9 @@ fn step_gas(gas: &mut [u32], air: &[u32], up: &[u32], down: &[u32])
     requires { ⌜ StepNeed (now gas) (now air) (now up) (now down) ⌝ }
     ensures { λ r. ⌜ now (gas .exit) ≡ rowStepped (now (gas .entry)) (now (air .entry)) (now (up .entry)) (now (down .entry)) ⌝ }
 {
-    let mut q = [0u64; 72];
-    let mut high = [0u32; 72];
-    let mut low = [0u32; 72];
+    let mut q = [0u64; MOST_COLUMNS];
+    let mut high = [0u32; MOST_COLUMNS];
+    let mut low = [0u32; MOST_COLUMNS];
     fill_ratios(air, &gas[..], air.len(), &mut q);
     fill_pieces(air, &gas[..], &q, up, down, &mut high, &mut low);
     pass_row(gas, &high, &low);
@@ -59,12 +61,12 @@ fn step_gas(gas: &mut [u32], air: &[u32], up: &[u32], down: &[u32])
 
 // The rows of the first `tracers` tracers after one substep.
 fn step_rows(
-    mut rows: [[u32; 72]; 8],
+    mut rows: [[u32; MOST_COLUMNS]; MOST_TRACERS],
     air: &[u32],
     up: &[u32],
     down: &[u32],
     tracers: usize,
-) -> [[u32; 72]; 8]
+) -> [[u32; MOST_COLUMNS]; MOST_TRACERS]
     requires { ⌜ StepsNeed tracers rows (now air) (now up) (now down) ⌝ }
     ensures { λ r. ⌜ AreSteps tracers rows (now (air .entry)) (now (up .entry)) (now (down .entry)) r ⌝ }
 {
@@ -80,17 +82,23 @@ fn step_rows(
 }
 
 // The row of each of the first n tracers, from its part of the lent amounts: tracer t's starts at `first` past t·K·C.
-pub fn load_rows(tracers: &[u32], first: usize, cells: usize, w: usize, n: usize) -> [[u32; 72]; 8]
+pub fn load_rows(
+    tracers: &[u32],
+    first: usize,
+    cells: usize,
+    w: usize,
+    n: usize,
+) -> [[u32; MOST_COLUMNS]; MOST_TRACERS]
     requires { ⌜ RowsFit (now tracers) first cells w n ⌝ }
     ensures { λ r. ⌜ AreRows (now (tracers .entry)) first cells w n r ⌝ }
 {
-    let none = [0u32; 72];
-    let mut rows = [none; 8];
+    let none = [0u32; MOST_COLUMNS];
+    let mut rows = [none; MOST_TRACERS];
     let mut t = 0;
     while t < n {
         let a = t * cells + first;
         let e = a + w;
-        let mut row = [0u32; 72];
+        let mut row = [0u32; MOST_COLUMNS];
         copy(&tracers[a..e], &mut row[0..w]);
         rows[t] = row;
         t += 1;
@@ -100,7 +108,7 @@ pub fn load_rows(tracers: &[u32], first: usize, cells: usize, w: usize, n: usize
 
 // Writes the row of each of the first n tracers back to its part.
 pub fn store_rows(
-    rows: [[u32; 72]; 8],
+    rows: [[u32; MOST_COLUMNS]; MOST_TRACERS],
     tracers: &mut [u32],
     first: usize,
     cells: usize,
@@ -122,18 +130,18 @@ pub fn store_rows(
 
 // The rows of the first `tracers` tracers after n substeps; these are made in the row's lent air too.
 pub fn sweep_rows(
-    rows: [[u32; 72]; 8],
+    rows: [[u32; MOST_COLUMNS]; MOST_TRACERS],
     air: &mut [u32],
     fluxes: &[i32],
     n: u32,
     tracers: usize,
-) -> [[u32; 72]; 8]
+) -> [[u32; MOST_COLUMNS]; MOST_TRACERS]
     requires { ⌜ SweepNeed rows (now air) (now fluxes) n tracers ⌝ }
     ensures { λ r. ⌜ AreSwept rows (now (air .entry)) (now (fluxes .entry)) n tracers (now (air .exit)) r ⌝ }
 {
     let mut current = rows;
-    let mut up = [0u32; 72];
-    let mut down = [0u32; 72];
+    let mut up = [0u32; MOST_COLUMNS];
+    let mut down = [0u32; MOST_COLUMNS];
     let mut s = 0;
     while s < n {
         fill_parts(fluxes, n, s + 1, &mut up, &mut down);

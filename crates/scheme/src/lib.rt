@@ -5,10 +5,8 @@ ghost use Rattle.scheme.specs.Leaves.{mismatchOf, IsMismatch, Giver, IsP
 ghost use Rattle.model.specs.Scheme as model;
 use units::Air;
 use units::Mismatch;
+use units::SCALE;
 use units::Tracer;
-
-// The scale of ratio, mismatch and piece.
-const SCALE: u64 = 65536;
 
 const TWICE_SCALE: u64 = 2 * SCALE;
 

@@ -37,6 +37,6 @@ abbrev pub over : Buffers → model.World → Buffers
 over b w = buffers (written (b .air) 0 (w .air)) (written (b .tracers) 0 (w .tracers))
 
 -- room for every world that the program takes
-pub record Room (b : Buffers) : Type 0 where
+pub record BufferRoom (b : Buffers) : Type 0 where
   pub air : programCells ≤ length (b .air)
   pub tracers : programAmounts ≤ length (b .tracers)

@@ -24,7 +24,7 @@ pub record Cell (mesh : Mesh) (flow : Flow) (c e l : ℕ) : Type 0 where
   pub leaves : l ≡ leaving mesh flow c
 
 -- it gives no more than it has, and what it then has fits 32 bits
-pub record Exchange (have enters leaves : ℕ) : Type 0 where
+pub record CellFlows (have enters leaves : ℕ) : Type 0 where
   pub gives : leaves ≤ have
   pub has : have + enters ≤ 4294967295 + leaves
 
@@ -63,7 +63,7 @@ module _ {mesh : Mesh} {flow : Flow} {c e l : ℕ} (cell : Cell mesh flow c e l)
   pub cell-allows : mayPass (at amounts c) e l ≡ cellAllowed mesh flow amounts c
   cell-allows = ap₂ (λ (x y : ℕ). leb x (at amounts c) && airFits y) (cell .leaves) cell-after
 
-  cell-exchange : Covers mesh flow amounts → at (afterFlow mesh flow amounts) c ≤ 4294967295 → Exchange (at amounts c) e l
+  cell-exchange : Covers mesh flow amounts → at (afterFlow mesh flow amounts) c ≤ 4294967295 → CellFlows (at amounts c) e l
   cell-exchange covers fits =
       record {
         gives = rw (cell .leaves) (covers c (cell .inside));
@@ -98,7 +98,7 @@ module _ {mesh : Mesh} {flow : Flow} {before : List ℕ} (moves : Moves mesh flo
   moved-none = record { long = refl; done = λ k h. absurd (omega arith); left = λ k h. refl }
 
   module _ {l : List ℕ} {c e o : ℕ} (moved : Moved mesh flow before l c) (cell : Cell mesh flow c e o) where
-    pub moved-exchange : Exchange (at l c) e o
+    pub moved-exchange : CellFlows (at l c) e o
     moved-exchange =
         rw (moved .left c (omega arith)) (cell-exchange cell before (moves .covers) (moves .after c (cell .inside)))
 

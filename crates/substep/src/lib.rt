@@ -6,7 +6,7 @@ ghost use lib.ListN.{length};
 ghost use Rattle.model.specs.Basic.{at};
 ghost use Rattle.model.specs.Scheme.{highPiece, lowPiece};
 ghost use Rattle.substep.specs.Faces.{PartsNeed, AreParts};
-ghost use Rattle.substep.specs.Cells.{Exchange, Sums, mayPass};
+ghost use Rattle.substep.specs.Cells.{CellFlows, Sums, mayPass};
 ghost use Rattle.substep.specs.Pieces.{HasAir, AreRatios, PieceNeed, mismatchIn};
 use scheme::flux_part;
 use scheme::high_piece;
@@ -14,6 +14,7 @@ use scheme::low_piece;
 use scheme::mismatch;
 use scheme::ratio;
 use scheme::split;
+use units::AIR_LIMIT;
 use units::Air;
 use units::Tracer;
 
@@ -88,12 +89,12 @@ pub fn cell_allows(have: Air, enters: u64, leaves: u64) -> bool
 {
     let m = have.0 as u64;
     let all = m + enters;
-    (leaves <= m) & ((leaves + 1 <= all) & (all <= leaves + 65535))
+    (leaves <= m) & ((leaves + 1 <= all) & (all <= leaves + AIR_LIMIT))
 }
 
 // A cell's amount, of air or of a tracer, with what enters it and without what leaves it.
 pub fn amount_after(have: u32, enters: u64, leaves: u64) -> u32
-    requires { ⌜ Exchange have enters leaves ⌝ }
+    requires { ⌜ CellFlows have enters leaves ⌝ }
     ensures { λ r. ⌜ r ≡ have + enters - leaves ⌝ }
 {
     ((have as u64) + enters - leaves) as u32

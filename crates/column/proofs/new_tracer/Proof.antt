@@ -9,7 +9,7 @@ use Rattle.model.specs.Basic.{at, sum}
 use Rattle.model.specs.Laws.Basic.{sum-none, sum-more}
 use Rattle.model.specs.Laws.Entries.{entries-more}
 use Rattle.column.specs.Walk as walk
-use Rattle.column.specs.Walk.{Place, place-start, pass-layer, pass-edge, next-fits}
+use Rattle.column.specs.Walk.{WalkPlace, place-start, pass-layer, pass-edge, next-fits}
 use Rattle.column.specs.Walk.{above-none, above-rises, next-above, gas-fits, walk-giver, remapped-is}
 use Rattle.units.specs.The.{the}
 use borrow.Author.Needs.{needs}
@@ -18,7 +18,7 @@ use Rattle.column.proofs.new_tracer.Tie as tie
 
 abbrev Inv-loop : tie.InvT-loop
 Inv-loop air gas q cap e k new₀ i₀ j₀ above₀ whole₀ last₀ new i j above whole last =
-    Place k air e i j above
+    WalkPlace k air e i j above
     × (whole .0 ≡ sum i (at gas))
     × (last .0 ≡ walk.above cap k air gas q (at e j))
     × (length new ≡ length new₀)

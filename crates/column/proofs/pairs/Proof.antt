@@ -4,7 +4,7 @@
 use Prim.Native.Nat.{_+_, _-_, _≤_}
 use mathlib.Core.Path.{_≡_, sym}
 use native.Mathlib.Omega.{arith}
-use Rattle.column.specs.Walk.{Place, place-start, pass-layer, pass-edge, next-fits}
+use Rattle.column.specs.Walk.{WalkPlace, place-start, pass-layer, pass-edge, next-fits}
 use Rattle.column.specs.Pairs.{countTo, pairs-start, pairs-more, pairs-edge, pairs-all}
 use Rattle.units.specs.The.{the}
 use borrow.Author.Needs.{needs}
@@ -13,7 +13,7 @@ use Rattle.column.proofs.pairs.Tie as tie
 
 abbrev Inv-loop : tie.InvT-loop
 Inv-loop air e k count₀ i₀ j₀ above₀ count i j above =
-    Place k air e i j above × (count ≡ countTo k air e j i) × (count ≤ i + j)
+    WalkPlace k air e i j above × (count ≡ countTo k air e j i) × (count ≤ i + j)
 
 abbrev μ-loop : tie.MeasureT-loop
 μ-loop air e k count₀ i₀ j₀ above₀ count i j above = (k - i) + (k - j)

@@ -13,7 +13,7 @@ use Rattle.model.specs.Basic.{sum, tab, tabFrom}
 use Rattle.model.specs.Scheme.{opposite, lowPiece}
 use Rattle.model.specs.Remap.{ColumnLayer, amountAbove}
 use Rattle.model.specs.Laws.Basic.{le-or-lt, sum-ext, sum-first, sum-fewer, sum-zero, sum-le, sum-times}
-use Rattle.model.specs.Laws.Fractions.{CellRoom, lost, Leaves, leaves-same, leaves-join, leaves-near, Near, two-floors, middle-leaves, low-leaves, high-leaves, all-leaves}
+use Rattle.model.specs.Laws.Fractions.{CellRoom, lost, LeavesInRange, leaves-same, leaves-join, leaves-near, Near, two-floors, middle-leaves, low-leaves, high-leaves, all-leaves}
 use Rattle.model.specs.Laws.Scheme.{Safe, piece-none, piece-whole, piece-rises, piece-constant}
 
 -- the tracer in the m units of air from the low end of a layer
@@ -147,25 +147,25 @@ module _ (f : ℕ → ColumnLayer) where
     module _ (safe : (k : ℕ) → k < n → Safe (f k .slope) (f k .air) (f k .tracer)) (b : Bool) (H L : ℕ) where
       -- the parts of layer k: between two of its points, up to a point, from a point on, all
       module _ (k : ℕ) (h : k < n) (leans : Leans b H L (f k)) where
-        middle : (x y : ℕ) → x ≤ y → y ≤ f k .air → Leaves b H L (y - x) (layerPiece (f k) y) (layerPiece (f k) x) (lost b + lost (not b))
+        middle : (x y : ℕ) → x ≤ y → y ≤ f k .air → LeavesInRange b H L (y - x) (layerPiece (f k) y) (layerPiece (f k) x) (lost b + lost (not b))
         middle = middle-leaves b H L _ _ (has k h) (f k .slope) (safe k h) leans
 
-        up-to : (y : ℕ) → y ≤ f k .air → Leaves b H L (y - 0) (layerPiece (f k) y) 0 (lost b + 0)
+        up-to : (y : ℕ) → y ≤ f k .air → LeavesInRange b H L (y - 0) (layerPiece (f k) y) 0 (lost b + 0)
         up-to = low-leaves b H L _ _ (has k h) (f k .slope) (safe k h) leans
 
-        from : (x : ℕ) → x ≤ f k .air → Leaves b H L (f k .air - x) (f k .tracer) (layerPiece (f k) x) (0 + lost (not b))
+        from : (x : ℕ) → x ≤ f k .air → LeavesInRange b H L (f k .air - x) (f k .tracer) (layerPiece (f k) x) (0 + lost (not b))
         from = high-leaves b H L _ _ (has k h) (f k .slope) (safe k h) leans
 
-        all : Leaves b H L (f k .air - 0) (f k .tracer) 0 (0 + 0)
+        all : LeavesInRange b H L (f k .air - 0) (f k .tracer) 0 (0 + 0)
         all = all-leaves b H L _ _ (has k h) (f k .slope) (safe k h) leans
 
-      none : (m : ℕ) → Leaves b H L 0 m m 0
+      none : (m : ℕ) → LeavesInRange b H L 0 m m 0
       none m = leaves-same b H L 0 m 0 refl
 
       -- from x to the high end of m layers
       rest-leaves :
           (m x : ℕ) → m ≤ n → x < airOf m → ((k : ℕ) → k < m → x < airOf (suc k) → Leans b H L (f k)) →
-          Leaves b H L (airOf m - x) (tracerOf m) (sum m (λ k. layerPart k x)) (lost (not b))
+          LeavesInRange b H L (airOf m - x) (tracerOf m) (sum m (λ k. layerPart k x)) (lost (not b))
       unfolding sum
       rest-leaves zero x h lt leans = absurd (omega arith)
       rest-leaves (suc m) x h lt leans =
@@ -183,7 +183,7 @@ module _ (f : ℕ → ColumnLayer) where
       between-leaves :
           (m x y : ℕ) → m ≤ n → x < y → y ≤ airOf m →
           ((k : ℕ) → k < m → max (airOf k) x < min (airOf (suc k)) y → Leans b H L (f k)) →
-          Leaves b H L (y - x) (sum m (λ k. layerPart k y)) (sum m (λ k. layerPart k x)) 1
+          LeavesInRange b H L (y - x) (sum m (λ k. layerPart k y)) (sum m (λ k. layerPart k x)) 1
       unfolding sum
       between-leaves zero x y h lt le leans = absurd (omega arith)
       between-leaves (suc m) x y h lt le leans =

@@ -21,7 +21,7 @@ use Rattle.model.specs.Laws.Step.{Fits, Reached, passed, found}
 use Rattle.model.specs.Laws.Keeps.{Kept, names-present, named-alike, named-total-alike, absent-alike, none-alike, last-alike, MeaningKeeps, reads-keep}
 
 -- what a passed last place tells: the new amount is the old one with what comes in and without what goes out, and the total stays within its limit
-record Room (w : World) (t c : ℕ) (new : ℕ → ℕ) (x : Exchange) : Type 0 where
+record ChangeFits (w : World) (t c : ℕ) (new : ℕ → ℕ) (x : Exchange) : Type 0 where
   balance : amountAt w t c + x .emitted ≡ new (amountAt w t c) + x .withdrawn
   most : gasTotal w t ≤ totalLimit → gasTotal w t + x .emitted ≤ totalLimit + x .withdrawn
 
@@ -139,7 +139,7 @@ cell-keeps t c =
 changes-keep :
     (t c : ℕ) (last : Place) (new : ℕ → ℕ) (x : Exchange) →
     ((own : ℕ → Bool) (w v : World) → Alike own w v → gas w t ≡ gas v t → gasTotal w t ≡ gasTotal v t → last .applies w ≡ last .applies v) →
-    ((w : World) → firstOf (last ∷ []) w ≡ 0 → Room w t c new x) → MeaningKeeps (changes t c last new x)
+    ((w : World) → firstOf (last ∷ []) w ≡ 0 → ChangeFits w t c new x) → MeaningKeeps (changes t c last new x)
 changes-keep t c last new x reading room =
     record {
       sameGrid = λ w. refl;

@@ -94,13 +94,13 @@ ratio-inside false H L M T hM i =
     le-of-mul-le-mul-right (omega (arith, mul-le-mul-right L (floor-within false (scale * T) M hM), mul-le-mul-right scale i)) hM
 
 -- ---- room: x may move by g and is then past y by at most s
-abbrev pub Room : Bool → ℕ → ℕ → ℕ → ℕ → Type 0
-Room true x g y s = x + g ≤ y + s
-Room false x g y s = y + g ≤ x + s
+abbrev pub RatioRoom : Bool → ℕ → ℕ → ℕ → ℕ → Type 0
+RatioRoom true x g y s = x + g ≤ y + s
+RatioRoom false x g y s = y + g ≤ x + s
 
 -- a cell may lean by d: its end is past H/L by at most 1/scale
 abbrev pub CellRoom : Bool → ℕ → ℕ → ℕ → ℕ → ℕ → Type 0
-CellRoom b H L M T d = Room b (2 * scale * T * L) (d * L * M) (2 * scale * H * M) (2 * L * M)
+CellRoom b H L M T d = RatioRoom b (2 * scale * T * L) (d * L * M) (2 * scale * H * M) (2 * L * M)
 
 -- g takes q to r
 abbrev Apart : Bool → ℕ → ℕ → ℕ → Type 0
@@ -159,7 +159,7 @@ numerator-tilted D L M T m k safe e =
 -- a part of m units at an end
 end-within :
     (b s : Bool) (L M τ m k d n u v : ℕ) → m + k ≡ M → Tilted s n (m * τ) (d * L * m * k) →
-    Room b τ (leaning b s d * L * M) u v → Within b n (m * u) (m * v)
+    RatioRoom b τ (leaning b s d * L * M) u v → Within b n (m * u) (m * v)
 end-within true true L M τ m k d n u v e e₁ h =
     omega (arith, ap (λ (x : ℕ). x * (d * L * m)) e, mul-le-mul-right m h)
 end-within true false L M τ m k d n u v e e₁ h =
@@ -172,7 +172,7 @@ end-within false false L M τ m k d n u v e e₁ h =
 -- the part of r units that m₁ units at the low end and m₂ at the high end leave
 middle-within :
     (b s : Bool) (M τ m₁ m₂ r δ n₁ n₂ u v : ℕ) → m₁ + m₂ + r ≡ M → Tilted (not s) n₁ (m₁ * τ) (δ * m₁ * (m₂ + r)) →
-    Tilted s n₂ (m₂ * τ) (δ * m₂ * (m₁ + r)) → Room b τ (δ * M) u v → Within b (M * τ) (r * u + (n₁ + n₂)) (r * v)
+    Tilted s n₂ (m₂ * τ) (δ * m₂ * (m₁ + r)) → RatioRoom b τ (δ * M) u v → Within b (M * τ) (r * u + (n₁ + n₂)) (r * v)
 middle-within true true M τ m₁ m₂ r δ n₁ n₂ u v e e₁ e₂ h =
     omega (arith, ap (λ (x : ℕ). x * τ) e, ap (λ (x : ℕ). x * (δ * r)) e, mul-le-mul-right r h)
 middle-within true false M τ m₁ m₂ r δ n₁ n₂ u v e e₁ e₂ h =
@@ -202,8 +202,8 @@ near-sum b H L j (suc n) m p h =
     (near-add b H L (sum n m) (sum n p) (n * j) (m n) (p n) j (near-sum b H L j n m p (λ i q. h i (omega arith))) (h n (omega arith)))
 
 -- the same of T - p units in r units of air: what p units leave of T
-abbrev pub Leaves : Bool → ℕ → ℕ → ℕ → ℕ → ℕ → ℕ → Type 0
-Leaves b H L r T p j = Within b (T * (scale * L)) (r * (scale * H) + p * (scale * L)) (r * L + j * (scale * L))
+abbrev pub LeavesInRange : Bool → ℕ → ℕ → ℕ → ℕ → ℕ → ℕ → Type 0
+LeavesInRange b H L r T p j = Within b (T * (scale * L)) (r * (scale * H) + p * (scale * L)) (r * L + j * (scale * L))
 
 -- p is j floors of the numerator N in all: of a piece, and of what pieces leave
 enter :
@@ -215,7 +215,7 @@ enter false H L M m N p j hM h f = le-of-mul-le-mul-right {k = 2 * M} (omega (ar
 leave :
     (b : Bool) (H L M T r N p j : ℕ) → 0 < M →
     Within b (M * (2 * scale * T * L)) (r * (2 * scale * H * M) + N * L) (r * (2 * L * M)) →
-    Within (not b) (p * (2 * scale * M)) N (j * (2 * scale * M)) → Leaves b H L r T p j
+    Within (not b) (p * (2 * scale * M)) N (j * (2 * scale * M)) → LeavesInRange b H L r T p j
 leave true H L M T r N p j hM h f = le-of-mul-le-mul-right {k = 2 * M} (omega (arith, mul-le-mul-right L f)) (omega arith)
 leave false H L M T r N p j hM h f = le-of-mul-le-mul-right {k = 2 * M} (omega (arith, mul-le-mul-right L f)) (omega arith)
 
@@ -279,7 +279,7 @@ module _ (b : Bool) (H L M T : ℕ) (hM : 0 < M) (inside : Inside b H L M T) whe
   pub ends-leave :
       (D : Mismatch) (M₁ T₁ M₂ T₂ m₁ m₂ r : ℕ) → 0 < M₁ → 0 < M₂ → Inside b H L M₁ T₁ → Inside b H L M₂ T₂ → Safe D M T →
       Towards (opposite D) (ratio M T) (ratio M₁ T₁) → Towards D (ratio M T) (ratio M₂ T₂) → m₁ + m₂ + r ≡ M →
-      Leaves b H L r T (lowPiece D M T m₁ + highPiece D M T m₂) (2 * lost (not b))
+      LeavesInRange b H L r T (lowPiece D M T m₁ + highPiece D M T m₂) (2 * lost (not b))
   ends-leave D M₁ T₁ M₂ T₂ m₁ m₂ r hM₁ hM₂ inside₁ inside₂ safe low high e =
       let N₁ = numerator (opposite D) M T m₁ in
       let N₂ = numerator D M T m₂ in
@@ -295,7 +295,7 @@ module _ (b : Bool) (H L M T : ℕ) (hM : 0 < M) (inside : Inside b H L M T) whe
   -- and after n plain pieces
   pub plains-leave :
       (D : Mismatch) (n r : ℕ) (m : ℕ → ℕ) → D .size ≡ 0 → sum n m + r ≡ M →
-      Leaves b H L r T (sum n (λ i. highPiece D M T (m i))) (n * lost (not b))
+      LeavesInRange b H L r T (sum n (λ i. highPiece D M T (m i))) (n * lost (not b))
   plains-leave D n r m flat e =
       rw (sum-ext n (λ i. highPiece D M T (m i)) (λ i. m i * (2 * scale * T) / (2 * scale * M)) (λ i h. piece-is D M T (m i) ∙ rw (level-numerator D M T (m i) flat)))
       (leave b H L M T r (sum n m * (2 * scale * T)) _ (n * lost (not b)) hM
@@ -304,21 +304,21 @@ module _ (b : Bool) (H L M T : ℕ) (hM : 0 < M) (inside : Inside b H L M T) whe
 
 -- ---- the part of a cell between two of its points: p₂ units of tracer up to the higher one, p₁ up to the lower one
 leaves-add :
-    (b : Bool) (H L r T p j r' T' p' j' : ℕ) → Leaves b H L r T p j → Leaves b H L r' T' p' j' →
-    Leaves b H L (r + r') (T + T') (p + p') (j + j')
+    (b : Bool) (H L r T p j r' T' p' j' : ℕ) → LeavesInRange b H L r T p j → LeavesInRange b H L r' T' p' j' →
+    LeavesInRange b H L (r + r') (T + T') (p + p') (j + j')
 leaves-add true H L r T p j r' T' p' j' h h' = omega arith
 leaves-add false H L r T p j r' T' p' j' h h' = omega arith
 
 pub leaves-join :
-    (b : Bool) (H L r T p j r' T' p' j' : ℕ) {r'' j'' : ℕ} → Leaves b H L r T p j → Leaves b H L r' T' p' j' → r + r' ≡ r'' →
-    j + j' ≡ j'' → Leaves b H L r'' (T + T') (p + p') j''
+    (b : Bool) (H L r T p j r' T' p' j' : ℕ) {r'' j'' : ℕ} → LeavesInRange b H L r T p j → LeavesInRange b H L r' T' p' j' → r + r' ≡ r'' →
+    j + j' ≡ j'' → LeavesInRange b H L r'' (T + T') (p + p') j''
 leaves-join b H L r T p j r' T' p' j' h h' e e₂ = rw (← e, ← e₂) (leaves-add b H L r T p j r' T' p' j' h h')
 
-pub leaves-same : (b : Bool) (H L r p j : ℕ) → r ≡ 0 → Leaves b H L r p p j
+pub leaves-same : (b : Bool) (H L r p j : ℕ) → r ≡ 0 → LeavesInRange b H L r p p j
 leaves-same true H L r p j e = omega arith
 leaves-same false H L r p j e = rw e (omega arith)
 
-pub leaves-near : (b : Bool) (H L r T p j : ℕ) → p ≤ T → Leaves b H L r T p j → Near b H L r (T - p) j
+pub leaves-near : (b : Bool) (H L r T p j : ℕ) → p ≤ T → LeavesInRange b H L r T p j → Near b H L r (T - p) j
 leaves-near true H L r T p j h k = omega (arith, ap (λ (x : ℕ). x * (scale * L)) (sub-add-cancel h))
 leaves-near false H L r T p j h k = omega (arith, ap (λ (x : ℕ). x * (scale * L)) (sub-add-cancel h))
 
@@ -326,7 +326,7 @@ part-leaves :
     (b : Bool) (H L M r N₁ N₂ p₁ p₂ j₁ j₂ : ℕ) → 0 < M →
     Within b (N₂ * L) (r * (2 * scale * H * M) + N₁ * L) (r * (2 * L * M)) →
     Within b (p₂ * (2 * scale * M)) N₂ (j₂ * (2 * scale * M)) →
-    Within (not b) (p₁ * (2 * scale * M)) N₁ (j₁ * (2 * scale * M)) → Leaves b H L r p₂ p₁ (j₂ + j₁)
+    Within (not b) (p₁ * (2 * scale * M)) N₁ (j₁ * (2 * scale * M)) → LeavesInRange b H L r p₂ p₁ (j₂ + j₁)
 part-leaves true H L M r N₁ N₂ p₁ p₂ j₁ j₂ hM h f₂ f₁ =
     le-of-mul-le-mul-right {k = 2 * M} (omega (arith, mul-le-mul-right L f₁, mul-le-mul-right L f₂)) (omega arith)
 part-leaves false H L M r N₁ N₂ p₁ p₂ j₁ j₂ hM h f₂ f₁ =
@@ -371,21 +371,21 @@ module _ (b : Bool) (H L M T : ℕ) (hM : 0 < M) (D : Mismatch) (safe : Safe D M
   whole b = rw (numerator-whole (opposite D) M T safe, zero-mul) (exact-within b _ _ (omega arith))
 
   -- a part in the middle, at the low end, at the high end, and all of it: each point inside the cell costs a floor
-  pub middle-leaves : (x y : ℕ) → x ≤ y → y ≤ M → Leaves b H L (y - x) (lowPiece D M T y) (lowPiece D M T x) (lost b + lost (not b))
+  pub middle-leaves : (x y : ℕ) → x ≤ y → y ≤ M → LeavesInRange b H L (y - x) (lowPiece D M T y) (lowPiece D M T x) (lost b + lost (not b))
   middle-leaves x y h h' = part-leaves b H L M (y - x) _ _ _ _ _ _ hM (part-within x y h h') (floored b y) (floored (not b) x)
 
-  pub low-leaves : (y : ℕ) → y ≤ M → Leaves b H L (y - 0) (lowPiece D M T y) 0 (lost b + 0)
+  pub low-leaves : (y : ℕ) → y ≤ M → LeavesInRange b H L (y - 0) (lowPiece D M T y) 0 (lost b + 0)
   low-leaves y h = part-leaves b H L M (y - 0) _ _ _ _ _ _ hM (part-within 0 y (omega arith) h) (floored b y) (none (not b))
 
-  pub high-leaves : (x : ℕ) → x ≤ M → Leaves b H L (M - x) T (lowPiece D M T x) (0 + lost (not b))
+  pub high-leaves : (x : ℕ) → x ≤ M → LeavesInRange b H L (M - x) T (lowPiece D M T x) (0 + lost (not b))
   high-leaves x h = part-leaves b H L M (M - x) _ _ _ _ _ _ hM (part-within x M h (omega arith)) (whole b) (floored (not b) x)
 
-  pub all-leaves : Leaves b H L (M - 0) T 0 (0 + 0)
+  pub all-leaves : LeavesInRange b H L (M - 0) T 0 (0 + 0)
   all-leaves = part-leaves b H L M (M - 0) _ _ _ _ _ _ hM (part-within 0 M (omega arith) (omega arith)) (whole b) (none (not b))
 
 -- ---- the cell afterwards: p₂ units of tracer left it, r units of air stayed, and m with p units came in; each face cost a unit, of what came in or of what stayed
 pub replaced :
-    (b : Bool) (H L r T m p p₂ f M' T' : ℕ) → Near b H L m p (f * lost b) → Leaves b H L r T p₂ (f * lost (not b)) →
+    (b : Bool) (H L r T m p p₂ f M' T' : ℕ) → Near b H L m p (f * lost b) → LeavesInRange b H L r T p₂ (f * lost (not b)) →
     r + m ≡ M' → T + p - p₂ ≡ T' → Near b H L M' T' f
 replaced true H L r T m p p₂ f M' zero came stays eM eT = omega arith
 replaced true H L r T m p p₂ f M' (suc t) came stays eM eT =

@@ -19,7 +19,7 @@ use Rattle.model.specs.Laws.Basic.{sum-ext, both, every-at, some-true, a
 use Rattle.model.specs.Laws.Scheme.{Limited}
 use Rattle.model.specs.Laws.Substep.{cell-safe}
 use Rattle.model.specs.Laws.Mesh.{Regular, Meets, OnHighSide, OnLowSide}
-use Rattle.model.specs.Laws.Fractions.{lost, Towards, Monotone, level-towards, Inside, Near, near-add, near-sum, Leaves, piece-near, ends-leave, plains-leave, replaced, Bounded, in-range}
+use Rattle.model.specs.Laws.Fractions.{lost, Towards, Monotone, level-towards, Inside, Near, near-add, near-sum, LeavesInRange, piece-near, ends-leave, plains-leave, replaced, Bounded, in-range}
 
 -- face f is one of the n faces from face k on
 among : (cell : ℕ → ℕ) (k n f : ℕ) → k ≤ f → f < k + n → some n (λ i. eqb (cell f) (cell (k + i))) ≡ true
@@ -174,7 +174,7 @@ module _
 
     stays :
         (s : Sides) → mesh .sides c ≡ s → Meets mesh c s →
-        Leaves b H L (at air c - leaving mesh flow c) (at gas c) (leaving mesh (pieces rule mesh flow air gas) c) (faceCount s * lost (not b))
+        LeavesInRange b H L (at air c - leaving mesh flow c) (at gas c) (leaving mesh (pieces rule mesh flow air gas) c) (faceCount s * lost (not b))
     unfolding leaving
     stays (between l h) e m =
         let hl : mesh .lowCell l < mesh .cells = regular .lowIn l (m .0) in

@@ -3,8 +3,8 @@ use Prim.Native.Nat.{_≤_, _-_}
 use mathlib.Core.Path.{_≡_}
 use native.Mathlib.Omega.{arith}
 use lib.ListN.{length}
-use Rattle.row.specs.Columns.{Room}
-use Rattle.rows.specs.Swept.{After, after-none, rows-may-step, air-may-pass, after-more, after-all}
+use Rattle.row.specs.Columns.{FaceRoom}
+use Rattle.rows.specs.Swept.{SweptSoFar, after-none, rows-may-step, air-may-pass, after-more, after-all}
 use Rattle.units.specs.The.{the}
 use borrow.Author.Needs.{needs}
 use Rattle.rows.proofs.sweep_rows.Statement.{statement}
@@ -12,7 +12,7 @@ use Rattle.rows.proofs.sweep_rows.Tie as tie
 
 abbrev Inv-loop : tie.InvT-loop
 Inv-loop air₀ fluxes n tracers current₀ up₀ down₀ s₀ air current up down s =
-    (s ≤ n) × (length up ≡ 72) × (length down ≡ 72) × After current₀ air₀ fluxes n tracers s air current
+    (s ≤ n) × (length up ≡ 72) × (length down ≡ 72) × SweptSoFar current₀ air₀ fluxes n tracers s air current
 
 abbrev μ-loop : tie.MeasureT-loop
 μ-loop air₀ fluxes n tracers current₀ up₀ down₀ s₀ air current up down s = n - s
@@ -28,7 +28,7 @@ step-rows-requires c κs =
     let parts = the (tie.After-fill-parts Inv-loop μ-loop) (search) .fill-parts in
     let up = parts .last .1 .1 .1 .0 in
     let down = parts .last .1 .1 .1 .1 .0 in
-    let room : Room (length (start .args .fluxes .now)) up down = record { high = search needs; low = search needs } in
+    let room : FaceRoom (length (start .args .fluxes .now)) up down = record { high = search needs; low = search needs } in
     rows-may-step (start .pre) (l .inv .3) inside (parts .ensures) room
 
 pass-row-requires : tie.Need-pass-row-requires Inv-loop μ-loop
@@ -39,7 +39,7 @@ pass-row-requires c κs =
     let parts = the (tie.After-fill-parts Inv-loop μ-loop) (search) .fill-parts in
     let up = parts .last .1 .1 .1 .0 in
     let down = parts .last .1 .1 .1 .1 .0 in
-    let room : Room (length (start .args .fluxes .now)) up down = record { high = search needs; low = search needs } in
+    let room : FaceRoom (length (start .args .fluxes .now)) up down = record { high = search needs; low = search needs } in
     air-may-pass (start .pre) (l .inv .3) inside (parts .ensures) room
 
 loop-again : tie.Need-loop-again Inv-loop μ-loop
@@ -51,7 +51,7 @@ loop-again c =
     let stepped = the (tie.After-step-rows Inv-loop μ-loop) (search) .step-rows .ensures in
     let up = parts .last .1 .1 .1 .0 in
     let down = parts .last .1 .1 .1 .1 .0 in
-    let room : Room (length (start .args .fluxes .now)) up down = record { high = search needs; low = search needs } in (
+    let room : FaceRoom (length (start .args .fluxes .now)) up down = record { high = search needs; low = search needs } in (
       search needs,
       search needs,
       search needs,
