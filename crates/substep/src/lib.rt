@@ -89,7 +89,7 @@ pub fn cell_allows(have: Air, enters: u64, leaves: u64) -> bool
 {
     let m = have.0 as u64;
     let all = m + enters;
-    (leaves <= m) & ((leaves + 1 <= all) & (all <= leaves + AIR_LIMIT))
+    (leaves <= m) & ((leaves + 1 <= all) & (all <= leaves + (AIR_LIMIT as u64)))
 }
 
 // A cell's amount, of air or of a tracer, with what enters it and without what leaves it.

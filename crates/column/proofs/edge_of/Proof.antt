@@ -16,4 +16,4 @@ add-result c =
     omega (arith, product-fits (a .b) (a .p) (omega arith) (omega arith), div-le-self (a .b * a .p) 65536)
 
 pub edge-of-spec : {M : Type 1} → statement M
-edge-of-spec = tie.close (tie.spec mul-result add-result (λ c. search needs))
+edge-of-spec = tie.close (tie.spec mul-result (λ c. search needs) (λ c. search needs) add-result (λ c. search needs))

@@ -11,4 +11,4 @@ returns-2 : tie.Need-returns-2
 returns-2 c = simp (le-ltb _ _ (c .if1 .left))
 
 pub layer-serves-spec : {M : Type 1} → statement M
-layer-serves-spec = tie.close (tie.spec (λ c. search needs) returns returns-2)
+layer-serves-spec = tie.close (tie.spec (λ c. search needs) (λ c. search needs) returns returns-2)

@@ -10,4 +10,4 @@ returns c =
     may-pass (a .have .0) (a .enters) (a .leaves)
 
 pub cell-allows-spec : {M : Type 1} → statement M
-cell-allows-spec = tie.close (tie.spec (λ c. search needs) (λ c. search needs) (λ c. search needs) (λ c. search needs) returns)
+cell-allows-spec = tie.close (tie.spec (λ c. search needs) (λ c. search needs) (λ c. search needs) (λ c. search needs) (λ c. search needs) returns)
