@@ -9,7 +9,7 @@ use lib.ListN.{length, take, drop, length-append, length-take, length-drop}
 use lib.Seq.{take-at, drop-drop, length-take-le}
 use Rattle.model.specs.Basic.{tab}
 use Rattle.model.specs.World.{World}
-use Rattle.model.specs.Step.{Call, step}
+use Rattle.model.specs.Step.{Call}
 use Rattle.model.specs.Laws.Basic.{length-tab}
 use Rattle.units.specs.declared.Answer.{Answer}
 use Rattle.units.specs.Answer.{Agrees}

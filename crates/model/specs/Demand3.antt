@@ -12,7 +12,7 @@ use Rattle.model.specs.Sweep.{ring, layer}
 use Rattle.model.specs.Step.{Call, load, emission, withdrawal, zonal, meridional, remap, total, cell, firstOf, meaning, lentFits, ownPlaces, refusal, accepted, step}
 use Rattle.model.specs.Lists.{Loaded, loadedWorld, callAt, after, point, history, HasRatio, CallInRange, Alike, namesNoOther, SameReply}
 use Rattle.model.specs.Laws.Step.{Fits, Reached, own-refusal, loaded-reached, step-accepted, answer-is}
-use Rattle.model.specs.Laws.Keeps.{Kept, MeaningKeeps, StepKeeps, step-keeps, step-same-grid, names-grid}
+use Rattle.model.specs.Laws.Keeps.{Kept, MeaningKeeps, StepKeeps, step-keeps, names-grid}
 use Rattle.model.specs.Laws.Lists.{list-kept, list-alike, points-ratio}
 use Rattle.model.specs.Laws.Amounts.{load-keeps, emission-keeps, withdrawal-keeps, total-keeps, cell-keeps}
 use Rattle.model.specs.Laws.Sweep.{ChainOf, swept-chain}
@@ -59,10 +59,6 @@ any-keeps call = step-keeps call (call-keeps call)
 -- what any list keeps, from a world that calls reach
 pub calls-keep : (w : World) (calls : List Call) → Reached w → Kept w (after w calls) (λ t. history w t calls)
 calls-keep = list-kept any-keeps
-
--- a call leaves the grid, in any world
-pub step-grid : (w : World) (call : Call) → step w call .next .grid ≡ w .grid
-step-grid w call = step-same-grid call (call-keeps call) w
 
 pub demand-3 : (w : World) (calls : List Call) → Loaded w → (i : ℕ) → HoldsAt (loadedWorld w) calls i
 demand-3 w calls loaded i =

@@ -1,5 +1,5 @@
 -- What an auditor reads off the records of a run: the world that the last accepted load left, and the calls made since. Their history (Lists.antt of the model) is the account.
-use Prim.Native.Nat.{ℕ, zero, suc}
+use Prim.Native.Nat.{zero, suc}
 use mathlib.Core.List.{List, [], _∷_, _++_}
 use Rattle.model.specs.World.{World}
 use Rattle.model.specs.Step.{Call}

@@ -142,7 +142,6 @@ changes-keep :
     ((w : World) → firstOf (last ∷ []) w ≡ 0 → ChangeFits w t c new x) → MeaningKeeps (changes t c last new x)
 changes-keep t c last new x reading room =
     record {
-      sameGrid = λ w. refl;
       samePlaces =
           λ own w v a named.
           tracer-cell-alike own w v a t c _

@@ -1,6 +1,6 @@
 -- A grid in its ranges: its bounds, the greatest numbers of cells, faces and amounts, and that its layers and rows lie among its cells.
 use Prim.Native.Nat.{ℕ, suc, _+_, _*_, _≤_, _<_}
-use mathlib.Core.Bool.{true, _&&_, and-eq-true-iff}
+use mathlib.Core.Bool.{true, and-eq-true-iff}
 use mathlib.Core.Path.{_≡_}
 use native.Mathlib.Nat.{mul-le-mul, mul-le-mul-right}
 use native.Mathlib.Omega.{arith}

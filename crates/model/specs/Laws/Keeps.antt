@@ -120,9 +120,8 @@ pub record AcceptedKeeps (w : World) (m : Meaning) : Type 0 where
       Alike own (m .next w) (m .next v) × (m .count w ≡ m .count v)
   pub apart : (own : ℕ → Bool) → namesOwn own w (m .names) ≡ false → Alike own w (m .next w)
 
--- in any world its grid stays, and its own places do not tell two worlds alike apart, if it names no other gas
+-- its own places do not tell two worlds alike apart, if it names no other gas
 pub record MeaningKeeps (m : Meaning) : Type 0 where
-  pub sameGrid : (w : World) → m .next w .grid ≡ w .grid
   pub samePlaces : (own : ℕ → Bool) (w v : World) → Alike own w v → namesOwn own w (m .names) ≡ true → firstOf (m .places) w ≡ firstOf (m .places) v
   pub accepts : (w : World) → Reached w → firstOf (m .places) w ≡ 0 → AcceptedKeeps w m
 
@@ -134,7 +133,6 @@ pub reads-keep :
     MeaningKeeps (reads names ps count)
 reads-keep names ps count places counts =
     record {
-      sameGrid = λ w. refl;
       samePlaces = places;
       accepts =
           λ w reached e.
@@ -225,12 +223,3 @@ module _ (call : Call) (keeps : MeaningKeeps (meaning call)) where
         inRange = λ t h e. accepts w reached (sym (answer-is w call) ∙ e) .inRange t h;
         independent = λ own v rv a. step-independent own w v reached rv a (namesNoOther own w call) refl;
       }
-
-  -- in any world the grid stays
-  pub step-same-grid : (w : World) → step w call .next .grid ≡ w .grid
-  unfolding accepted refused
-  step-same-grid w = go (refusal w call) refl
-    where
-      go : (n : ℕ) → refusal w call ≡ n → step w call .next .grid ≡ w .grid
-      go zero e = rw (step-accepted w call e) (keeps .sameGrid w)
-      go (suc n) e = rw (step-refused w call n e)

@@ -1,19 +1,17 @@
 -- What an accepted meridional sweep keeps; and the frame of any meridional sweep.
-use Prim.Native.Nat.{ℕ, _+_, _≤_, _<_}
+use Prim.Native.Nat.{ℕ, _<_}
 use mathlib.Core.List.{List}
-use mathlib.Core.Bool.{true≢false}
 use mathlib.Core.Path.{_≡_}
-use native.Mathlib.Nat.{mul-le-mul-right}
 use native.Mathlib.Omega.{arith}
 use borrow.Author.Tests.{not-false}
 use lib.Dec.{lit<}
 use lib.IntN.{ℤ}
-use Rattle.model.specs.World.{Grid, World, worldCells, layerCells, layerStart}
+use Rattle.model.specs.World.{World, layerCells, layerStart}
 use Rattle.model.specs.Sweep.{layer}
 use Rattle.model.specs.Step.{meridional, firstOf, meaning, ownPlaces, accepted, refusal, step}
 use Rattle.model.specs.Laws.Grid.{layer-inside}
 use Rattle.model.specs.Laws.Layer.{layer-regular}
-use Rattle.model.specs.Laws.Step.{Fits, passed, found, accepted-passed}
+use Rattle.model.specs.Laws.Step.{passed, found, accepted-passed}
 use Rattle.model.specs.Laws.Keeps.{air-alike, MeaningKeeps}
 use Rattle.model.specs.Laws.Sweep.{Sweeps, sweeps-keep, ChangesOnly, swept-changes-only, step-changes-only}
 

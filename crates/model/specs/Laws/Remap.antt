@@ -3,7 +3,7 @@
 use Prim.Native.Nat.{ℕ, _+_, _*_, _-_, _/_, _%_, _≤_, _<_}
 use mathlib.Core.List.{List}
 use mathlib.Core.Bool.{Bool, true, _&&_, true≢false}
-use mathlib.Core.Path.{_≡_, refl, sym, _∙_, ap, ap₂}
+use mathlib.Core.Path.{_≡_, sym, _∙_, ap, ap₂}
 use native.Mathlib.Nat.{div-lt-iff-lt-mul, mod-lt, mod-eq-of-lt, div-eq-of-lt, mul-add-div-right, mul-add-mod-self-right, add-zero, mul-le-mul-right}
 use native.Mathlib.Omega.{arith}
 use borrow.Author.Tests.{le-leb, not-false}
@@ -183,7 +183,6 @@ pub remap-keeps : (table : List ℕ) → MeaningKeeps (meaning (remap table))
 unfolding ownPlaces remapped remapServes firstOf
 remap-keeps table =
     record {
-      sameGrid = λ w. refl;
       samePlaces = λ own w v a named. air-alike own w v a (ownPlaces (remap table));
       accepts =
           λ w reached e.

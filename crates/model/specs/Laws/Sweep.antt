@@ -333,7 +333,6 @@ module _ (meshOf : Grid → Mesh) (startOf : Grid → ℕ) (countOf : Grid → L
   unfolding swept
   sweeps-keep places passed =
       record {
-        sameGrid = λ w. refl;
         samePlaces = λ own w v a named. places own w v a;
         accepts =
             λ w reached e.

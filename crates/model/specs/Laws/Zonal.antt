@@ -1,16 +1,14 @@
 -- What an accepted zonal sweep keeps; and the frame of any zonal sweep: what it changes, and on what its answer, count and new row depend.
 -- Assumes for what is kept a world that fits, and takes the range as given; for the frame nothing, or that places 1 to 4 are passed.
-use Prim.Native.Nat.{ℕ, zero, suc, _+_, _≤_, _<_}
+use Prim.Native.Nat.{ℕ, zero, suc, _<_}
 use mathlib.Core.List.{List, []}
-use mathlib.Core.Bool.{not, true≢false}
+use mathlib.Core.Bool.{not}
 use mathlib.Core.Path.{_≡_, refl, sym, _∙_, ap, ap₂}
-use native.Mathlib.Nat.{mul-le-mul-right}
-use native.Mathlib.Omega.{arith}
 use borrow.Author.Tests.{eqb-false}
 use lib.Dec.{ltb, eqb, lit<}
 use lib.IntN.{ℤ}
 use Rattle.model.specs.Limits.{zonalLimit}
-use Rattle.model.specs.World.{Grid, World, worldCells, layerCells, rowStart}
+use Rattle.model.specs.World.{Grid, World, rowStart}
 use Rattle.model.specs.Sweep.{ring, substepCount}
 use Rattle.model.specs.Step.{zonal, firstOf, fluxTooLarge, meaning, commonPlaces, ownPlaces, accepted, refused, refusal, step, rowAir, zonalCount}
 use Rattle.model.specs.Lists.{SameReply}

@@ -1,7 +1,6 @@
 -- `stages::grid_refusal` meets its contract: the places 1 and 15, in this order.
 use mathlib.Core.Path.{_≡_, sym, _∙_}
 use mathlib.Core.Bool.{true}
-use native.Mathlib.Omega.{arith}
 use Rattle.model.specs.Step.{gridFits}
 use Rattle.units.specs.Grid.{gridOf, in-range}
 use Rattle.stages.specs.Laws.{refused-range, refused-cells, refused-tracers, taken-grid}
