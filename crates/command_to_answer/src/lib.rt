@@ -15,11 +15,11 @@ use commands::Command;
 use commands::LayerOf;
 use commands::RowOf;
 use fields::number_4;
-use stages::PROGRAM_FACES;
 use units::Answer;
 use units::Grid;
 use units::MOST_COLUMNS;
 use units::MOST_EDGES;
+use units::PROGRAM_FACES;
 
 // The numbers of 4 bytes each that fill `out`.
 fn decode(bytes: &[u8], out: &mut [u32])

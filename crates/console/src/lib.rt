@@ -13,9 +13,9 @@ use record_to_line::air_space;
 use record_to_line::carry_out;
 use record_to_line::tracer_space;
 use records::body_bytes;
-use stages::PROGRAM_AMOUNTS;
-use stages::PROGRAM_BODY;
 use stages::Stage;
+use units::PROGRAM_AMOUNTS;
+use units::PROGRAM_BODY;
 use units::PROGRAM_CELLS;
 
 // Room for the longest record, a kind and its body.

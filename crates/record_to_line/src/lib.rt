@@ -13,7 +13,6 @@ use commands::Command;
 use lines::Line;
 use records::Found;
 use records::read;
-use stages::PROGRAM_AMOUNTS;
 use stages::Stage;
 use stages::cells_of;
 use stages::fault_number;
@@ -22,6 +21,7 @@ use stages::grid_refusal;
 use stages::settled;
 use units::Answer;
 use units::Grid;
+use units::PROGRAM_AMOUNTS;
 use units::PROGRAM_CELLS;
 use units::number;
 

@@ -14,12 +14,6 @@ use units::grid_fits;
 use units::refusal_number;
 use units::world_cells;
 
-pub const PROGRAM_AMOUNTS: usize = 4096; // of all tracers of the largest world that the program takes
-
-pub const PROGRAM_FACES: usize = 2118; // of a layer
-
-pub const PROGRAM_BODY: usize = 24576; // bytes of the longest body
-
 // What the records so far have set up: nothing, a grid, a world in the program's buffers.
 pub enum Stage {
     Start,

@@ -42,6 +42,12 @@ pub const PROGRAM_CELLS: usize = 2048; // of the largest world that the runner p
 
 pub const PROGRAM_TRACERS: usize = 2;
 
+pub const PROGRAM_AMOUNTS: usize = 4096; // of all tracers in it
+
+pub const PROGRAM_FACES: usize = 2118; // of a layer that the program takes
+
+pub const PROGRAM_BODY: usize = 24576; // bytes of the longest body of a record
+
 // Air units and tracer units are separate counts: an amount of one is never added to an amount of the other.
 pub struct Air(pub u32);
 
