@@ -53,6 +53,11 @@ pub struct Air(pub u32);
 
 pub struct Tracer(pub u32);
 
+// Sums of air units and of tracer units, in 64 bits.
+pub struct AirSum(pub u64);
+
+pub struct TracerSum(pub u64);
+
 // A mismatch as its size and its sign.
 pub struct Mismatch {
     pub size: u64,
@@ -87,6 +92,21 @@ pub enum Refusal {
 pub enum Answer {
     Accepted(u32),
     Refused(Refusal),
+}
+
+// A sum of air with one amount more, and the same of a tracer.
+pub fn add_air(sum: AirSum, x: Air) -> AirSum
+    requires { ⌜ sum .0 ≤ 9223372036854775807 ⌝ }
+    ensures { λ r. ⌜ r .0 ≡ sum .0 + x .0 ⌝ }
+{
+    AirSum(sum.0 + (x.0 as u64))
+}
+
+pub fn add_tracer(sum: TracerSum, x: Tracer) -> TracerSum
+    requires { ⌜ sum .0 ≤ 9223372036854775807 ⌝ }
+    ensures { λ r. ⌜ r .0 ≡ sum .0 + x .0 ⌝ }
+{
+    TracerSum(sum.0 + (x.0 as u64))
 }
 
 // The refusal's number.
