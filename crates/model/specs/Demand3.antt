@@ -1,6 +1,6 @@
 -- Demand 3, one theorem about the list: after an accepted load, whatever calls are made, refused ones included, four things hold at each point.
 -- Assumes only that `step` accepts the load.
-use Prim.Native.Nat.{ℕ, _+_, _≤_, _<_}
+use Prim.Native.Nat.{ℕ, suc, _+_, _≤_, _<_}
 use mathlib.Core.List.{List, [], _∷_, _++_}
 use mathlib.Core.Bool.{Bool, true}
 use mathlib.Core.Path.{_≡_, refl, sym, _∙_}
@@ -13,11 +13,10 @@ use Rattle.model.specs.Step.{Call, load, emission, withdrawal, zonal, me
 use Rattle.model.specs.Lists.{Loaded, loadedWorld, callAt, after, point, history, HasRatio, CallInRange, Alike, namesNoOther, SameReply}
 use Rattle.model.specs.Laws.Step.{Fits, Reached, own-refusal, loaded-reached, step-accepted, answer-is}
 use Rattle.model.specs.Laws.Keeps.{Kept, MeaningKeeps, StepKeeps, step-keeps, names-grid}
-use Rattle.model.specs.Laws.Lists.{list-kept, list-alike, points-ratio}
+use Rattle.model.specs.Laws.Lists.{point-range, list-kept, list-alike, points-ratio}
 use Rattle.model.specs.Laws.Amounts.{load-keeps, emission-keeps, withdrawal-keeps, total-keeps, cell-keeps}
-use Rattle.model.specs.Laws.Sweep.{ChainOf, swept-chain}
-use Rattle.model.specs.Laws.Zonal.{zonal-sweeps, zonal-keeps}
-use Rattle.model.specs.Laws.Meridional.{meridional-sweeps, meridional-keeps}
+use Rattle.model.specs.Laws.Zonal.{zonal-keeps}
+use Rattle.model.specs.Laws.Meridional.{meridional-keeps}
 use Rattle.model.specs.Laws.Remap.{remap-keeps}
 use Rattle.model.specs.Cases.{computes}
 use Rattle.model.specs.Cases.Marked.{four, stair}
@@ -33,10 +32,10 @@ pub record HoldsAt (start : World) (calls : List Call) (i : ℕ) : Type 0 where
   pub ratioKept :
       (t z j : ℕ) → t < start .grid .N → i ≤ j → HasRatio (point start calls i) t z →
       history start t (take j calls) ≡ history start t (take i calls) → HasRatio (point start calls j) t z
-  -- "Each substep of a sweep leaves each cell it writes within its old neighbourhood's range of ratios, .. and a remap": the call made at this point, if it is accepted
+  -- "Each substep of a sweep leaves each cell it writes within its old neighbourhood's range of ratios, .. and a remap": the call made at this point, if it is accepted; it leads to the next point
   pub inRange :
       (t : ℕ) → t < start .grid .N → step (point start calls i) (callAt calls i) .answer ≡ 0 →
-      CallInRange (point start calls i) t (callAt calls i)
+      CallInRange (point start calls i) (point start calls (suc i)) t (callAt calls i)
   -- "After any other accepted load that differs only in the other gases, the same list gives the same amounts of one gas and the same answers to calls that name no other gas": for a set of gases `own`
   pub independent :
       (own : ℕ → Bool) (v : World) → Loaded v → Alike own start (loadedWorld v) →
@@ -70,7 +69,7 @@ demand-3 w calls loaded i =
       gasKept = kept .gasKept;
       airKept = kept .airKept;
       ratioKept = λ t z j h le. points-ratio any-keeps i j start calls reached le t z h;
-      inRange = λ t h. here .inRange t (rw (kept .sameGrid) h);
+      inRange = λ t h e. point-range start calls i t (here .inRange t (rw (kept .sameGrid) h) e);
       independent =
           λ own v other alike.
           let vv = loaded-reached v other in
@@ -78,25 +77,6 @@ demand-3 w calls loaded i =
           let same = here .independent own (point (loadedWorld v) calls i) (calls-keep (loadedWorld v) (take i calls) vv .reached) now in
           (now, λ named. same .1 (names-grid own (point start calls i) start (kept .sameGrid) (meaning (callAt calls i) .names) ∙ named));
     }
-
--- The chain that the range of an accepted sweep speaks of starts with the amounts before it and ends with those that `step` leaves
-pub zonal-chain :
-    (w : World) → Fits w → (k r : ℕ) (fluxes : List ℤ) → step w (zonal k r fluxes) .answer ≡ 0 → (t : ℕ) → t < w .grid .N →
-    ChainOf w (step w (zonal k r fluxes) .next) (ring (w .grid .W)) (rowStart (w .grid) k r) fluxes (step w (zonal k r fluxes) .count) t
-unfolding accepted
-zonal-chain w fits k r fluxes e t h =
-    let go = sym (answer-is w (zonal k r fluxes)) ∙ e in
-    rw (step-accepted w (zonal k r fluxes) go)
-    (swept-chain w fits _ _ fluxes _ (zonal-sweeps k r fluxes w go .inside) t h)
-
-pub meridional-chain :
-    (w : World) → Fits w → (k : ℕ) (fluxes : List ℤ) → step w (meridional k fluxes) .answer ≡ 0 → (t : ℕ) → t < w .grid .N →
-    ChainOf w (step w (meridional k fluxes) .next) (layer (w .grid .W) (w .grid .R)) (layerStart (w .grid) k) fluxes 1 t
-unfolding accepted
-meridional-chain w fits k fluxes e t h =
-    let go = sym (answer-is w (meridional k fluxes)) ∙ e in
-    rw (step-accepted w (meridional k fluxes) go)
-    (swept-chain w fits _ _ fluxes 1 (meridional-sweeps k fluxes w go .inside) t h)
 
 -- A world that calls reach from an accepted load never meets the refusals 1 to 4 again, but 2 for the list that a call itself lends: the refusal is that of the call's own places alone
 pub reached :

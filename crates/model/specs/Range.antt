@@ -5,12 +5,10 @@ use mathlib.Core.List.{List}
 use mathlib.Core.Bool.{Bool, true, _&&_, _||_}
 use mathlib.Core.Path.{_≡_}
 use lib.Dec.{ltb, eqb}
-use lib.IntN.{ℤ}
-use Rattle.model.specs.Basic.{at, some}
-use Rattle.model.specs.World.{Grid, layerCells}
-use Rattle.model.specs.Scheme.{Rule}
-use Rattle.model.specs.Sweep.{Mesh, Sides, between, southCap, northCap, airAfter, gasAfter}
-use Rattle.model.specs.Remap.{column, columnAir, isCap, layers, newAir, newTracer, shareAir}
+use Rattle.model.specs.Basic.{at, part, some}
+use Rattle.model.specs.World.{Grid, World, layerCells, layerStart, gas}
+use Rattle.model.specs.Sweep.{Mesh, Sides, between, southCap, northCap}
+use Rattle.model.specs.Remap.{column, columnAir, shareAir}
 
 -- "some cell there, with air M and tracer T, has T·M' < (T' + e)·M, and some cell there has T'·M < T·M' + e·M": `there` tells the cells, of n, that are in the neighbourhood; M' and T' are `newM` and `newT`
 unfoldable pub inRange : ℕ → (ℕ → Bool) → List ℕ → List ℕ → ℕ → ℕ → ℕ → Bool
@@ -34,34 +32,34 @@ faceCount (between l h) = 2
 faceCount (southCap k n) = n
 faceCount (northCap k n) = n
 
--- cell c is in range after substep s + 1 of n, over the amounts just before that substep
-unfoldable pub substepInRange : Rule → Mesh → List ℤ → ℕ → List ℕ → List ℕ → ℕ → ℕ → Bool
-substepInRange rule mesh fluxes n air gas s c =
-    inRange (mesh .cells) (isNear mesh c)
-    (airAfter mesh fluxes n air s)
-    (gasAfter rule mesh fluxes n air gas s)
-    (faceCount (mesh .sides c) + 1)
-    (at (airAfter mesh fluxes n air (suc s)) c)
-    (at (gasAfter rule mesh fluxes n air gas (suc s)) c)
+-- cell c after a substep, over the amounts just before it: `newAir` and `newGas` are what the substep leaves
+unfoldable pub substepInRange : Mesh → List ℕ → List ℕ → List ℕ → List ℕ → ℕ → Bool
+substepInRange mesh air gas newAir newGas c =
+    inRange (mesh .cells) (isNear mesh c) air gas (faceCount (mesh .sides c) + 1) (at newAir c) (at newGas c)
 
-abbrev pub SweepInRange : Rule → Mesh → List ℤ → ℕ → List ℕ → List ℕ → Type 0
-SweepInRange rule mesh fluxes n air gas =
-    (s c : ℕ) → s < n → c < mesh .cells → substepInRange rule mesh fluxes n air gas s c ≡ true
+-- "in every cell of the row, or of the layer if meridional, after each substep of an accepted sweep, over the amounts just before that substep": a sweep of n substeps that leads from the world w to the world `next`, over the cells of a mesh from cell a on.
+-- `air s` and `had s` are the air and the amounts of tracer t after s substeps: a chain that starts with those in w and ends with those in `next`.
+pub record SweepInRange (w next : World) (mesh : Mesh) (a n t : ℕ) (air had : ℕ → List ℕ) : Type 0 where
+  pub airStart : air 0 ≡ part (w .air) a (mesh .cells)
+  pub gasStart : had 0 ≡ part (gas w t) a (mesh .cells)
+  pub each : (s c : ℕ) → s < n → c < mesh .cells → substepInRange mesh (air s) (had s) (air (suc s)) (had (suc s)) c ≡ true
+  pub airEnd : air n ≡ part (next .air) a (mesh .cells)
+  pub gasEnd : had n ≡ part (gas next t) a (mesh .cells)
 
 -- "In a remap it is the old layers that share air with the new one, and those next above and below them."
 unfoldable pub isNearLayer : ℕ → (ℕ → Bool) → ℕ → Bool
 isNearLayer K shares k = shares k || (ltb 0 k && shares (k - 1)) || (ltb (suc k) K && shares (suc k))
 
--- ".. and 2 for a remap": new layer j of the column at place c
-unfoldable pub layerInRange : Rule → Grid → List ℕ → List ℕ → List ℕ → ℕ → ℕ → Bool
-layerInRange rule g table air gas c j =
+-- ".. and 2 for a remap": new layer j of the column at place c, in the air and a tracer's amounts of all cells before and after
+unfoldable pub layerInRange : Grid → List ℕ → List ℕ → List ℕ → List ℕ → List ℕ → ℕ → ℕ → Bool
+layerInRange g table air gas newAir newGas c j =
     let old : List ℕ = column g air c in
-    let had : List ℕ = column g gas c in
-    let P : ℕ = columnAir g air c in
-    inRange (g .K) (isNearLayer (g .K) (shareAir table old P j)) old had 2
-    (newAir table P j)
-    (newTracer table P (layers rule (isCap g c) (g .K) old had) j)
+    inRange (g .K) (isNearLayer (g .K) (shareAir table old (columnAir g air c) j)) old (column g gas c) 2
+    (at newAir (layerStart g j + c))
+    (at newGas (layerStart g j + c))
 
-abbrev pub RemapInRange : Rule → Grid → List ℕ → List ℕ → List ℕ → Type 0
-RemapInRange rule g table air gas =
-    (c j : ℕ) → c < layerCells g → j < g .K → layerInRange rule g table air gas c j ≡ true
+-- "and in every cell after an accepted remap": of tracer t, in the world `next` that a remap of the world w leaves
+abbrev pub RemapInRange : World → World → List ℕ → ℕ → Type 0
+RemapInRange w next table t =
+    (c j : ℕ) → c < layerCells (w .grid) → j < w .grid .K →
+    layerInRange (w .grid) table (w .air) (gas w t) (next .air) (gas next t) c j ≡ true

@@ -10,7 +10,7 @@ use Rattle.model.specs.Limits.{mostColumns, mostRows, mostLayers, mostTr
 use Rattle.model.specs.Basic.{at, part, every}
 use Rattle.model.specs.World.{Grid, World, layerCells, worldCells, layerStart, rowStart, tracerStart, withAmounts, gas, gasTotal, airFits}
 use Rattle.model.specs.Scheme.{ruleOf}
-use Rattle.model.specs.Sweep.{Mesh, ring, layer, flux, serves, substepCount, swept}
+use Rattle.model.specs.Sweep.{Mesh, ring, layer, flux, airAfter, gasAfter, serves, substepCount, swept}
 use Rattle.model.specs.Remap.{remapServes, remapCount, remapped}
 use Rattle.model.specs.Range.{SweepInRange, RemapInRange}
 
@@ -100,7 +100,7 @@ pub data Named : Type 0 where
   nobody : Named
   tracer : ℕ → Named
 
--- What a call means: whether the list that it lends has the grid's length; its own places, in the table's order; where it is accepted, its count and the world afterwards; the tracer that it names; what it exchanges of tracer t, and the range that it promises for tracer t, where it is accepted
+-- What a call means: whether the list that it lends has the grid's length; its own places, in the table's order; where it is accepted, its count and the world afterwards; the tracer that it names; what it exchanges of tracer t, and the range that it promises for tracer t from the world before it to the world afterwards, where it is accepted
 pub record Meaning : Type 1 where
   pub lent : Grid → Bool
   pub places : List Place
@@ -108,7 +108,7 @@ pub record Meaning : Type 1 where
   pub next : World → World
   pub names : Named
   pub exchange : World → ℕ → Exchange
-  pub range : World → ℕ → Type 0
+  pub range : World → World → ℕ → Type 0
 
 -- a call that reads: it leaves the world as it is
 abbrev pub reads : Named → List Place → (World → ℕ) → Meaning
@@ -120,7 +120,7 @@ reads names places count =
       next = λ w. w;
       names = names;
       exchange = λ w t. noExchange;
-      range = λ w t. Unit {0};
+      range = λ w next t. Unit {0};
     }
 
 -- one that changes the amount of tracer t in cell c, and exchanges x of that tracer. "Counts not named are 0."
@@ -133,7 +133,7 @@ changes t c refusing new x =
       next = λ w. withAmount w t c (new (amountAt w t c));
       names = tracer t;
       exchange = λ w t'. elim (eqb t t') [ true ↦ x | false ↦ noExchange ];
-      range = λ w t'. Unit {0};
+      range = λ w next t'. Unit {0};
     }
 
 -- one that sweeps the cells of a mesh, from cell `start` on
@@ -147,7 +147,11 @@ sweeps mesh start fluxes count lent places =
       next = λ w. swept w (mesh (w .grid)) (start (w .grid)) fluxes (count w);
       names = nobody;
       exchange = λ w t. noExchange;
-      range = λ w t. SweepInRange (ruleOf w t) (mesh (w .grid)) fluxes (count w) (cells w (w .air)) (cells w (gas w t));
+      range =
+          λ w next t.
+          SweepInRange w next (mesh (w .grid)) (start (w .grid)) (count w) t
+          (airAfter (mesh (w .grid)) fluxes (count w) (cells w (w .air)))
+          (gasAfter (ruleOf w t) (mesh (w .grid)) fluxes (count w) (cells w (w .air)) (cells w (gas w t)));
     }
 
 abbrev pub meaning : Call → Meaning
@@ -174,7 +178,7 @@ meaning (remap table) =
       next = λ w. remapped w table;
       names = nobody;
       exchange = λ w t. noExchange;
-      range = λ w t. RemapInRange (ruleOf w t) (w .grid) table (w .air) (gas w t);
+      range = λ w next t. RemapInRange w next table t;
     }
 -- "Readings give a tracer's total or one cell's amount as the count."
 meaning (total t) = reads (tracer t) (absent t (λ g. g .N) ∷ []) (λ w. gasTotal w t)

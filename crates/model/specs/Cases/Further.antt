@@ -167,6 +167,8 @@ amounts =
     refuses "total over limit" (withTracer 5 268435456) (total 0) 4 ∷
     refuses "total over in two cells" (row hundreds (six 268435455 0 0 0 0 1)) load 4 ∷
     refuses "second total over" (world (grid 4 1 1 2) hundreds (replicate 6 0 ++ six 0 0 0 0 0 268435456)) (total 0) 4 ∷
+    refuses "eighth total over" (world (grid 4 1 1 8) hundreds (replicate 47 0 ++ 268435456 ∷ [])) (total 0) 4 ∷
+    keeps "eighth total at limit" (world (grid 4 1 1 8) hundreds (replicate 47 0 ++ 268435455 ∷ [])) (total 7) 268435455 ∷
     keeps "two totals at limit" (world (grid 4 1 1 2) hundreds (six 268435455 0 0 0 0 0 ++ six 0 0 0 0 0 268435455)) (total 1) 268435455 ∷
     refuses "emission, tracer" peak (emission 1 0 1) 5 ∷
     refuses "emission, cell" peak (emission 0 6 1) 5 ∷

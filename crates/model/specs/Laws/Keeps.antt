@@ -114,7 +114,7 @@ module _ (own : ℕ → Bool) (w v : World) (alike : Alike own w v) where
 -- one whose own places are passed; `alike` is for a call that names no other gas than the own ones, `apart` for one that names another
 pub record AcceptedKeeps (w : World) (m : Meaning) : Type 0 where
   pub kept : Kept w (m .next w) (m .exchange w)
-  pub inRange : (t : ℕ) → t < w .grid .N → m .range w t
+  pub inRange : (t : ℕ) → t < w .grid .N → m .range w (m .next w) t
   pub alike :
       (own : ℕ → Bool) (v : World) → Reached v → Alike own w v → namesOwn own w (m .names) ≡ true →
       Alike own (m .next w) (m .next v) × (m .count w ≡ m .count v)
@@ -147,7 +147,7 @@ reads-keep names ps count places counts =
 -- ---- what `step` keeps: a refused call changes nothing
 pub record StepKeeps (w : World) (call : Call) : Type 0 where
   pub kept : Kept w (step w call .next) (λ t. exchanged w t call)
-  pub inRange : (t : ℕ) → t < w .grid .N → step w call .answer ≡ 0 → CallInRange w t call
+  pub inRange : (t : ℕ) → t < w .grid .N → step w call .answer ≡ 0 → CallInRange w (step w call .next) t call
   pub independent :
       (own : ℕ → Bool) (v : World) → Reached v → Alike own w v →
       Alike own (step w call .next) (step v call .next) × (namesNoOther own w call ≡ true → SameReply w v call)
@@ -216,10 +216,16 @@ module _ (call : Call) (keeps : MeaningKeeps (meaning call)) where
         λ named. absurd (false≢true named),
       )
 
+  step-in-range : (w : World) → Reached w → (t : ℕ) → t < w .grid .N → step w call .answer ≡ 0 → CallInRange w (step w call .next) t call
+  unfolding accepted
+  step-in-range w reached t h e =
+      let go = sym (answer-is w call) ∙ e in
+      rw (step-accepted w call go) (accepts w reached go .inRange t h)
+
   pub step-keeps : (w : World) → Reached w → StepKeeps w call
   step-keeps w reached =
       record {
         kept = step-kept w reached (refusal w call) refl;
-        inRange = λ t h e. accepts w reached (sym (answer-is w call) ∙ e) .inRange t h;
+        inRange = step-in-range w reached;
         independent = λ own v rv a. step-independent own w v reached rv a (namesNoOther own w call) refl;
       }

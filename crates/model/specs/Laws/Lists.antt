@@ -1,6 +1,6 @@
 -- What a list of calls keeps, from its start to its end, and so from its start to each of its points and from there to each later one.
 -- Assumes a start that calls reach, as the world is that an accepted load leaves, and that each call keeps what a call keeps.
-use Prim.Native.Nat.{ℕ, _+_, _-_, _≤_, _<_}
+use Prim.Native.Nat.{ℕ, zero, suc, _+_, _-_, _≤_, _<_}
 use mathlib.Core.List.{List, [], _∷_, _++_}
 use mathlib.Core.Bool.{Bool}
 use mathlib.Core.Path.{_≡_, refl, sym, _∙_, ap}
@@ -10,7 +10,7 @@ use lib.ListN.{take, drop}
 use lib.Seq.{take-add}
 use Rattle.model.specs.World.{World}
 use Rattle.model.specs.Step.{Call, Exchange, step}
-use Rattle.model.specs.Lists.{after, point, history, HasRatio, Alike}
+use Rattle.model.specs.Lists.{callAt, after, point, history, HasRatio, CallInRange, Alike}
 use Rattle.model.specs.Laws.Step.{Reached}
 use Rattle.model.specs.Laws.Keeps.{Kept, kept-same, kept-trans, StepKeeps}
 
@@ -31,6 +31,16 @@ history-append w t [] b = record { came = omega arith; went = omega arith }
 history-append w t (call ∷ a) b =
     let rest = history-append (step w call .next) t a b in
     record { came = omega (arith, rest .came); went = omega (arith, rest .went) }
+
+-- ---- call i leads from point i to the next; past the list's end stands a load, which promises no range
+pub point-range :
+    (w : World) (calls : List Call) (i t : ℕ) →
+    CallInRange (point w calls i) (step (point w calls i) (callAt calls i) .next) t (callAt calls i) →
+    CallInRange (point w calls i) (point w calls (suc i)) t (callAt calls i)
+unfolding after
+point-range w [] i t holds = tt
+point-range w (call ∷ calls) zero t holds = holds
+point-range w (call ∷ calls) (suc i) t holds = point-range (step w call .next) calls i t holds
 
 -- ---- what a list keeps
 module _ (keeps : (call : Call) (w : World) → Reached w → StepKeeps w call) where

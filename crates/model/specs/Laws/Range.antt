@@ -14,7 +14,7 @@ use Rattle.model.specs.Basic.{at, sum, some}
 use Rattle.model.specs.World.{airFits}
 use Rattle.model.specs.Scheme.{Rule, opposite, highPiece, lowPiece}
 use Rattle.model.specs.Sweep.{Mesh, Sides, between, southCap, northCap, Flow, leaving, entering, afterFlow, allowed, parts, cellRatio, cellMismatch, pieces, airAfter, gasAfter, serves}
-use Rattle.model.specs.Range.{inRange, isNear, faceCount, substepInRange, SweepInRange}
+use Rattle.model.specs.Range.{inRange, isNear, faceCount, substepInRange}
 use Rattle.model.specs.Laws.Basic.{sum-ext, both, every-at, some-true, at-tab, term-le-sum}
 use Rattle.model.specs.Laws.Scheme.{Limited}
 use Rattle.model.specs.Laws.Substep.{cell-safe}
@@ -251,7 +251,9 @@ module _
   has-after zero h c hc = has c hc
   has-after (suc s) h c hc = allowed-fits mesh _ _ (substep-allowed s h) c hc .0
 
-  pub sweep-in-range : SweepInRange rule mesh fluxes n air gas
+  pub sweep-in-range :
+      (s c : ℕ) → s < n → c < mesh .cells →
+      substepInRange mesh (airAfter mesh fluxes n air s) (gasAfter rule mesh fluxes n air gas s) (airAfter mesh fluxes n air (suc s)) (gasAfter rule mesh fluxes n air gas (suc s)) c ≡ true
   unfolding substepInRange airAfter gasAfter
   sweep-in-range s c h hc =
       substep-in-range limited monotone mesh regular _ _ _ (has-after s (omega arith)) (substep-allowed s h) c hc

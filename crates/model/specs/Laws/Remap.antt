@@ -14,7 +14,7 @@ use Rattle.model.specs.Basic.{at, sum}
 use Rattle.model.specs.World.{Grid, World, layerCells, worldCells, layerStart, gas}
 use Rattle.model.specs.Remap.{column, columnAir, columnCount, isCap, layers, newAir, newTracer, overCells, shareAir, remappedAir, remappedGas, remapServes, remapCount, remapped}
 use Rattle.model.specs.Scheme.{Rule, ruleOf}
-use Rattle.model.specs.Range.{inRange, isNearLayer, layerInRange, RemapInRange}
+use Rattle.model.specs.Range.{layerInRange}
 use Rattle.model.specs.Step.{remap, firstOf, meaning, ownPlaces, accepted, refusal}
 use Rattle.model.specs.Lists.{Alike}
 use Rattle.model.specs.Laws.Basic.{every-at, sum-ext, sum-le, sum-same, sum-columns, length-tab, at-tab}
@@ -142,10 +142,13 @@ module _
           evenKept = λ had z e. even-kept had z;
         }
 
-    pub remap-in-range : Monotone rule → (had : List ℕ) → RemapInRange rule g table air had
+    remap-in-range :
+        Monotone rule → (had : List ℕ) (c j : ℕ) → c < layerCells g → j < g .K →
+        layerInRange g table air had (remappedAir g table air) (remappedGas rule g table air had) c j ≡ true
     unfolding layerInRange
     remap-in-range monotone had c j hc hj =
-        new-layer-in-range limited (isCap g c) (g .K) table (column g air c) (column g had c) (column-has c hc) (edges c hc) monotone j hj
+        rw (remapped-air-at g table air j c hj hc, remapped-gas-at g table air j c hj hc rule had)
+        (new-layer-in-range limited (isCap g c) (g .K) table (column g air c) (column g had c) (column-has c hc) (edges c hc) monotone j hj)
 
 -- what its own places tell, where they are passed
 own-edges :
@@ -191,29 +194,14 @@ remap-keeps table =
           let edges = own-edges table w e in
           record {
             kept = moved-kept w reached _ _ (remap-air g table (w .air) airIn edges) (λ t. remap-gas g table (w .air) airIn edges (rule-limited w t));
-            inRange = λ t h. remap-in-range g table (w .air) airIn edges (rule-limited w t) (rule-monotone w t) (gas w t);
+            inRange =
+                λ t h.
+                rw (gas-moved w (remappedAir g table (w .air)) (λ t. remappedGas (ruleOf w t) g table (w .air)) (λ t h. length-remapped _ _ _ _ _) t h)
+                (remap-in-range g table (w .air) airIn edges (rule-limited w t) (rule-monotone w t) (gas w t));
             alike = λ own v vv a named. remap-alike table own w v a;
             apart = λ own other. absurd (true≢false other);
           };
     }
-
--- so the range, which `layerInRange` states of the new layers' definition, holds of the cells of the world afterwards
-module _ (table : List ℕ) (w : World) (fits : Fits w) (e : refusal w (remap table) ≡ 0) (t c j : ℕ) where
-  abbrev oldAir : List ℕ
-  oldAir = column (w .grid) (w .air) c
-
-  abbrev near : ℕ → Bool
-  near = isNearLayer (w .grid .K) (shareAir table oldAir (columnAir (w .grid) (w .air) c) j)
-
-  pub remap-leaves-in-range :
-      t < w .grid .N → c < layerCells (w .grid) → j < w .grid .K →
-      inRange (w .grid .K) near oldAir (column (w .grid) (gas w t) c) 2 (at (accepted w (remap table) .next .air) (layerStart (w .grid) j + c)) (at (gas (accepted w (remap table) .next) t) (layerStart (w .grid) j + c)) ≡ true
-  unfolding accepted remapped layerInRange
-  remap-leaves-in-range ht hc hj =
-      let g = w .grid in
-      let gas-is = gas-moved w (remappedAir g table (w .air)) (λ t. remappedGas (ruleOf w t) g table (w .air)) (λ t h. length-remapped _ _ _ _ _) t ht in
-      rw (gas-is, remapped-air-at g table (w .air) j c hj hc, remapped-gas-at g table (w .air) j c hj hc (ruleOf w t) (gas w t))
-      (remap-in-range g table (w .air) (fits .air) (remap-edges table w e) (rule-limited w t) (rule-monotone w t) (gas w t) c j hc hj)
 
 -- "between K and 2K − 1 for each column, summed over columns"
 pub remap-count :

@@ -14,6 +14,7 @@ use Rattle.model.specs.Basic.{at, part, written, sum}
 use Rattle.model.specs.World.{Grid, World, worldCells, gas, airFits}
 use Rattle.model.specs.Scheme.{Rule, ruleOf}
 use Rattle.model.specs.Sweep.{Mesh, airAfter, gasAfter, serves, swept}
+use Rattle.model.specs.Range.{SweepInRange}
 use Rattle.model.specs.Step.{Call, Place, firstOf, noExchange, sweeps, accepted, refused, refusal, step}
 use Rattle.model.specs.Lists.{Alike}
 use Rattle.model.specs.Laws.Basic.{length-part, at-part, InPart, Outside, part-or-outside, length-written, at-written-within, at-written-outside, part-written, sum-written}
@@ -302,23 +303,21 @@ module _ (meshOf : Grid → Mesh) (startOf : Grid → ℕ) (countOf : Grid → L
       inside-v : startOf (v .grid) + meshOf (v .grid) .cells ≤ worldCells (v .grid)
       inside-v = rw (← (s .sameGrid)) inside
 
--- ---- the chain of a sweep over the cells from a on: it starts with the amounts before it and ends with those in the world after it
-pub record ChainOf (w next : World) (mesh : Mesh) (a : ℕ) (fluxes : List ℤ) (n t : ℕ) : Type 0 where
-  pub airStart : airAfter mesh fluxes n (part (w .air) a (mesh .cells)) 0 ≡ part (w .air) a (mesh .cells)
-  pub airEnd : part (next .air) a (mesh .cells) ≡ airAfter mesh fluxes n (part (w .air) a (mesh .cells)) n
-  pub gasStart : gasAfter (ruleOf w t) mesh fluxes n (part (w .air) a (mesh .cells)) (part (gas w t) a (mesh .cells)) 0 ≡ part (gas w t) a (mesh .cells)
-  pub gasEnd : part (gas next t) a (mesh .cells) ≡ gasAfter (ruleOf w t) mesh fluxes n (part (w .air) a (mesh .cells)) (part (gas w t) a (mesh .cells)) n
-
-pub swept-chain :
-    (w : World) → Fits w → (mesh : Mesh) (a : ℕ) (fluxes : List ℤ) (n : ℕ) → a + mesh .cells ≤ worldCells (w .grid) →
-    (t : ℕ) → t < w .grid .N → ChainOf w (swept w mesh a fluxes n) mesh a fluxes n t
+-- ---- its range, from the amounts before it to those in the world after it
+swept-in-range :
+    (w : World) → Fits w → (mesh : Mesh) (a : ℕ) (fluxes : List ℤ) (n : ℕ) → Sweeps w mesh a fluxes n →
+    (t : ℕ) → t < w .grid .N →
+    let air : List ℕ = part (w .air) a (mesh .cells) in
+    SweepInRange w (swept w mesh a fluxes n) mesh a n t (airAfter mesh fluxes n air) (gasAfter (ruleOf w t) mesh fluxes n air (part (gas w t) a (mesh .cells)))
 unfolding airAfter gasAfter
-swept-chain w fits mesh a fluxes n inside t h =
+swept-in-range w fits mesh a fluxes n s t h =
+    let cells = worldCells (w .grid) in
     record {
       airStart = refl;
-      airEnd = rw (swept-air w fits mesh a inside fluxes n) (air-within mesh a fluxes n (worldCells (w .grid)) inside (w .air) (fits .airLength));
       gasStart = refl;
-      gasEnd = rw (swept-gas w fits mesh a inside fluxes n t h) (gas-within mesh a fluxes n (worldCells (w .grid)) inside (w .air) (ruleOf w t) (gas w t) (length-gas w t (fits .tracersLength) h));
+      each = sweep-in-range (rule-limited w t) (rule-monotone w t) mesh (s .regular) fluxes n _ _ (swept-cells-air w fits mesh a fluxes n s) (s .serving);
+      airEnd = sym (rw (swept-air w fits mesh a (s .inside) fluxes n) (air-within mesh a fluxes n cells (s .inside) (w .air) (fits .airLength)));
+      gasEnd = sym (rw (swept-gas w fits mesh a (s .inside) fluxes n t h) (gas-within mesh a fluxes n cells (s .inside) (w .air) (ruleOf w t) (gas w t) (length-gas w t (fits .tracersLength) h)));
     }
 
 -- ---- a call that sweeps keeps what a call keeps, if its places read the grid and the air alone, and tell that the sweep is as above
@@ -339,7 +338,7 @@ module _ (meshOf : Grid → Mesh) (startOf : Grid → ℕ) (countOf : Grid → L
             let s = passed w e in
             record {
               kept = swept-kept w reached _ _ fluxes _ s;
-              inRange = λ t h. sweep-in-range (rule-limited w t) (rule-monotone w t) _ (s .regular) fluxes _ _ _ (swept-cells-air w (reached .fits) _ _ fluxes _ s) (s .serving);
+              inRange = λ t h. swept-in-range w (reached .fits) _ _ fluxes _ s t h;
               alike = λ own v vv a named. swept-alike meshOf startOf countOf fluxes own w v (reached .fits) (vv .fits) a (s .inside);
               apart = λ own other. absurd (true≢false other);
             };
