@@ -88,7 +88,8 @@ reached w calls start i =
       λ call lent. own-refusal (point (loadedWorld w) calls i) call (kept .reached .fits) (rw (kept .sameGrid) lent),
     )
 
--- A list that meets the premise, its answers, counts and totals by computation, so that the theorem is not empty: the world of m9, and calls of every kind, three of them refused
+-- A list that meets the premise, its answers, counts and totals by computation, so that the theorem is not empty: the world of m9, and calls of every kind, three of them refused.
+-- A load in a list tests the world as it stands and leaves it as it is: no call brings in other numbers than those lent.
 abbrev worked : List Call
 worked =
     emission 0 1 268433655 ∷ emission 0 1 1 ∷ withdrawal 0 1 268433600 ∷ emission 0 3 20 ∷
@@ -97,6 +98,8 @@ worked =
     zonal 1 0 (four (pos 0) (pos 1000) (pos 0) (pos 0)) ∷
     remap (0 ∷ 0 ∷ 0 ∷ 32768 ∷ 200 ∷ 0 ∷ 0 ∷ 65536 ∷ []) ∷
     remap (0 ∷ 0 ∷ 200 ∷ 0 ∷ 200 ∷ 0 ∷ 0 ∷ 65536 ∷ []) ∷
+    load ∷
+    total 0 ∷
     cell 0 8 ∷
     []
 
@@ -104,27 +107,27 @@ pub worked-start : Loaded stair
 unfolding computes
 worked-start = refl
 
-pub worked-answers : tab 10 (λ i. step (point (loadedWorld stair) worked i) (callAt worked i) .answer) ≡ 0 ∷ 6 ∷ 0 ∷ 0 ∷ 0 ∷ 0 ∷ 9 ∷ 0 ∷ 12 ∷ 0 ∷ []
+pub worked-answers : tab 12 (λ i. step (point (loadedWorld stair) worked i) (callAt worked i) .answer) ≡ 0 ∷ 6 ∷ 0 ∷ 0 ∷ 0 ∷ 0 ∷ 9 ∷ 0 ∷ 12 ∷ 0 ∷ 0 ∷ 0 ∷ []
 unfolding computes after
 worked-answers = refl
 
-pub worked-counts : tab 10 (λ i. step (point (loadedWorld stair) worked i) (callAt worked i) .count) ≡ 0 ∷ 0 ∷ 0 ∷ 0 ∷ 1 ∷ 1 ∷ 0 ∷ 26 ∷ 0 ∷ 136 ∷ []
+pub worked-counts : tab 12 (λ i. step (point (loadedWorld stair) worked i) (callAt worked i) .count) ≡ 0 ∷ 0 ∷ 0 ∷ 0 ∷ 1 ∷ 1 ∷ 0 ∷ 26 ∷ 0 ∷ 0 ∷ 1875 ∷ 136 ∷ []
 unfolding computes after
 worked-counts = refl
 
-pub worked-totals : tab 11 (λ i. gasTotal (point (loadedWorld stair) worked i) 0) ≡ 1800 ∷ 268435455 ∷ 268435455 ∷ 1855 ∷ replicate 7 1875
+pub worked-totals : tab 13 (λ i. gasTotal (point (loadedWorld stair) worked i) 0) ≡ 1800 ∷ 268435455 ∷ 268435455 ∷ 1855 ∷ replicate 9 1875
 unfolding computes after
 worked-totals = refl
 
-pub worked-air : tab 11 (λ i. airTotal (point (loadedWorld stair) worked i)) ≡ replicate 11 1800
+pub worked-air : tab 13 (λ i. airTotal (point (loadedWorld stair) worked i)) ≡ replicate 13 1800
 unfolding computes after
 worked-air = refl
 
-pub worked-emitted : tab 11 (λ i. history (loadedWorld stair) 0 (take i worked) .emitted) ≡ 0 ∷ replicate 3 268433655 ++ replicate 7 268433675
+pub worked-emitted : tab 13 (λ i. history (loadedWorld stair) 0 (take i worked) .emitted) ≡ 0 ∷ replicate 3 268433655 ++ replicate 9 268433675
 unfolding computes history
 worked-emitted = refl
 
-pub worked-withdrawn : tab 11 (λ i. history (loadedWorld stair) 0 (take i worked) .withdrawn) ≡ replicate 3 0 ++ replicate 8 268433600
+pub worked-withdrawn : tab 13 (λ i. history (loadedWorld stair) 0 (take i worked) .withdrawn) ≡ replicate 3 0 ++ replicate 10 268433600
 unfolding computes history
 worked-withdrawn = refl
 

@@ -10,3 +10,4 @@ pub mod Lists
 pub mod Cases
 pub mod Laws
 pub mod Demand3
+pub mod Corollaries

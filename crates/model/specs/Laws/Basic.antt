@@ -1,7 +1,7 @@
 -- Laws of the words of Basic.antt: sums, lists of values, every, some, smallest, a part of a list and a part written.
 use Prim.Native.Nat.{ℕ, zero, suc, _+_, _*_, _-_, _≤_, _<_}
 use mathlib.Core.List.{List, [], _∷_, _++_, append-assoc}
-use mathlib.Core.Bool.{Bool, true, false, and-eq-true-iff, or-true, _&&_, _||_, false≢true}
+use mathlib.Core.Bool.{Bool, true, false, and-eq-true-iff, or-true, or-false, _&&_, _||_, false≢true}
 use mathlib.Core.Path.{_≡_, refl, sym, _∙_, ap, ap₂}
 use mathlib.Core.Logic.{_⊎_, inl, inr, ⊎-elim}
 use native.Mathlib.Nat.{zero-add, zero-mul, suc-mul, add-zero, add-assoc, mul-zero, le-refl, add-suc, eq-or-lt-of-le}
@@ -179,6 +179,18 @@ unfolding some
 some-true zero p i h e = absurd (omega arith)
 some-true (suc n) p i h e =
     ⊎-elim (λ (u : i ≡ n). ap (λ (b : Bool). some n p || b) (rw u at e) ∙ or-true (some n p)) (λ u. ap (λ (b : Bool). b || p n) (some-true n p i u e)) (below-cases h)
+
+-- a number at which p holds
+pub some-at : (n : ℕ) (p : ℕ → Bool) → some n p ≡ true → (i : ℕ) × (i < n) × (p i ≡ true)
+unfolding some
+some-at zero p e = absurd (false≢true e)
+some-at (suc n) p e = go (some-at n p) (p n) refl
+  where
+    go : (some n p ≡ true → (i : ℕ) × (i < n) × (p i ≡ true)) → (b : Bool) → p n ≡ b → (i : ℕ) × (i < suc n) × (p i ≡ true)
+    go below true q = (n, omega arith, q)
+    go below false q =
+        let r = below (sym (or-false (some n p)) ∙ ap (λ (b : Bool). some n p || b) (sym q) ∙ e) in
+        (r .0, omega (arith, r .1), r .2)
 
 -- p holds at some number unless it holds at none
 pub some-unless : (n : ℕ) (p : ℕ → Bool) → (((i : ℕ) → i < n → p i ≡ false) → ⊥) → some n p ≡ true

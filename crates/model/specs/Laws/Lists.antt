@@ -21,16 +21,23 @@ after-append w [] b = refl
 after-append w (call ∷ a) b = after-append (step w call .next) a b
 
 -- its history: what is exchanged in the first, and then in the second
-record Parted (w : World) (t : ℕ) (a b : List Call) : Type 0 where
-  came : history w t (a ++ b) .emitted ≡ history w t a .emitted + history (after w a) t b .emitted
-  went : history w t (a ++ b) .withdrawn ≡ history w t a .withdrawn + history (after w a) t b .withdrawn
+pub record Parted (w : World) (t : ℕ) (a b : List Call) : Type 0 where
+  pub came : history w t (a ++ b) .emitted ≡ history w t a .emitted + history (after w a) t b .emitted
+  pub went : history w t (a ++ b) .withdrawn ≡ history w t a .withdrawn + history (after w a) t b .withdrawn
 
-history-append : (w : World) (t : ℕ) (a b : List Call) → Parted w t a b
+pub history-append : (w : World) (t : ℕ) (a b : List Call) → Parted w t a b
 unfolding history after
 history-append w t [] b = record { came = omega arith; went = omega arith }
 history-append w t (call ∷ a) b =
     let rest = history-append (step w call .next) t a b in
     record { came = omega (arith, rest .came); went = omega (arith, rest .went) }
+
+-- the calls up to point j are those up to an earlier point i, and those between
+abbrev pub callsBetween : List Call → ℕ → ℕ → List Call
+callsBetween calls i j = take (j - i) (drop i calls)
+
+pub calls-between : (calls : List Call) {i j : ℕ} → i ≤ j → take j calls ≡ take i calls ++ callsBetween calls i j
+calls-between calls {i} {j} le = ap (λ (n : ℕ). take n calls) (sym (add-sub-of-le le)) ∙ take-add i (j - i) calls
 
 -- ---- call i leads from point i to the next; past the list's end stands a load, which promises no range
 pub point-range :
@@ -68,8 +75,8 @@ module _ (keeps : (call : Call) (w : World) → Reached w → StepKeeps w call) 
       HasRatio (point w calls j) t z
   points-ratio i j w calls reached le t z h ratio none =
       let first : List Call = take i calls in
-      let between : List Call = take (j - i) (drop i calls) in
-      let split : take j calls ≡ first ++ between = ap (λ (n : ℕ). take n calls) (sym (add-sub-of-le le)) ∙ take-add i (j - i) calls in
+      let between : List Call = callsBetween calls i j in
+      let split = calls-between calls le in
       let parted = history-append w t first between in
       let same : history w t (first ++ between) ≡ history w t first = rw split at none in
       let now = list-kept w first reached in

@@ -31,7 +31,7 @@ use Rattle.model.specs.Laws.Column.{Edges, edges-serve, new-air-least, n
 
 -- ---- cells by layer k and place c
 module _ (g : Grid) where
-  cell-in : (k c : ℕ) → k < g .K → c < layerCells g → layerStart g k + c < worldCells g
+  pub cell-in : (k c : ℕ) → k < g .K → c < layerCells g → layerStart g k + c < worldCells g
   cell-in k c hk hc = omega (arith, mul-le-mul-right (layerCells g) hk)
 
   layer-in : (i : ℕ) → i < worldCells g → i / layerCells g < g .K
@@ -47,7 +47,7 @@ module _ (g : Grid) where
       (mul-add-div-right (omega arith) k c ∙ rw (div-eq-of-lt hc) (add-zero k))
       (mul-add-mod-self-right k (layerCells g) c ∙ mod-eq-of-lt hc)
 
-  at-column : (l : List ℕ) (c k : ℕ) → k < g .K → at (column g l c) k ≡ at l (layerStart g k + c)
+  pub at-column : (l : List ℕ) (c k : ℕ) → k < g .K → at (column g l c) k ≡ at l (layerStart g k + c)
   unfolding column
   at-column l c k h = at-tab (g .K) _ k h
 
