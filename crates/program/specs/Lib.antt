@@ -5,3 +5,4 @@ pub mod Totals
 pub mod Laws
 pub mod Program
 pub mod Cases
+pub mod Corollaries
