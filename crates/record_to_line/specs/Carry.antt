@@ -39,8 +39,8 @@ module _ {stage r : Stage} (settled : IsSettled stage r) {input : List ℕ} {ans
   same-state : stateOf r b ≡ stateOf stage b
   same-state = plain-state r (settled .taken) b ∙ sym (settled .same b)
 
-  cell-is : readingIs (program.gridOf (stateOf stage b)) input answer ≡ program.found (stateOf stage b) input
-  cell-is = subst (λ (v : program.State). readingIs (program.gridOf v) input answer ≡ program.found v input) same-state (finds .cell b)
+  reading-is : readingIs (program.gridOf (stateOf stage b)) input answer ≡ program.found (stateOf stage b) input
+  reading-is = subst (λ (v : program.State). readingIs (program.gridOf v) input answer ≡ program.found v input) same-state (finds .reading b)
 
   whole-is : FoundWhole (stateOf stage b) (drop 1 input) answer
   whole-is = subst (λ (v : program.State). FoundWhole v (drop 1 input) answer) same-state (finds .whole b)
@@ -49,7 +49,7 @@ module _ {stage r : Stage} (settled : IsSettled stage r) {input : List ℕ} {ans
   unfolding program.outcomeOf
   carries-none e =
       subst (λ (v : program.Finding). Leaves (program.outcomeOf (stateOf stage b) (at input 0) v) outcome.Nothing b b)
-      (ap (readingIs (program.gridOf (stateOf stage b)) input) (sym e) ∙ cell-is)
+      (ap (readingIs (program.gridOf (stateOf stage b)) input) (sym e) ∙ reading-is)
       (record { same = refl; leftIs = refl })
 
   pub carries-fault :
@@ -58,7 +58,7 @@ module _ {stage r : Stage} (settled : IsSettled stage r) {input : List ℕ} {ans
   unfolding program.outcomeOf
   carries-fault {f} {number} e n =
       subst (λ (v : program.Finding). Leaves (program.outcomeOf (stateOf stage b) (at input 0) v) (outcome.Last (record { kind = at input 0; answer = number; count = 0 })) b b)
-      (ap (readingIs (program.gridOf (stateOf stage b)) input) (sym e) ∙ cell-is)
+      (ap (readingIs (program.gridOf (stateOf stage b)) input) (sym e) ∙ reading-is)
       (record { same = ap (λ (m : ℕ). program.last (program.line (at input 0) m 0)) n; leftIs = refl })
 
 -- ---- a stage at which a record other than a grid's is in place has a grid that the program took
@@ -93,7 +93,7 @@ module _
   grid-is = grid ∙ sym (ap program.gridOf (settled .same b) ∙ grid-any r b)
 
   found-is : program.command (commandIs (program.gridOf (stateOf stage b)) (drop 1 input) c) ≡ program.found (stateOf stage b) input
-  found-is = ap (readingIs (program.gridOf (stateOf stage b)) input) (sym e) ∙ cell-is settled finds b
+  found-is = ap (readingIs (program.gridOf (stateOf stage b)) input) (sym e) ∙ reading-is settled finds b
 
   command-is : commandIs (gridOf g) (take (length input - 1) (drop 1 input)) c ≡ commandIs (program.gridOf (stateOf stage b)) (drop 1 input) c
   command-is = ap₂ (λ (x : model.Grid) (b : List ℕ). commandIs x b c) grid-is (take-rest input 1)

@@ -38,5 +38,5 @@ FoundWhole s body (Record c) = IsWhole s body c
 
 -- the reader finds what the model finds, whatever the buffers hold
 pub record Finds (stage : Stage) (input : List ℕ) (r : found.Found) : Type 0 where
-  pub cell : (b : Buffers) → readingIs (program.gridOf (stateOf stage b)) input r ≡ program.found (stateOf stage b) input
+  pub reading : (b : Buffers) → readingIs (program.gridOf (stateOf stage b)) input r ≡ program.found (stateOf stage b) input
   pub whole : (b : Buffers) → FoundWhole (stateOf stage b) (drop 1 input) r

@@ -74,7 +74,7 @@ parse-need k input s g placed whole =
 
 pub finds-nothing : (stage : Stage) (input : List ℕ) → length input ≡ 0 → Finds stage input Nothing
 unfolding program.found
-finds-nothing stage [] e = record { cell = λ b. refl; whole = λ b. tt }
+finds-nothing stage [] e = record { reading = λ b. refl; whole = λ b. tt }
 finds-nothing stage (byte ∷ body) e = absurd (omega (arith, e))
 
 module _
@@ -98,7 +98,7 @@ module _
   pub finds-misplaced : program.inPlace (plainState r empty) k ≡ false → Finds stage input (Faulty fault.Kind)
   finds-misplaced e =
       record {
-        cell =
+        reading =
             λ b.
             sym (ap (program.found (stateOf stage b)) split ∙ found-misplaced _ (at input 0) (drop 1 input) (in-state b false e));
         whole = λ b. tt;
@@ -108,7 +108,7 @@ module _
     pub finds-short : length input - 1 < program.bodyLength g k → Finds stage input (Faulty fault.Length)
     finds-short h =
         record {
-          cell =
+          reading =
               λ b.
               sym
               (ap (program.found (stateOf stage b)) split ∙
@@ -124,7 +124,7 @@ module _
       pub finds-record : Finds stage input (Record c)
       finds-record =
           record {
-            cell =
+            reading =
                 λ b.
                 ap program.command (commands _ ∙ ap (λ (x : program.Kind). program.commandOf (program.gridOf (stateOf stage b)) x (drop 1 input)) kind) ∙
                 sym
