@@ -9,10 +9,15 @@ pub type Pieces = Vec<Vec<u8>>;
 
 /// The first inputs are on small grids, so that a difference is met in a small one.
 const SMALL_ONES: u64 = 500;
+/// One input in so many is long, the last of each hundred.
+const LONG_ONES: u64 = 100;
 
 /// The input with this number.
 pub fn input(number: u64) -> Pieces {
     let mut random = Random::new(number + 1);
+    if number % LONG_ONES == LONG_ONES - 1 {
+        return long(&mut random);
+    }
     let way = random.below(20);
     if way == 0 {
         return vec![any_bytes(&mut random)];
@@ -27,6 +32,24 @@ pub fn input(number: u64) -> Pieces {
         9..=11 => cut_off(&mut random, pieces),
         _ => pieces,
     }
+}
+
+/// More than 1,000 records on a small grid, each in its place and whole, so that the program reads them all.
+fn long(random: &mut Random) -> Pieces {
+    let grid = program_grid(random, false);
+    let size = random.between(1_000, 1_500);
+    whole(random, grid, size, 200)
+}
+
+/// An input of so many records on a small grid, handed on record by record.
+pub fn long_loop(records: u64, take: impl FnMut(Vec<u8>)) {
+    let grid = Grid {
+        w: 4,
+        r: 2,
+        k: 2,
+        n: 2,
+    };
+    each_of_whole(&mut Random::new(1), grid, records - 1, 1_000, take);
 }
 
 /// One long input on a grid of as many cells as the program takes.
@@ -92,26 +115,38 @@ fn refused_grid(random: &mut Random) -> Vec<u8> {
     [vec![1], grid.to_vec()].concat()
 }
 
-/// The grid and records after it, each in its place and whole. One record in `loads` is a load.
+/// The grid and `size` records after it, each in its place and whole. One record in `loads` is a load.
 fn whole(random: &mut Random, grid: Grid, size: u64, loads: u64) -> Pieces {
-    let mut pieces = vec![records::grid(&grid)];
+    let mut pieces = Vec::new();
+    each_of_whole(random, grid, size, loads, |piece| pieces.push(piece));
+    pieces
+}
+
+/// The records of `whole`, handed on one by one.
+fn each_of_whole(
+    random: &mut Random,
+    grid: Grid,
+    size: u64,
+    loads: u64,
+    mut take: impl FnMut(Vec<u8>),
+) {
+    take(records::grid(&grid));
     let mut world: Option<World> = None;
     for _ in 0..size {
         match world.as_mut() {
             Some(world) if !random.one_in(loads) => {
                 let asked = next_call(random, world);
                 reference::call(world, &asked);
-                pieces.push(records::call(&asked));
+                take(records::call(&asked));
             }
             _ => {
                 let mut next = next_world(random, grid, world.take());
-                pieces.push(records::load(&next));
+                take(records::load(&next));
                 let answer = reference::call(&mut next, &Call::Load);
                 world = (answer.number == 0).then_some(next);
             }
         }
     }
-    pieces
 }
 
 /// The numbers of a load, of the grid's lengths; now and then those that are loaded already.

@@ -6,6 +6,7 @@
 //!     compare --script [LISTS]            prints lists in small worlds as a script, for another caller
 //!     compare runner [INPUTS [PROGRAM]]   the runner program in place of the calls (default 20,000 inputs)
 //!     compare long-run                    writes one long input of the runner
+//!     compare long-loop [RECORDS]         writes an input of so many records (default 5,000,000)
 
 mod inputs;
 #[rustfmt::skip]
@@ -184,12 +185,21 @@ fn script(lists: u64) {
     }
 }
 
+/// Writes an input of so many records.
+fn long_loop(records: u64) {
+    let mut output = std::io::BufWriter::new(std::io::stdout().lock());
+    inputs::long_loop(records, |record| {
+        output.write_all(&record).expect("standard output")
+    });
+    output.flush().expect("standard output");
+}
+
 fn main() -> ExitCode {
     let arguments: Vec<String> = std::env::args().skip(1).collect();
     let number = |place: usize, default| {
-        arguments
-            .get(place)
-            .map_or(default, |s| s.parse().expect("how many lists or inputs"))
+        arguments.get(place).map_or(default, |s| {
+            s.parse().expect("how many lists, inputs or records")
+        })
     };
     match arguments.first().map(String::as_str) {
         Some("--script") => script(number(1, 2_000)),
@@ -200,6 +210,7 @@ fn main() -> ExitCode {
         Some("long-run") => std::io::stdout()
             .write_all(&inputs::long_run().concat())
             .expect("standard output"),
+        Some("long-loop") => long_loop(number(1, 5_000_000)),
         _ => compare_calls(number(0, 2_000)),
     }
     ExitCode::SUCCESS

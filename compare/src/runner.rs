@@ -11,6 +11,8 @@ use std::time::Duration;
 const FULL: u64 = 3_000;
 /// One input in so many is written slowly, so that the program's reads return parts of records.
 const SLOW: u64 = 32;
+/// So many lines of the text and of each output are printed, the last ones; the files have the whole input.
+const SHOWN: usize = 40;
 const RECORDS: &str = concat!(env!("CARGO_MANIFEST_DIR"), "/../tools/records");
 const DIFFERENCE: &str = concat!(env!("CARGO_MANIFEST_DIR"), "/target/difference");
 
@@ -118,14 +120,26 @@ impl Tested<'_> {
             .output()
             .expect("tools/records");
         std::fs::write(&text_file, &decoded.stdout).expect("the file of the text");
-        println!("{}", String::from_utf8_lossy(&decoded.stdout));
-        println!("{}:\n{}", self.program, self.printed(&pieces));
-        println!("second implementation:\n{}", expected(&pieces));
+        println!("{}", ending(&String::from_utf8_lossy(&decoded.stdout)));
+        println!("{}:\n{}", self.program, ending(&self.printed(&pieces)));
+        println!("second implementation:\n{}", ending(&expected(&pieces)));
         println!("the input: {file}, as text: {text_file}");
         if self.slow {
             println!("(written slowly, in two parts for each record)");
         }
     }
+}
+
+/// The last lines of a text, with the number of those left out.
+fn ending(text: &str) -> String {
+    let lines: Vec<&str> = text.split_inclusive('\n').collect();
+    let left_out = lines.len().saturating_sub(SHOWN);
+    let note = if left_out == 0 {
+        String::new()
+    } else {
+        format!("({left_out} lines before these)\n")
+    };
+    note + &lines[left_out..].concat()
 }
 
 /// Writes the input. A program that has ended does not read the rest, which is no fault.

@@ -1,5 +1,6 @@
 // What a substep does in a row and in a layer alike, over lent lists: the parts of the fluxes, the ratios, a piece, and what a cell has afterwards.
-// A lent list holds numbers; `Air(..)` and `Tracer(..)` stand where air and tracer meet.
+// A lent list holds numbers, and its parameter's name says of what: air, or a tracer (gas). A number becomes an amount, `Air(..)` or `Tracer(..)`, where it is read; amounts are added and subtracted only by functions that take and give amounts of one unit.
+// `airup` and `airdown` hold the air that passes each face towards its high and towards its low side, `gasup` and `gasdown` the tracer that it carries.
 ghost use mathlib.Core.Path.{_≡_};
 ghost use Prim.Native.Nat.{_+_, _-_, _≤_};
 ghost use lib.ListN.{length};
@@ -16,12 +17,14 @@ use scheme::ratio;
 use scheme::split;
 use units::AIR_LIMIT;
 use units::Air;
+use units::AirSum;
 use units::Tracer;
+use units::TracerSum;
 
-// Part s of n of each flux: what passes its face towards the high side, and towards the low side.
-pub fn fill_parts(fluxes: &[i32], n: u32, s: u32, up: &mut [u32], down: &mut [u32])
-    requires { ⌜ PartsNeed (length (now fluxes)) n s (length (now up)) (length (now down)) ⌝ }
-    ensures { λ r. ⌜ AreParts (now (fluxes .entry)) n s (now (up .exit)) (now (down .exit)) ⌝ }
+// Part s of n of each flux: the air that passes its face towards the high side, and towards the low side.
+pub fn fill_parts(fluxes: &[i32], n: u32, s: u32, airup: &mut [u32], airdown: &mut [u32])
+    requires { ⌜ PartsNeed (length (now fluxes)) n s (length (now airup)) (length (now airdown)) ⌝ }
+    ensures { λ r. ⌜ AreParts (now (fluxes .entry)) n s (now (airup .exit)) (now (airdown .exit)) ⌝ }
 {
     let mut i = 0;
     while i < fluxes.len() {
@@ -29,8 +32,8 @@ pub fn fill_parts(fluxes: &[i32], n: u32, s: u32, up: &mut [u32], down: &mut [u3
         let f = split(x);
         let high = flux_part(n, s, f.to_high);
         let low = flux_part(n, s, f.to_low);
-        up[i] = high.0;
-        down[i] = low.0;
+        airup[i] = high.0;
+        airdown[i] = low.0;
         i += 1;
     }
 }
@@ -75,27 +78,41 @@ pub fn low_end(air: &[u32], gas: &[u32], q: &[u64], a: usize, c: usize, b: usize
     low_piece(mismatch(q[a], q[c], q[b]), Air(have), Tracer(amount), m)
 }
 
-// What passes two faces together.
-pub fn both(x: u32, y: u32) -> u64
-    ensures { λ r. ⌜ (r ≡ x + y) × (r ≤ 8589934590) ⌝ }
+// What passes two faces together, of air and of a tracer.
+pub fn both_air(x: Air, y: Air) -> AirSum
+    ensures { λ r. ⌜ (r .0 ≡ x .0 + y .0) × (r .0 ≤ 8589934590) ⌝ }
 {
-    (x as u64) + (y as u64)
+    AirSum((x.0 as u64) + (y.0 as u64))
+}
+
+pub fn both_tracers(x: Tracer, y: Tracer) -> TracerSum
+    ensures { λ r. ⌜ (r .0 ≡ x .0 + y .0) × (r .0 ≤ 8589934590) ⌝ }
+{
+    TracerSum((x.0 as u64) + (y.0 as u64))
 }
 
 // Whether a cell gives no more air than it has, and then has 1 to 65,535.
-pub fn cell_allows(have: Air, enters: u64, leaves: u64) -> bool
-    requires { ⌜ Sums enters leaves ⌝ }
-    ensures { λ r. ⌜ r ≡ mayPass (have .0) enters leaves ⌝ }
+pub fn cell_allows(have: Air, enters: AirSum, leaves: AirSum) -> bool
+    requires { ⌜ Sums (enters .0) (leaves .0) ⌝ }
+    ensures { λ r. ⌜ r ≡ mayPass (have .0) (enters .0) (leaves .0) ⌝ }
 {
     let m = have.0 as u64;
-    let all = m + enters;
-    (leaves <= m) & ((leaves + 1 <= all) & (all <= leaves + (AIR_LIMIT as u64)))
+    let all = m + enters.0;
+    let out = leaves.0;
+    (out <= m) & ((out + 1 <= all) & (all <= out + (AIR_LIMIT as u64)))
 }
 
-// A cell's amount, of air or of a tracer, with what enters it and without what leaves it.
-pub fn amount_after(have: u32, enters: u64, leaves: u64) -> u32
-    requires { ⌜ CellFlows have enters leaves ⌝ }
-    ensures { λ r. ⌜ r ≡ have + enters - leaves ⌝ }
+// A cell's air, and its amount of a tracer, with what enters it and without what leaves it.
+pub fn air_after(have: Air, enters: AirSum, leaves: AirSum) -> Air
+    requires { ⌜ CellFlows (have .0) (enters .0) (leaves .0) ⌝ }
+    ensures { λ r. ⌜ r .0 ≡ have .0 + enters .0 - leaves .0 ⌝ }
 {
-    ((have as u64) + enters - leaves) as u32
+    Air(((have.0 as u64) + enters.0 - leaves.0) as u32)
+}
+
+pub fn tracer_after(have: Tracer, enters: TracerSum, leaves: TracerSum) -> Tracer
+    requires { ⌜ CellFlows (have .0) (enters .0) (leaves .0) ⌝ }
+    ensures { λ r. ⌜ r .0 ≡ have .0 + enters .0 - leaves .0 ⌝ }
+{
+    Tracer(((have.0 as u64) + enters.0 - leaves.0) as u32)
 }

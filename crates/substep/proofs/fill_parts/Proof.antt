@@ -36,7 +36,7 @@ loop-again c =
       search needs,
       search needs,
       search needs,
-      same-more (l .up) (l .down) (search needs) (search needs) (l .inv .3)
+      same-more (l .airup) (l .airdown) (search needs) (search needs) (l .inv .3)
           (c .before .flux-part .ensures .is ∙ ap (fluxPart _ _) (halves .high ∙ ap forward same))
           (c .flux-part2 .ensures .is ∙ ap (fluxPart _ _) (halves .low ∙ ap backward same)),
     )
@@ -60,10 +60,10 @@ fill-parts-spec =
     (λ c κs. search needs)  -- split-requires
     (λ c κs. search needs)  -- flux-part-requires
     (λ c κs. search needs)  -- flux-part-requires-2
-    (λ c. search needs)  -- mul-up
-    (λ c. search needs)  -- slice-write-up
-    (λ c. search needs)  -- mul-down
-    (λ c. search needs)  -- slice-write-down
+    (λ c. search needs)  -- mul-airup
+    (λ c. search needs)  -- slice-write-airup
+    (λ c. search needs)  -- mul-airdown
+    (λ c. search needs)  -- slice-write-airdown
     (λ c. search needs)  -- add-i
     (λ c. search needs)  -- loop-less
     loop-again
