@@ -121,6 +121,10 @@ scheme =
     (sweep (pos 100) (negℤ (pos 290)) (negℤ (pos 300)) (negℤ (pos 220))) 2
     (six 500 80 690 210 270 500)
     (six 10 67 694 112 147 77) ∷
+    gives "x9 cap near the lower end of its range" (row (six 511 64665 64665 64665 64665 263) (six 690 87317 87317 87317 87317 2104))
+    (eight (negℤ (pos 12604)) (negℤ (pos 12604)) (negℤ (pos 12604)) (negℤ (pos 12604)) (pos 0) (pos 0) (pos 0) (pos 0)) 1
+    (six 50927 52061 52061 52061 52061 263)
+    (six 68762 70299 70299 70299 70299 2104) ∷
     []
 
 -- x7, places 1 and 2
