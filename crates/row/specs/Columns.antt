@@ -1,13 +1,14 @@
--- The columns of a row as the cells of the ring, and what the functions of a row require.
-use Prim.Native.Nat.{ℕ, _+_, _≤_, _<_}
+-- The columns of a row as the cells of the ring, what the functions of a row require, and the laws of the loop of `pass_air` and `pass_gas`.
+use Prim.Native.Nat.{ℕ, _+_, _-_, _≤_, _<_}
 use mathlib.Core.List.{List}
 use mathlib.Core.Path.{_≡_, refl, sym}
-use lib.ListN.{length}
-use Rattle.model.specs.Basic.{every}
-use Rattle.model.specs.Sweep.{Flow, ring, eastOf, westOf, leaving, allowed, cellMismatch}
+use native.Mathlib.Omega.{arith}
+use lib.ListN.{length, set}
+use Rattle.model.specs.Basic.{at, every}
+use Rattle.model.specs.Sweep.{Flow, ring, eastOf, westOf, leaving, allowed, afterFlow, cellMismatch}
 use Rattle.model.specs.Laws.Ring.{west-in, east-in, ring-regular}
 use Rattle.substep.specs.Faces.{flowOf}
-use Rattle.substep.specs.Cells.{Cell, Moves, cellAllowed}
+use Rattle.substep.specs.Cells.{Cell, CellFlows, Moves, Moved, cellAllowed, moved-none, moved-exchange, moved-more, all-moved}
 use Rattle.substep.specs.Pieces.{Neighbours}
 
 -- lists that have what passes each of w faces
@@ -43,3 +44,29 @@ module _ (w i : ℕ) (h : i < w) where
   pub back-west : (east : ℕ) → east ≡ eastOf w i → i ≡ westOf w east
   unfolding ring
   back-west east e = rw e (sym (ring-regular w .highHas i h))
+
+-- ---- a row as a loop passes it on, column after column, of air and of a tracer alike
+-- the first i columns have what the substep leaves there, the others what they had
+pub record PassedTo (amounts up down now : List ℕ) (i : ℕ) : Type 0 where
+  pub inside : i ≤ length amounts
+  pub moved : Moved (ring (length amounts)) (flowOf up down) amounts now i
+
+module _ {amounts up down : List ℕ} (need : Passing amounts up down) where
+  pub passed-none : PassedTo amounts up down amounts 0
+  passed-none = record { inside = omega arith; moved = moved-none (need .moves) }
+
+  -- column i, which gets e and gives l through its two faces
+  module _ {now : List ℕ} {i west e l : ℕ} (passed : PassedTo amounts up down now i) (h : i < length amounts)
+      (is-west : west ≡ westOf (length amounts) i) (enters : e ≡ at up west + at down i) (leaves : l ≡ at down west + at up i) where
+    own : Cell (ring (length amounts)) (flowOf up down) i e l
+    own = column (length amounts) i h (flowOf up down) is-west enters leaves
+
+    pub column-passes : CellFlows (at now i) e l
+    column-passes = moved-exchange (need .moves) (passed .moved) own
+
+    pub passed-more : {x : ℕ} → x ≡ at now i + e - l → PassedTo amounts up down (set now i x) (i + 1)
+    passed-more is = record { inside = omega arith; moved = moved-more (need .moves) (passed .moved) own is }
+
+  pub passed-all : {now : List ℕ} {i : ℕ} → PassedTo amounts up down now i → i ≡ length amounts → now ≡ afterFlow (ring (length amounts)) (flowOf up down) amounts
+  unfolding ring
+  passed-all passed done = all-moved (need .moves) (rw done at (passed .moved))

@@ -1,4 +1,4 @@
-// One row of a layer: whether a substep is allowed, the substep in a row's amounts, and the number of substeps.
+// One row of a layer: whether a substep is allowed, the substep in its air and in a tracer's amounts, and the number of substeps.
 ghost use mathlib.Core.Path.{_≡_};
 ghost use Prim.Native.Nat.{_<_};
 ghost use lib.ListN.{length};
@@ -6,13 +6,16 @@ ghost use Rattle.model.specs.Sweep.{ring, eastOf, westOf, allowed, afterFlow, s
 ghost use Rattle.substep.specs.Faces.{flowOf};
 ghost use Rattle.row.specs.Columns.{FaceRoom, Passing};
 ghost use Rattle.row.specs.Substeps.{rowMesh, RowNeed, IsFound};
-use substep::amount_after;
-use substep::both;
+use substep::air_after;
+use substep::both_air;
+use substep::both_tracers;
 use substep::cell_allows;
 use substep::fill_parts;
+use substep::tracer_after;
 use units::Air;
 use units::MOST_COLUMNS;
 use units::MOST_SUBSTEPS;
+use units::Tracer;
 
 // The columns east and west of column i in a row of w.
 pub fn east_of(w: usize, i: usize) -> usize
@@ -42,32 +45,50 @@ pub fn copy(from: &[u32], to: &mut [u32])
 }
 
 // Whether the substep is allowed in every column.
-fn row_allowed(air: &[u32], up: &[u32], down: &[u32]) -> bool
-    requires { ⌜ FaceRoom (length (now air)) (now up) (now down) ⌝ }
-    ensures { λ r. ⌜ r ≡ allowed (ring (length (now (air .entry)))) (flowOf (now (up .entry)) (now (down .entry))) (now (air .entry)) ⌝ }
+fn row_allowed(air: &[u32], airup: &[u32], airdown: &[u32]) -> bool
+    requires { ⌜ FaceRoom (length (now air)) (now airup) (now airdown) ⌝ }
+    ensures { λ r. ⌜ r ≡ allowed (ring (length (now (air .entry)))) (flowOf (now (airup .entry)) (now (airdown .entry))) (now (air .entry)) ⌝ }
 {
     let w = air.len();
     let mut ok = true;
     let mut i = 0;
     while i < w {
         let west = west_of(w, i);
-        let have = air[i];
-        ok = ok & cell_allows(Air(have), both(up[west], down[i]), both(down[west], up[i]));
+        let enters = both_air(Air(airup[west]), Air(airdown[i]));
+        let leaves = both_air(Air(airdown[west]), Air(airup[i]));
+        ok = ok & cell_allows(Air(air[i]), enters, leaves);
         i += 1;
     }
     ok
 }
 
-// Passes on a row's amounts, of air or of a tracer, by what passes each face.
-pub fn pass_row(amounts: &mut [u32], up: &[u32], down: &[u32])
-    requires { ⌜ Passing (now amounts) (now up) (now down) ⌝ }
-    ensures { λ r. ⌜ now (amounts .exit) ≡ afterFlow (ring (length (now (amounts .entry)))) (flowOf (now (up .entry)) (now (down .entry))) (now (amounts .entry)) ⌝ }
+// Passes on a row's air, and a tracer's amounts in a row, by what passes each face.
+pub fn pass_air(air: &mut [u32], airup: &[u32], airdown: &[u32])
+    requires { ⌜ Passing (now air) (now airup) (now airdown) ⌝ }
+    ensures { λ r. ⌜ now (air .exit) ≡ afterFlow (ring (length (now (air .entry)))) (flowOf (now (airup .entry)) (now (airdown .entry))) (now (air .entry)) ⌝ }
 {
-    let w = amounts.len();
+    let w = air.len();
     let mut i = 0;
     while i < w {
         let west = west_of(w, i);
-        amounts[i] = amount_after(amounts[i], both(up[west], down[i]), both(down[west], up[i]));
+        let enters = both_air(Air(airup[west]), Air(airdown[i]));
+        let leaves = both_air(Air(airdown[west]), Air(airup[i]));
+        air[i] = air_after(Air(air[i]), enters, leaves).0;
+        i += 1;
+    }
+}
+
+pub fn pass_gas(gas: &mut [u32], gasup: &[u32], gasdown: &[u32])
+    requires { ⌜ Passing (now gas) (now gasup) (now gasdown) ⌝ }
+    ensures { λ r. ⌜ now (gas .exit) ≡ afterFlow (ring (length (now (gas .entry)))) (flowOf (now (gasup .entry)) (now (gasdown .entry))) (now (gas .entry)) ⌝ }
+{
+    let w = gas.len();
+    let mut i = 0;
+    while i < w {
+        let west = west_of(w, i);
+        let enters = both_tracers(Tracer(gasup[west]), Tracer(gasdown[i]));
+        let leaves = both_tracers(Tracer(gasdown[west]), Tracer(gasup[i]));
+        gas[i] = tracer_after(Tracer(gas[i]), enters, leaves).0;
         i += 1;
     }
 }
@@ -77,15 +98,15 @@ fn serves(air: &mut [u32], fluxes: &[i32], n: u32) -> bool
     requires { ⌜ RowNeed (now air) (now fluxes) ⌝ }
     ensures { λ r. ⌜ r ≡ serves (rowMesh (now (fluxes .entry))) (now (fluxes .entry)) (now (air .entry)) n ⌝ }
 {
-    let mut up = [0u32; MOST_COLUMNS];
-    let mut down = [0u32; MOST_COLUMNS];
+    let mut airup = [0u32; MOST_COLUMNS];
+    let mut airdown = [0u32; MOST_COLUMNS];
     let mut s = 0;
     while s < n {
-        fill_parts(fluxes, n, s + 1, &mut up, &mut down);
-        if row_allowed(&air[..], &up, &down) {} else {
+        fill_parts(fluxes, n, s + 1, &mut airup, &mut airdown);
+        if row_allowed(&air[..], &airup, &airdown) {} else {
             return false;
         }
-        pass_row(air, &up, &down);
+        pass_air(air, &airup, &airdown);
         s += 1;
     }
     true

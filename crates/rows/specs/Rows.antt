@@ -93,6 +93,10 @@ module _ {tracers : List ℕ} {first cells w n : ℕ} {rows : List (List ℕ)} (
       let below : suc t * cells ≤ n * cells = mul-le-mul-right cells h in
       length-part tracers (t * cells) cells (omega (arith, need .fit .long))
 
+  -- each tracer's row has room for the columns
+  pub row-wide : {t : ℕ} → t < n → w ≤ length (getD rows t [])
+  row-wide {t} h = omega (arith, need .wideRows t h, need .fit .fewColumns)
+
   length-row-of : (t : ℕ) → t < n → length (rowOf w rows t) ≡ w
   length-row-of t h = length-row n rows (need .wideRows) w t h (need .fit .fewColumns)
 

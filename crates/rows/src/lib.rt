@@ -7,7 +7,8 @@ ghost use Rattle.rows.specs.Rows.{RowsFit, AreRows, StoreNeed, storedRow
 ghost use Rattle.rows.specs.Swept.{SweepNeed, AreSwept};
 use row::copy;
 use row::east_of;
-use row::pass_row;
+use row::pass_air;
+use row::pass_gas;
 use row::west_of;
 use substep::fill_parts;
 use substep::fill_ratios;
@@ -22,13 +23,13 @@ fn fill_pieces(
     air: &[u32],
     gas: &[u32],
     q: &[u64],
-    up: &[u32],
-    down: &[u32],
-    high: &mut [u32],
-    low: &mut [u32],
+    airup: &[u32],
+    airdown: &[u32],
+    gasup: &mut [u32],
+    gasdown: &mut [u32],
 )
-    requires { ⌜ PiecesNeed (now air) (now gas) (now q) (now up) (now down) (now high) (now low) ⌝ }
-    ensures { λ r. ⌜ ArePieces (now (air .entry)) (now (gas .entry)) (flowOf (now (up .entry)) (now (down .entry))) (flowOf (now (high .exit)) (now (low .exit))) ⌝ }
+    requires { ⌜ PiecesNeed (now air) (now gas) (now q) (now airup) (now airdown) (now gasup) (now gasdown) ⌝ }
+    ensures { λ r. ⌜ ArePieces (now (air .entry)) (now (gas .entry)) (flowOf (now (airup .entry)) (now (airdown .entry))) (flowOf (now (gasup .exit)) (now (gasdown .exit))) ⌝ }
 {
     let w = air.len();
     let mut i = 0;
@@ -36,45 +37,45 @@ fn fill_pieces(
         let west = west_of(w, i);
         let east = east_of(w, i);
         let next = east_of(w, east);
-        let eastward = up[i];
-        let westward = down[i];
-        let p = high_end(air, gas, q, west, i, east, Air(eastward));
-        let r = low_end(air, gas, q, i, east, next, Air(westward));
-        high[i] = p.0;
-        low[i] = r.0;
+        let eastward = Air(airup[i]);
+        let westward = Air(airdown[i]);
+        let p = high_end(air, gas, q, west, i, east, eastward);
+        let r = low_end(air, gas, q, i, east, next, westward);
+        gasup[i] = p.0;
+        gasdown[i] = r.0;
         i += 1;
     }
 }
 
 // A tracer's amounts in a row after one substep.
-fn step_gas(gas: &mut [u32], air: &[u32], up: &[u32], down: &[u32])
-    requires { ⌜ StepNeed (now gas) (now air) (now up) (now down) ⌝ }
-    ensures { λ r. ⌜ now (gas .exit) ≡ rowStepped (now (gas .entry)) (now (air .entry)) (now (up .entry)) (now (down .entry)) ⌝ }
+fn step_gas(gas: &mut [u32], air: &[u32], airup: &[u32], airdown: &[u32])
+    requires { ⌜ StepNeed (now gas) (now air) (now airup) (now airdown) ⌝ }
+    ensures { λ r. ⌜ now (gas .exit) ≡ rowStepped (now (gas .entry)) (now (air .entry)) (now (airup .entry)) (now (airdown .entry)) ⌝ }
 {
     let mut q = [0u64; MOST_COLUMNS];
-    let mut high = [0u32; MOST_COLUMNS];
-    let mut low = [0u32; MOST_COLUMNS];
+    let mut gasup = [0u32; MOST_COLUMNS];
+    let mut gasdown = [0u32; MOST_COLUMNS];
     fill_ratios(air, &gas[..], air.len(), &mut q);
-    fill_pieces(air, &gas[..], &q, up, down, &mut high, &mut low);
-    pass_row(gas, &high, &low);
+    fill_pieces(air, &gas[..], &q, airup, airdown, &mut gasup, &mut gasdown);
+    pass_gas(gas, &gasup, &gasdown);
 }
 
 // The rows of the first `tracers` tracers after one substep.
 fn step_rows(
     mut rows: [[u32; MOST_COLUMNS]; MOST_TRACERS],
     air: &[u32],
-    up: &[u32],
-    down: &[u32],
+    airup: &[u32],
+    airdown: &[u32],
     tracers: usize,
 ) -> [[u32; MOST_COLUMNS]; MOST_TRACERS]
-    requires { ⌜ StepsNeed tracers rows (now air) (now up) (now down) ⌝ }
-    ensures { λ r. ⌜ AreSteps tracers rows (now (air .entry)) (now (up .entry)) (now (down .entry)) r ⌝ }
+    requires { ⌜ StepsNeed tracers rows (now air) (now airup) (now airdown) ⌝ }
+    ensures { λ r. ⌜ AreSteps tracers rows (now (air .entry)) (now (airup .entry)) (now (airdown .entry)) r ⌝ }
 {
     let w = air.len();
     let mut t = 0;
     while t < tracers {
         let mut row = rows[t];
-        step_gas(&mut row[0..w], air, up, down);
+        step_gas(&mut row[0..w], air, airup, airdown);
         rows[t] = row;
         t += 1;
     }
@@ -140,14 +141,14 @@ pub fn sweep_rows(
     ensures { λ r. ⌜ AreSwept rows (now (air .entry)) (now (fluxes .entry)) n tracers (now (air .exit)) r ⌝ }
 {
     let mut current = rows;
-    let mut up = [0u32; MOST_COLUMNS];
-    let mut down = [0u32; MOST_COLUMNS];
+    let mut airup = [0u32; MOST_COLUMNS];
+    let mut airdown = [0u32; MOST_COLUMNS];
     let mut s = 0;
     while s < n {
-        fill_parts(fluxes, n, s + 1, &mut up, &mut down);
-        let next = step_rows(current, &air[..], &up, &down, tracers);
+        fill_parts(fluxes, n, s + 1, &mut airup, &mut airdown);
+        let next = step_rows(current, &air[..], &airup, &airdown, tracers);
         current = next;
-        pass_row(air, &up, &down);
+        pass_air(air, &airup, &airdown);
         s += 1;
     }
     current

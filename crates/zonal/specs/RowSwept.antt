@@ -126,6 +126,9 @@ module _ {w : World} {k r : ℕ} {fluxes : List ℤ} {p : Placed} (found : RowFo
   abbrev lent : List ℕ
   lent = lentRow w (p .first)
 
+  lent-is : lent ≡ rowAir w k r
+  lent-is = row-lent (found .row) k r (found .start)
+
   pub row-ready : RowReady (w .grid) (w .tracers) lent (p .first) fluxes (p .found)
   unfolding ring
   row-ready =
@@ -137,10 +140,10 @@ module _ {w : World} {k r : ℕ} {fluxes : List ℤ} {p : Placed} (found : RowFo
         inside = found .row .inside;
         most = found .most;
         serving =
-            ap₂ (λ (m : ℕ) (l : List ℕ). serves (ring m) fluxes l (p .found)) (found .row .long) (row-lent (found .row)) ∙
+            ap₂ (λ (m : ℕ) (l : List ℕ). serves (ring m) fluxes l (p .found)) (found .row .long) lent-is ∙
             (rw (found .count) (sweeps .serving));
         airIn =
-            rw (row-lent (found .row), found .row .long)
+            rw (lent-is, found .row .long)
             (cells-in (rowStart (w .grid) k r) (w .grid .W) (worldCells (w .grid)) (sweeps .inside) (w .air) (found .row .fits .air));
         total = found .row .fits .totals;
       }
@@ -150,7 +153,7 @@ module _ {w : World} {k r : ℕ} {fluxes : List ℤ} {p : Placed} (found : RowFo
     air-end : new ≡ airAfter (ring (w .grid .W)) fluxes (zonalCount w k r fluxes) (rowAir w k r) (zonalCount w k r fluxes)
     air-end =
         done .airIs ∙
-        ap₂ (λ (m : ℕ) (l : List ℕ). airAfter (ring m) fluxes (p .found) l (p .found)) (found .row .long) (row-lent (found .row)) ∙
+        ap₂ (λ (m : ℕ) (l : List ℕ). airAfter (ring m) fluxes (p .found) l (p .found)) (found .row .long) lent-is ∙
         ap (λ (n : ℕ). airAfter (ring (w .grid .W)) fluxes n (rowAir w k r) n) (found .count)
 
     new-long : length new ≡ w .grid .W
@@ -167,7 +170,7 @@ module _ {w : World} {k r : ℕ} {fluxes : List ℤ} {p : Placed} (found : RowFo
         accepted-agrees (none (found .left)) refl (found .count)
         (ap₂ (withAmounts w)
         (put-back (w .air) new (p .first) (w .grid .W) new-long ∙
-        ap₂ (λ (i : ℕ) (l : List ℕ). written (w .air) i l) (found .row .start) air-end)
+        ap₂ (λ (i : ℕ) (l : List ℕ). written (w .air) i l) (found .start) air-end)
         (done .tracersAre ∙
-        ap₂ (λ (i n : ℕ). sweptTracers (w .grid) (w .tracers) lent i fluxes n) (found .row .start) (found .count) ∙
-        ap (λ (l : List ℕ). sweptTracers (w .grid) (w .tracers) l (rowStart (w .grid) k r) fluxes (zonalCount w k r fluxes)) (row-lent (found .row))))
+        ap₂ (λ (i n : ℕ). sweptTracers (w .grid) (w .tracers) lent i fluxes n) (found .start) (found .count) ∙
+        ap (λ (l : List ℕ). sweptTracers (w .grid) (w .tracers) l (rowStart (w .grid) k r) fluxes (zonalCount w k r fluxes)) lent-is))

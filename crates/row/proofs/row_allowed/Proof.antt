@@ -16,28 +16,24 @@ use Rattle.row.proofs.row_allowed.Statement.{statement}
 use Rattle.row.proofs.row_allowed.Tie as tie
 
 abbrev Inv-loop : tie.InvT-loop
-Inv-loop air up down w ok₀ i₀ ok i =
-    (i ≤ w) × (w ≡ length air) × (ok ≡ every i (cellAllowed (ring (length air)) (flowOf up down) air))
+Inv-loop air airup airdown w ok₀ i₀ ok i =
+    (i ≤ w) × (w ≡ length air) × (ok ≡ every i (cellAllowed (ring (length air)) (flowOf airup airdown) air))
 
 abbrev μ-loop : tie.MeasureT-loop
-μ-loop air up down w ok₀ i₀ ok i = w - i
+μ-loop air airup airdown w ok₀ i₀ ok i = w - i
 
 loop-holds : tie.Need-loop-holds Inv-loop μ-loop
 loop-holds c = (search needs, search needs, sym (every-none _))
-
-cell-allows-requires : tie.Need-cell-allows-requires Inv-loop μ-loop
-cell-allows-requires c κs =
-    record { into = omega (arith, c .before .before .before .both .ensures .1); from = omega (arith, c .both2 .ensures .1) }
 
 loop-again : tie.Need-loop-again Inv-loop μ-loop
 loop-again c =
     let a = the (tie.Start Inv-loop μ-loop) (search) .args in
     let l = the (tie.At-loop Inv-loop μ-loop) (search) .loop in
     let west = the (tie.After-west-of Inv-loop μ-loop) (search) .west-of .ensures .0 in
-    let enters = the (tie.After-both Inv-loop μ-loop) (search) .both .ensures .0 in
-    let leaves = the (tie.After-both2 Inv-loop μ-loop) (search) .both2 .ensures .0 in
+    let enters = the (tie.After-both-air Inv-loop μ-loop) (search) .both-air .ensures .0 in
+    let leaves = the (tie.After-both-air2 Inv-loop μ-loop) (search) .both-air2 .ensures .0 in
     let w : ℕ = length (a .air .now) in
-    let flow = flowOf (a .up .now) (a .down .now) in
+    let flow = flowOf (a .airup .now) (a .airdown .now) in
     let own = column w (l .i) (search needs) flow west enters leaves in (
       search needs,
       search needs,
@@ -50,7 +46,7 @@ returns c =
     let a = the (tie.Start Inv-loop μ-loop) (search) .args in
     let l = c .before .loop in
     let w : ℕ = length (a .air .now) in
-    let flow = flowOf (a .up .now) (a .down .now) in
+    let flow = flowOf (a .airup .now) (a .airdown .now) in
     let done : l .i ≡ w = omega arith in
     l .inv .2 ∙ ap (λ (n : ℕ). every n (cellAllowed (ring w) flow (a .air .now))) done ∙ allowed-columns w flow (a .air .now)
 
@@ -62,19 +58,19 @@ row-allowed-spec =
     μ-loop
     loop-holds
     (λ c κs. search needs)  -- west-of-requires
-    (λ c. search needs)  -- mul-have
-    (λ c. search needs)  -- shared-slice-read-have
-    (λ c. search needs)  -- mul-both
-    (λ c. search needs)  -- shared-slice-read-both
-    (λ c. search needs)  -- mul-both-2
-    (λ c. search needs)  -- shared-slice-read-both-2
-    (λ c κs. search needs)  -- both-requires
-    (λ c. search needs)  -- mul-both-3
-    (λ c. search needs)  -- shared-slice-read-both-3
-    (λ c. search needs)  -- mul-both-4
-    (λ c. search needs)  -- shared-slice-read-both-4
-    (λ c κs. search needs)  -- both-requires-2
-    cell-allows-requires
+    (λ c. search needs)  -- mul-t11
+    (λ c. search needs)  -- shared-slice-read-t13
+    (λ c. search needs)  -- mul-t15
+    (λ c. search needs)  -- shared-slice-read-t17
+    (λ c κs. search needs)  -- both-air-requires
+    (λ c. search needs)  -- mul-t11-2
+    (λ c. search needs)  -- shared-slice-read-t13-2
+    (λ c. search needs)  -- mul-t15-2
+    (λ c. search needs)  -- shared-slice-read-t17-2
+    (λ c κs. search needs)  -- both-air-requires-2
+    (λ c. search needs)  -- mul-t11-3
+    (λ c. search needs)  -- shared-slice-read-t17-3
+    (λ c κs. search needs)  -- cell-allows-requires
     (λ c. search needs)  -- add-i
     (λ c. search needs)  -- loop-less
     loop-again

@@ -15,16 +15,16 @@ use Rattle.row.proofs.serves.Statement.{statement}
 use Rattle.row.proofs.serves.Tie as tie
 
 abbrev Inv-loop : tie.InvT-loop
-Inv-loop air₀ fluxes n up₀ down₀ s₀ air up down s =
+Inv-loop air₀ fluxes n airup₀ airdown₀ s₀ air airup airdown s =
     (s ≤ n)
-    × (length up ≡ 72)
-    × (length down ≡ 72)
+    × (length airup ≡ 72)
+    × (length airdown ≡ 72)
     × (length air ≡ length air₀)
     × (air ≡ chain fluxes n air₀ s)
     × (every s (may fluxes n air₀) ≡ true)
 
 abbrev μ-loop : tie.MeasureT-loop
-μ-loop air₀ fluxes n up₀ down₀ s₀ air up down s = n - s
+μ-loop air₀ fluxes n airup₀ airdown₀ s₀ air airup airdown s = n - s
 
 loop-holds : tie.Need-loop-holds Inv-loop μ-loop
 loop-holds c =
@@ -46,9 +46,9 @@ returns c =
     let tested = c .before .row-allowed .ensures ∙ may-is in
     sym (serves-not (a .fluxes .now) (a .n) (a .air .now) (l .s) (omega (arith, inside)) (sym tested ∙ c .if1 .left))
 
-pass-row-requires : tie.Need-pass-row-requires Inv-loop μ-loop
+pass-air-requires : tie.Need-pass-air-requires Inv-loop μ-loop
 unfolding ring
-pass-row-requires c κs =
+pass-air-requires c κs =
     let allowed-is = the (tie.After-row-allowed Inv-loop μ-loop) (search) .row-allowed .ensures in
     record {
       room = record { high = search needs; low = search needs };
@@ -74,7 +74,7 @@ loop-again c =
       search needs,
       search needs,
       search needs,
-      c .before .before .pass-row .ensures ∙ after-is,
+      c .before .before .pass-air .ensures ∙ after-is,
       every-more (l .s) (may (a .fluxes .now) (a .n) (a .air .now)) ∙ ap₂ _&&_ (l .inv .5) permitted,
     )
 
@@ -101,9 +101,9 @@ serves-spec =
     (λ c κs. search needs)  -- row-allowed-requires
     (λ c. search needs)  -- same-length
     returns
-    (λ c. search needs)  -- slice-aggregate-pass-row
-    (λ c. search needs)  -- slice-aggregate-pass-row-2
-    pass-row-requires
+    (λ c. search needs)  -- slice-aggregate-pass-air
+    (λ c. search needs)  -- slice-aggregate-pass-air-2
+    pass-air-requires
     (λ c. search needs)  -- add-s
     (λ c. search needs)  -- loop-less
     loop-again

@@ -13,15 +13,15 @@ use Rattle.rows.proofs.fill_pieces.Statement.{statement}
 use Rattle.rows.proofs.fill_pieces.Tie as tie
 
 abbrev Inv-loop : tie.InvT-loop
-Inv-loop air gas q up down high₀ low₀ w i₀ high low i =
+Inv-loop air gas q airup airdown gasup₀ gasdown₀ w i₀ gasup gasdown i =
     (i ≤ w)
     × (w ≡ length air)
-    × (length high ≡ length high₀)
-    × (length low ≡ length low₀)
-    × Same i (flowOf high low) (pieces mismatch (ring (length air)) (flowOf up down) air gas)
+    × (length gasup ≡ length gasup₀)
+    × (length gasdown ≡ length gasdown₀)
+    × Same i (flowOf gasup gasdown) (pieces mismatch (ring (length air)) (flowOf airup airdown) air gas)
 
 abbrev μ-loop : tie.MeasureT-loop
-μ-loop air gas q up down high₀ low₀ w i₀ high low i = w - i
+μ-loop air gas q airup airdown gasup₀ gasdown₀ w i₀ gasup gasdown i = w - i
 
 loop-holds : tie.Need-loop-holds Inv-loop μ-loop
 loop-holds c = (search needs, search needs, search needs, search needs, same-none _ _)
@@ -52,7 +52,7 @@ loop-again c =
       search needs,
       search needs,
       search needs,
-      same-more (l .high) (l .low) (search needs) (search needs) (l .inv .4)
+      same-more (l .gasup) (l .gasdown) (search needs) (search needs) (l .inv .4)
           (c .before .high-end .ensures ∙ face-high need (search needs) east west)
           (c .low-end .ensures ∙ face-low need (search needs) east next),
     )
@@ -74,16 +74,16 @@ fill-pieces-spec =
     (λ c κs. search needs)  -- west-of-requires
     (λ c κs. search needs)  -- east-of-requires
     (λ c κs. search needs)  -- east-of-requires-2
-    (λ c. search needs)  -- mul-eastward
-    (λ c. search needs)  -- shared-slice-read-eastward
-    (λ c. search needs)  -- mul-westward
-    (λ c. search needs)  -- shared-slice-read-westward
+    (λ c. search needs)  -- mul-t18
+    (λ c. search needs)  -- shared-slice-read-t20
+    (λ c. search needs)  -- mul-t18-2
+    (λ c. search needs)  -- shared-slice-read-t20-2
     high-end-requires
     low-end-requires
-    (λ c. search needs)  -- mul-high
-    (λ c. search needs)  -- slice-write-high
-    (λ c. search needs)  -- mul-low
-    (λ c. search needs)  -- slice-write-low
+    (λ c. search needs)  -- mul-gasup
+    (λ c. search needs)  -- slice-write-gasup
+    (λ c. search needs)  -- mul-gasdown
+    (λ c. search needs)  -- slice-write-gasdown
     (λ c. search needs)  -- add-i
     (λ c. search needs)  -- loop-less
     loop-again

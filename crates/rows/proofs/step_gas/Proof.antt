@@ -11,8 +11,8 @@ fill-ratios-requires c κs =
     let start : tie.Start = search in
     ratios-need (start .pre) _ (start .pre .wide)
 
-pass-row-requires : tie.Need-pass-row-requires
-pass-row-requires c κs =
+pass-gas-requires : tie.Need-pass-gas-requires
+pass-gas-requires c κs =
     let start : tie.Start = search in
     let pieces = the tie.After-fill-pieces (search) .fill-pieces .ensures in
     pieces-pass (start .pre) _ _ pieces (record { high = search needs; low = search needs })
@@ -21,7 +21,7 @@ returns : tie.Need-returns
 returns c =
     let start : tie.Start = search in
     let pieces = the tie.After-fill-pieces (search) .fill-pieces in
-    c .before .before .pass-row .ensures ∙ pieces-passed (start .pre) (pieces .last .1 .1 .1 .1 .1 .0) (pieces .last .1 .1 .1 .1 .1 .1 .0) (pieces .ensures)
+    c .before .before .pass-gas .ensures ∙ pieces-passed (start .pre) (pieces .last .1 .1 .1 .1 .1 .0) (pieces .last .1 .1 .1 .1 .1 .1 .0) (pieces .ensures)
 
 pub step-gas-spec : {M : Type 1} → statement M
 step-gas-spec =
@@ -33,8 +33,8 @@ step-gas-spec =
     (λ c. search needs)  -- slice-aggregate-fill-pieces-2
     (λ c. search needs)  -- slice-aggregate-fill-pieces-3
     (λ c κs. search needs)  -- fill-pieces-requires
-    (λ c. search needs)  -- slice-aggregate-pass-row
-    (λ c. search needs)  -- slice-aggregate-pass-row-2
-    pass-row-requires
+    (λ c. search needs)  -- slice-aggregate-pass-gas
+    (λ c. search needs)  -- slice-aggregate-pass-gas-2
+    pass-gas-requires
     (λ c. search needs)  -- same-length
     returns)

@@ -10,11 +10,11 @@ use Rattle.rows.proofs.step_rows.Statement.{statement}
 use Rattle.rows.proofs.step_rows.Tie as tie
 
 abbrev Inv-loop : tie.InvT-loop
-Inv-loop air up down tracers rows₀ w t₀ rows t =
-    (t ≤ tracers) × (w ≡ length air) × Stepping tracers rows₀ air up down rows t
+Inv-loop air airup airdown tracers rows₀ w t₀ rows t =
+    (t ≤ tracers) × (w ≡ length air) × Stepping tracers rows₀ air airup airdown rows t
 
 abbrev μ-loop : tie.MeasureT-loop
-μ-loop air up down tracers rows₀ w t₀ rows t = tracers - t
+μ-loop air airup airdown tracers rows₀ w t₀ rows t = tracers - t
 
 loop-holds : tie.Need-loop-holds Inv-loop μ-loop
 loop-holds c = (search needs, search needs, stepping-none (c .before .before .before .pre) (search needs))

@@ -3,7 +3,7 @@ use Prim.Native.Nat.{_≤_, _-_}
 use mathlib.Core.Path.{_≡_, ap, _∙_}
 use native.Mathlib.Omega.{arith}
 use lib.ListN.{length}
-use Rattle.rows.specs.Rows.{storedUpTo, row-room, stored-none, stored-more, stored-all, length-stored-up-to}
+use Rattle.rows.specs.Rows.{storedUpTo, row-room, row-wide, stored-none, stored-more, stored-all, length-stored-up-to}
 use Rattle.units.specs.The.{the}
 use borrow.Author.Needs.{needs}
 use Rattle.rows.proofs.store_rows.Statement.{statement}
@@ -31,7 +31,7 @@ add-e c = let room = row-room (c .before .before .before .pre .fit) (c .before .
 part-copy-end : tie.Need-part-copy-end Inv-loop μ-loop
 part-copy-end c =
     let start : tie.Start Inv-loop μ-loop = search in
-    omega (arith, start .pre .wideRows (c .before .before .before .loop .t) (search needs), start .pre .fit .fewColumns)
+    row-wide (start .pre) (search needs)
 
 mul-copy : tie.Need-mul-copy Inv-loop μ-loop
 mul-copy c =

@@ -11,11 +11,11 @@ use Rattle.rows.proofs.sweep_rows.Statement.{statement}
 use Rattle.rows.proofs.sweep_rows.Tie as tie
 
 abbrev Inv-loop : tie.InvT-loop
-Inv-loop air₀ fluxes n tracers current₀ up₀ down₀ s₀ air current up down s =
-    (s ≤ n) × (length up ≡ 72) × (length down ≡ 72) × SweptSoFar current₀ air₀ fluxes n tracers s air current
+Inv-loop air₀ fluxes n tracers current₀ airup₀ airdown₀ s₀ air current airup airdown s =
+    (s ≤ n) × (length airup ≡ 72) × (length airdown ≡ 72) × SweptSoFar current₀ air₀ fluxes n tracers s air current
 
 abbrev μ-loop : tie.MeasureT-loop
-μ-loop air₀ fluxes n tracers current₀ up₀ down₀ s₀ air current up down s = n - s
+μ-loop air₀ fluxes n tracers current₀ airup₀ airdown₀ s₀ air current airup airdown s = n - s
 
 loop-holds : tie.Need-loop-holds Inv-loop μ-loop
 loop-holds c = (search needs, search needs, search needs, after-none (c .before .pre))
@@ -31,8 +31,8 @@ step-rows-requires c κs =
     let room : FaceRoom (length (start .args .fluxes .now)) up down = record { high = search needs; low = search needs } in
     rows-may-step (start .pre) (l .inv .3) inside (parts .ensures) room
 
-pass-row-requires : tie.Need-pass-row-requires Inv-loop μ-loop
-pass-row-requires c κs =
+pass-air-requires : tie.Need-pass-air-requires Inv-loop μ-loop
+pass-air-requires c κs =
     let start : tie.Start Inv-loop μ-loop = search in
     let l = the (tie.At-loop Inv-loop μ-loop) (search) .loop in
     let inside = the (tie.In-loop Inv-loop μ-loop) (search) .loop-test .taken in
@@ -55,7 +55,7 @@ loop-again c =
       search needs,
       search needs,
       search needs,
-      after-more (start .pre) (l .inv .3) inside (parts .ensures) room (c .before .before .pass-row .ensures) stepped,
+      after-more (start .pre) (l .inv .3) inside (parts .ensures) room (c .before .before .pass-air .ensures) stepped,
     )
 
 returns : tie.Need-returns Inv-loop μ-loop
@@ -77,9 +77,9 @@ sweep-rows-spec =
     (λ c. search needs)  -- slice-aggregate-step-rows
     (λ c. search needs)  -- slice-aggregate-step-rows-2
     step-rows-requires
-    (λ c. search needs)  -- slice-aggregate-pass-row
-    (λ c. search needs)  -- slice-aggregate-pass-row-2
-    pass-row-requires
+    (λ c. search needs)  -- slice-aggregate-pass-air
+    (λ c. search needs)  -- slice-aggregate-pass-air-2
+    pass-air-requires
     (λ c. search needs)  -- add-s
     (λ c. search needs)  -- loop-less
     loop-again

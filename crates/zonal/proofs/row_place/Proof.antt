@@ -12,7 +12,7 @@ use Rattle.units.specs.Grid.{worldOf, in-range}
 use Rattle.places.specs.declared.Lent.the-variants.{RowFluxes}
 use Rattle.places.specs.Walk.{Left, Like, next, stop, placed, there, missing, fits, fails}
 use Rattle.places.specs.Tested.{Passed, own-left, common-placed}
-use Rattle.zonal.specs.RowPlace.{fromRow, fromFluxes, fromCount, RowAt, row-in-air, row-need, count-found}
+use Rattle.zonal.specs.RowPlace.{fromRow, fromFluxes, fromCount, RowIn, row-in-air, row-need, count-found}
 use borrow.Author.Needs.{needs}
 use Rattle.zonal.proofs.row_place.Statement.{statement}
 use Rattle.zonal.proofs.row_place.Tie as tie
@@ -85,39 +85,35 @@ row-start-requires c κs =
     let range = in-range (s .args .g) (passed common .fits .grid) in
     record { range = range; layer = omega (arith, range .lowK); row = search needs }
 
-row-at : (c : tie.After-row-start) →
-    let s : tie.Start = search needs in RowAt (world s) (s .args .layer) (s .args .row) (s .args .fluxes .now) (c .row-start .result)
-row-at c =
+-- where the row starts there is room for it
+row-in : (c : tie.After-row-start) → let s : tie.Start = search needs in RowIn (world s) (s .args .fluxes .now) (c .row-start .result)
+row-in c =
     let s : tie.Start = search needs in
     let common : tie.Then1 = search needs in
     record {
       fits = passed common .fits;
       long = eqb-true (length (s .args .fluxes .now)) (s .args .g .w) (passed common .lentFit);
-      start = c .row-start .ensures .0;
       inside = c .row-start .ensures .1;
     }
 
 part-count-end : tie.Need-part-count-end
 part-count-end c =
     let row : tie.After-row-start = search needs in
-    row-in-air (row-at row)
+    row-in-air (row-in row)
 
 count-requires : tie.Need-count-requires
 count-requires c κs =
     let row : tie.After-row-start = search needs in
-    row-need (row-at row)
-
-counted : (c : tie.After-count) →
-    let s : tie.Start = search needs in c .count .result ≡ zonalCount (world s) (s .args .layer) (s .args .row) (s .args .fluxes .now)
-counted c =
-    let row : tie.After-row-start = search needs in
-    c .count .ensures .is ∙ count-found (row-at row)
+    row-need (row-in row)
 
 returns-5 : tie.Need-returns-5
 returns-5 c =
+    let s : tie.Start = search needs in
     let fluxes : tie.Then4 = search needs in
+    let row : tie.After-row-start = search needs in
     let count : tie.After-count = search needs in
-    stop (past-fluxes fluxes) (eq-eqb _ _ (sym (counted count) ∙ omega arith)) (c .not-placed5 .ensures) refl
+    let counted = count-found (row-in row) (s .args .layer) (s .args .row) (row .row-start .ensures .0) (count .count .ensures) in
+    stop (past-fluxes fluxes) (eq-eqb _ _ (sym counted ∙ omega arith)) (c .not-placed5 .ensures) refl
 
 returns-6 : tie.Need-returns-6
 returns-6 c =
@@ -125,12 +121,14 @@ returns-6 c =
     let fluxes : tie.Then4 = search needs in
     let row : tie.After-row-start = search needs in
     let count : tie.After-count = search needs in
-    let some = ne-eqb _ _ (λ (z : zonalCount (world s) (s .args .layer) (s .args .row) (s .args .fluxes .now) ≡ 0). omega (arith, counted count)) in
+    let counted = count-found (row-in row) (s .args .layer) (s .args .row) (row .row-start .ensures .0) (count .count .ensures) in
+    let some = ne-eqb _ _ (λ (z : zonalCount (world s) (s .args .layer) (s .args .row) (s .args .fluxes .now) ≡ 0). omega arith) in
     placed refl
     record {
       left = next (past-fluxes fluxes) some;
-      row = row-at row;
-      count = counted count;
+      row = row-in row;
+      start = row .row-start .ensures .0;
+      count = counted;
       most = count .count .ensures .most;
       answered = refl;
     }
