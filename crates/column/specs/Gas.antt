@@ -36,16 +36,16 @@ pub record Spans (k : ℕ) (air e : List ℕ) : Type 0 where
 
 -- ---- a tracer's remap
 -- such layers and edges, tracer within the limit, and room for the ratios and the new amounts
-pub record ColumnGasNeed (k : ℕ) (air gas q e new : List ℕ) : Type 0 where
+pub record ColumnGasNeed (k : ℕ) (air gas q e newgas : List ℕ) : Type 0 where
   pub spans : Spans k air e
   pub total : sum k (at gas) ≤ totalLimit
   pub roomGas : k ≤ length gas
   pub roomRatios : k ≤ length q
-  pub room : k ≤ length new
+  pub room : k ≤ length newgas
 
 -- the same, with the ratios in q
-pub record WalkNeed (k : ℕ) (air gas q e new : List ℕ) : Type 0 where
-  pub column : ColumnGasNeed k air gas q e new
+pub record WalkNeed (k : ℕ) (air gas q e newgas : List ℕ) : Type 0 where
+  pub column : ColumnGasNeed k air gas q e newgas
   pub ratios : AreRatios k air gas q
 
 -- r has the new layers' tracer, whatever table the edges are of

@@ -15,7 +15,7 @@ use Rattle.model.specs.Remap.{airAbove, shareAir, columnCount}
 use Rattle.model.specs.Laws.Basic.{sum-none, sum-more, sum-ext, sum-fewer, at-tab}
 use Rattle.column.specs.Column.{firsts, AreEdges}
 use Rattle.column.specs.Gas.{Spans, IsPairs}
-use Rattle.column.specs.Walk.{WalkPlace, rises-next, last-is, next-is}
+use Rattle.column.specs.Walk.{WalkPlace, rises-next, last-is, lower-is}
 
 -- ---- how many
 how-many-ext : (n : ℕ) (p q : ℕ → Bool) → ((t : ℕ) → t < n → p t ≡ q t) → howMany n p ≡ howMany n q
@@ -90,31 +90,31 @@ module _ {k : ℕ} {air : List ℕ} {e : List ℕ} (spans : Spans k air e) {i j 
   none-above x h =
       how-many-none i _ (λ t q. ends-before air e x t (omega (arith, sum-fewer (at air) (t + 1) i (omega arith), p .is)))
 
-  module _ (h : j < k) where
+  -- old layer i ends at `lower`
+  module _ {lower : ℕ} (ends : lower ≡ passed + at air i) (h : j < k) where
     -- the two layers at which the walk stands
-    here : sharesAt air e j i ≡ ltb (at e j) (passed + at air i)
-    here = go (ltb (at e j) (passed + at air i)) refl
+    here : sharesAt air e j i ≡ ltb (at e j) lower
+    here = go (ltb (at e j) lower) refl
       where
-        go : (b : Bool) → ltb (at e j) (passed + at air i) ≡ b → sharesAt air e j i ≡ b
+        go : (b : Bool) → ltb (at e j) lower ≡ b → sharesAt air e j i ≡ b
         go true u =
-            let past : at e j < passed + at air i = ltb-true _ _ u in
+            let past : at e j < lower = ltb-true _ _ u in
             let some = spans .least i (p .layer) in
-            lt-ltb (top air e j i) (end air e j i) (omega (arith, next-is spans p, p .is, p .ahead h, rises-next spans j h))
+            lt-ltb (top air e j i) (end air e j i) (omega (arith, lower-is spans p ends, p .is, p .ahead h, rises-next spans j h))
         go false u =
-            let before : passed + at air i ≤ at e j = ltb-false _ _ u in
-            le-ltb (top air e j i) (end air e j i) (omega (arith, next-is spans p))
+            let before : lower ≤ at e j = ltb-false _ _ u in
+            le-ltb (top air e j i) (end air e j i) (omega (arith, lower-is spans p ends))
 
     pub pairs-more :
-        {count more : ℕ} → count ≡ countTo k air e j i → more ≡ min 1 (passed + at air i - at e j) →
+        {count more : ℕ} → count ≡ countTo k air e j i → more ≡ min 1 (lower - at e j) →
         count + more ≡ countTo k air e j (i + 1)
-    pairs-more is more = omega (arith, is, more, how-many-more i (at e j) (passed + at air i) (sharesAt air e j) here)
+    pairs-more is more = omega (arith, is, more, how-many-more i (at e j) lower (sharesAt air e j) here)
 
     -- past the lower edge there is nothing left to count in new layer j, and nothing yet in the next
-    pub pairs-edge :
-        {count : ℕ} → at e (j + 1) ≤ passed + at air i → count ≡ countTo k air e j (i + 1) → count ≡ countTo k air e (j + 1) i
+    pub pairs-edge : {count : ℕ} → at e (j + 1) ≤ lower → count ≡ countTo k air e j (i + 1) → count ≡ countTo k air e (j + 1) i
     pairs-edge le is =
         let none : (t : ℕ) → i + 1 ≤ t → t < k → sharesAt air e j t ≡ false =
-        λ t a b. starts-past air e j t (omega (arith, sum-fewer (at air) (i + 1) t a, next-is spans p)) in
+        λ t a b. starts-past air e j t (omega (arith, sum-fewer (at air) (i + 1) t a, lower-is spans p ends)) in
         let rest = how-many-past k (i + 1) (sharesAt air e j) (omega (arith, p .layer)) none in
         omega (arith, is, rest, sum-more j (λ t. howMany k (sharesAt air e t)), none-above (j + 1) (omega (arith, p .ahead h)))
 

@@ -80,26 +80,28 @@ module _ {k : ℕ} {air : List ℕ} {e : List ℕ} (spans : Spans k air e) where
       }
 
   module _ {i j passed : ℕ} (p : WalkPlace k air e i j passed) where
-    pub next-is : passed + at air i ≡ sum (i + 1) (at air)
-    next-is = omega (arith, sum-more i (at air), p .is)
+    pub passed-fits : passed ≤ 2097120
+    passed-fits = rw (p .is) (air-fits i (omega (arith, p .layer)))
 
-    pub next-fits : passed + at air i ≤ 2097120
-    next-fits = rw next-is (air-fits (i + 1) (omega (arith, p .layer)))
+    -- layer i ends at `lower`
+    module _ {lower : ℕ} (ends : lower ≡ passed + at air i) where
+      pub lower-is : lower ≡ sum (i + 1) (at air)
+      lower-is = omega (arith, ends, sum-more i (at air), p .is)
 
-    -- a layer that ends before the next edge is not the last
-    pub pass-layer : j < k → passed + at air i < at e (j + 1) → WalkPlace k air e (i + 1) j (passed + at air i)
-    pass-layer h lt =
-        record {
-          layer = ⊎-elim (λ (last : k ≤ i + 1). absurd (not-last last)) (λ (q : i + 1 < k). q) (le-or-lt k (i + 1));
-          edge = p .edge;
-          is = next-is;
-          ahead = λ _. lt;
-        }
-      where
-        not-last : k ≤ i + 1 → ⊥
-        not-last last =
-            let all : k ≡ i + 1 = omega (arith, p .layer) in
-            omega (arith, lt, edge-most (j + 1) (omega (arith, h)), next-is, ap (λ (n : ℕ). sum n (at air)) all)
+      -- a layer that ends before the next edge is not the last
+      pub pass-layer : j < k → lower < at e (j + 1) → WalkPlace k air e (i + 1) j lower
+      pass-layer h lt =
+          record {
+            layer = ⊎-elim (λ (last : k ≤ i + 1). absurd (not-last last)) (λ (q : i + 1 < k). q) (le-or-lt k (i + 1));
+            edge = p .edge;
+            is = lower-is;
+            ahead = λ _. lt;
+          }
+        where
+          not-last : k ≤ i + 1 → ⊥
+          not-last last =
+              let all : k ≡ i + 1 = omega (arith, p .layer) in
+              omega (arith, lt, edge-most (j + 1) (omega (arith, h)), lower-is, ap (λ (n : ℕ). sum n (at air)) all)
 
     pub pass-edge : j < k → WalkPlace k air e i (j + 1) passed
     pass-edge h =
@@ -115,7 +117,7 @@ module _ {k : ℕ} {air : List ℕ} {e : List ℕ} (spans : Spans k air e) where
 abbrev pub above : Bool → ℕ → List ℕ → List ℕ → List ℕ → ℕ → ℕ
 above cap k air gas q x = amountAbove (tab k (layerAt cap k air gas q)) x
 
-module _ (cap : Bool) {k : ℕ} {air gas q e new : List ℕ} (need : WalkNeed k air gas q e new) where
+module _ (cap : Bool) {k : ℕ} {air gas q e newgas : List ℕ} (need : WalkNeed k air gas q e newgas) where
   small : (i : ℕ) → i < k → slopeAt cap k q i .size ≤ 2 * ratio (at air i) (at gas i)
   small = slope-small cap k air gas q (need .ratios)
 
@@ -137,8 +139,10 @@ module _ (cap : Bool) {k : ℕ} {air gas q e new : List ℕ} (need : WalkNeed k 
   pub gas-fits : (i : ℕ) → i < k → sum i (at gas) + at gas i ≤ totalLimit
   gas-fits i h = omega (arith, sum-more i (at gas), sum-fewer (at gas) (i + 1) k (omega arith), need .column .total)
 
-  -- the edge passed lies in layer i
-  module _ {i j passed : ℕ} (p : WalkPlace k air e i j passed) (h : j < k) (le : at e (j + 1) ≤ passed + at air i) where
+  -- the edge passed lies in layer i, which ends at `lower`
+  module _
+      {i j passed lower : ℕ} (p : WalkPlace k air e i j passed) (ends : lower ≡ passed + at air i) (h : j < k)
+      (le : at e (j + 1) ≤ lower) where
     module _ (d : code.Mismatch) (is : mismatchOf d ≡ slopeAt cap k q i) where
       pub walk-giver :
           (have : Air) (t : Tracer) (m : Air) → have .0 ≡ at air i → t .0 ≡ at gas i → m .0 ≡ at e (j + 1) - passed → Giver d have t m
@@ -147,26 +151,28 @@ module _ (cap : Bool) {k : ℕ} {air gas q e new : List ℕ} (need : WalkNeed k 
             some = rw isAir (need .column .spans .least i (p .layer));
             air = rw isAir (need .column .spans .most i (p .layer));
             tracer = omega (arith, gas-fits i (p .layer));
-            part = omega arith;
+            part = omega (arith, ends);
             small = rw (isAir, isGas) (rw (ap (λ (D : Mismatch). D .size) is) (small i (p .layer)));
           }
 
     -- the piece of layer i above the edge
-    abbrev pieceBy : Mismatch → ℕ
-    pieceBy D = lowPiece D (at air i) (at gas i) (at e (j + 1) - passed)
+    abbrev pieceBy : Mismatch → ℕ → ℕ
+    pieceBy D = lowPiece D (at air i) (at gas i)
 
-    above-is : above cap k air gas q (at e (j + 1)) ≡ sum i (at gas) + pieceBy (slopeAt cap k q i)
+    above-is : above cap k air gas q (at e (j + 1)) ≡ sum i (at gas) + pieceBy (slopeAt cap k q i) (at e (j + 1) - passed)
     above-is =
         let spans = need .column .spans in
         let low : sum i (at air) ≤ at e (j + 1) = omega (arith, p .is, p .ahead h) in
-        let high : at e (j + 1) ≤ sum (suc i) (at air) = rw (← add-one i) (omega (arith, next-is spans p)) in
+        let high : at e (j + 1) ≤ sum (suc i) (at air) = rw (← add-one i) (omega (arith, lower-is spans p ends)) in
         rw (p .is) (amount-at (layerAt cap k air gas q) k (spans .least) i (at e (j + 1)) (p .layer) low high)
 
     -- what the code adds up is G at the edge
     pub next-above :
-        {d : code.Mismatch} {whole piece next : ℕ} → mismatchOf d ≡ slopeAt cap k q i → whole ≡ sum i (at gas) →
-        piece ≡ pieceBy (mismatchOf d) → next ≡ whole + piece → next ≡ above cap k air gas q (at e (j + 1))
-    next-above isSlope isWhole isPiece isNext = isNext ∙ ap₂ _+_ isWhole (isPiece ∙ ap pieceBy isSlope) ∙ sym above-is
+        {d : code.Mismatch} {whole inside piece next : ℕ} → mismatchOf d ≡ slopeAt cap k q i → whole ≡ sum i (at gas) →
+        inside ≡ at e (j + 1) - passed → piece ≡ pieceBy (mismatchOf d) inside → next ≡ whole + piece →
+        next ≡ above cap k air gas q (at e (j + 1))
+    next-above isSlope isWhole isInside isPiece isNext =
+        isNext ∙ ap₂ _+_ isWhole (isPiece ∙ ap₂ pieceBy isSlope isInside) ∙ sym above-is
 
   -- the amounts between the edges are the model's
   pub remapped-is :

@@ -1,6 +1,6 @@
 // The remap of one column in lent lists: edges, new air, ratios, the walk from edge to edge, and the count of pairs.
-// A list's first k entries count, of a list of edges the first k + 1.
-// An edge is air counted from the top of the column, in 64 bits, since a table that does not fit may give any.
+// A list's first k entries count, of a list of edges the first k + 1. `air` and `newair` hold air, `gas` and `newgas` a tracer.
+// An edge is a number: air counted from the top of the column, in 64 bits, since a table that does not fit may give any.
 ghost use mathlib.Core.Path.{_≡_};
 ghost use mathlib.Core.Bool.{_&&_};
 ghost use Prim.Native.Nat.{_+_, _-_, _*_, _/_, _≤_, _<_, min};
@@ -16,20 +16,22 @@ use scheme::mismatch;
 use substep::fill_ratios;
 use units::AIR_LIMIT;
 use units::Air;
+use units::AirSum;
 use units::Mismatch;
 use units::TABLE_LIMIT;
 use units::TABLE_SCALE;
 use units::Tracer;
+use units::add_air;
 
 // P, the air of a column of k layers.
-pub fn air_sum(air: &[u32], k: usize) -> u64
+pub fn air_sum(air: &[u32], k: usize) -> AirSum
     requires { ⌜ AirNeed k (now air) ⌝ }
-    ensures { λ r. ⌜ IsAirSum k (now (air .entry)) r ⌝ }
+    ensures { λ r. ⌜ IsAirSum k (now (air .entry)) (r .0) ⌝ }
 {
-    let mut sum: u64 = 0;
+    let mut sum = AirSum(0);
     let mut i = 0;
     while i < k {
-        sum += air[i] as u64;
+        sum = add_air(sum, Air(air[i]));
         i += 1;
     }
     sum
@@ -59,17 +61,17 @@ pub fn table_fits(table: &[u32], k: usize) -> bool
 }
 
 // The edge of the pair (a, b) in a column of p units of air.
-fn edge_of(a: u32, b: u32, p: u64) -> u64
-    requires { ⌜ p ≤ tableLimit ⌝ }
-    ensures { λ r. ⌜ r ≡ a + b * p / tableScale ⌝ }
+fn edge_of(a: u32, b: u32, p: AirSum) -> u64
+    requires { ⌜ p .0 ≤ tableLimit ⌝ }
+    ensures { λ r. ⌜ r ≡ a + b * p .0 / tableScale ⌝ }
 {
-    (a as u64) + (b as u64) * p / (TABLE_SCALE as u64)
+    (a as u64) + (b as u64) * p.0 / (TABLE_SCALE as u64)
 }
 
 // The k + 1 edges of a column of p units of air.
-pub fn fill_edges(table: &[u32], p: u64, k: usize, e: &mut [u64])
-    requires { ⌜ EdgesNeed (now table) p k (now e) ⌝ }
-    ensures { λ r. ⌜ AreEdges (now (table .entry)) p k (now (e .exit)) ⌝ }
+pub fn fill_edges(table: &[u32], p: AirSum, k: usize, e: &mut [u64])
+    requires { ⌜ EdgesNeed (now table) (p .0) k (now e) ⌝ }
+    ensures { λ r. ⌜ AreEdges (now (table .entry)) (p .0) k (now (e .exit)) ⌝ }
 {
     let mut j = 0;
     while j < k + 1 {
@@ -103,14 +105,23 @@ pub fn edges_serve(e: &[u64], k: usize) -> bool
     ok
 }
 
+// The air between two edges.
+fn air_between(upper: u64, lower: u64) -> Air
+    requires { ⌜ (upper ≤ lower) × (lower - upper ≤ airLimit) ⌝ }
+    ensures { λ r. ⌜ r .0 ≡ lower - upper ⌝ }
+{
+    Air((lower - upper) as u32)
+}
+
 // The air of the k new layers.
-pub fn new_air(e: &[u64], k: usize, new: &mut [u32])
-    requires { ⌜ Served k (now e) × (k ≤ length (now new)) ⌝ }
-    ensures { λ r. ⌜ IsNewAir k (now (e .entry)) (now (new .exit)) ⌝ }
+pub fn new_air(e: &[u64], k: usize, newair: &mut [u32])
+    requires { ⌜ Served k (now e) × (k ≤ length (now newair)) ⌝ }
+    ensures { λ r. ⌜ IsNewAir k (now (e .entry)) (now (newair .exit)) ⌝ }
 {
     let mut j = 0;
     while j < k {
-        new[j] = (e[j + 1] - e[j]) as u32;
+        let layer = air_between(e[j], e[j + 1]);
+        newair[j] = layer.0;
         j += 1;
     }
 }
@@ -149,33 +160,49 @@ fn minus(a: Tracer, b: Tracer) -> Tracer
     Tracer(a.0 - b.0)
 }
 
+// The air of a layer above an edge in it, where the layers above it have the air `above`.
+fn air_inside(above: AirSum, edge: u64) -> Air
+    requires { ⌜ (above .0 ≤ edge) × (edge - above .0 ≤ airLimit) ⌝ }
+    ensures { λ r. ⌜ r .0 ≡ edge - above .0 ⌝ }
+{
+    Air((edge - above.0) as u32)
+}
+
 // A tracer's amounts in the k new layers, by the ratios of the old ones.
 // The walk goes down the column once: a step passes old layer i, or the lower edge of new layer j where that is reached first.
-fn new_tracer(air: &[u32], gas: &[u32], q: &[u64], cap: bool, e: &[u64], k: usize, new: &mut [u32])
-    requires { ⌜ WalkNeed k (now air) (now gas) (now q) (now e) (now new) ⌝ }
-    ensures { λ r. ⌜ IsRemapped cap k (now (air .entry)) (now (gas .entry)) (now (e .entry)) (now (new .exit)) ⌝ }
+fn new_tracer(
+    air: &[u32],
+    gas: &[u32],
+    q: &[u64],
+    cap: bool,
+    e: &[u64],
+    k: usize,
+    newgas: &mut [u32],
+)
+    requires { ⌜ WalkNeed k (now air) (now gas) (now q) (now e) (now newgas) ⌝ }
+    ensures { λ r. ⌜ IsRemapped cap k (now (air .entry)) (now (gas .entry)) (now (e .entry)) (now (newgas .exit)) ⌝ }
 {
     let mut i = 0;
     let mut j = 0;
-    let mut above: u64 = 0; // the air of the old layers passed
+    let mut above = AirSum(0); // the air of the old layers passed
     let mut whole = Tracer(0); // their tracer
     let mut last = Tracer(0); // the tracer above the edge passed last
     while j < k {
-        let m = air[i];
-        let t = gas[i];
-        let lower = above + (m as u64);
+        let m = Air(air[i]);
+        let t = Tracer(gas[i]);
+        let lower = add_air(above, m);
         let edge = e[j + 1];
-        if lower < edge {
+        if lower.0 < edge {
             above = lower;
-            whole = plus(whole, Tracer(t));
+            whole = plus(whole, t);
             i += 1;
             continue;
         }
-        let inside = (edge - above) as u32; // the air of layer i above the edge
+        let inside = air_inside(above, edge);
         let d = mismatch_at(q, cap, i, k);
-        let next = plus(whole, low_piece(d, Air(m), Tracer(t), Air(inside)));
+        let next = plus(whole, low_piece(d, m, t, inside));
         let layer = minus(next, last);
-        new[j] = layer.0;
+        newgas[j] = layer.0;
         last = next;
         j += 1;
     }
@@ -189,20 +216,20 @@ pub fn remap_gas(
     e: &[u64],
     k: usize,
     q: &mut [u64],
-    new: &mut [u32],
+    newgas: &mut [u32],
 )
-    requires { ⌜ ColumnGasNeed k (now air) (now gas) (now q) (now e) (now new) ⌝ }
-    ensures { λ r. ⌜ IsRemapped cap k (now (air .entry)) (now (gas .entry)) (now (e .entry)) (now (new .exit)) ⌝ }
+    requires { ⌜ ColumnGasNeed k (now air) (now gas) (now q) (now e) (now newgas) ⌝ }
+    ensures { λ r. ⌜ IsRemapped cap k (now (air .entry)) (now (gas .entry)) (now (e .entry)) (now (newgas .exit)) ⌝ }
 {
     fill_ratios(air, gas, k, q);
-    new_tracer(air, gas, q, cap, e, k, new);
+    new_tracer(air, gas, q, cap, e, k, newgas);
 }
 
 // 1 where old layer i ends past the upper edge of new layer j, so that they share air, else 0.
-fn shared(upper: u64, lower: u64) -> u32
-    ensures { λ r. ⌜ r ≡ min 1 (lower - upper) ⌝ }
+fn shared(upper: u64, lower: AirSum) -> u32
+    ensures { λ r. ⌜ r ≡ min 1 (lower .0 - upper) ⌝ }
 {
-    if upper < lower { 1 } else { 0 }
+    if upper < lower.0 { 1 } else { 0 }
 }
 
 // How many pairs of an old and a new layer share air, counted in the same walk.
@@ -213,11 +240,11 @@ pub fn pairs(air: &[u32], e: &[u64], k: usize) -> u32
     let mut count: u32 = 0;
     let mut i = 0;
     let mut j = 0;
-    let mut above: u64 = 0;
+    let mut above = AirSum(0);
     while j < k {
-        let lower = above + (air[i] as u64);
+        let lower = add_air(above, Air(air[i]));
         count += shared(e[j], lower);
-        if lower < e[j + 1] {
+        if lower.0 < e[j + 1] {
             above = lower;
             i += 1;
             continue;

@@ -64,14 +64,14 @@ fn read_edges(
     c: usize,
     cells: usize,
     k: usize,
-    a: &mut [u32],
+    columnair: &mut [u32],
     e: &mut [u64],
 )
-    requires { ⌜ ReadNeed (now air) (now table) c cells k × (k ≤ length (now a)) × (k < length (now e)) ⌝ }
-    ensures { λ r. ⌜ IsColumn (now (air .entry)) (now (table .entry)) c cells k (now (a .exit)) (now (e .exit)) ⌝ }
+    requires { ⌜ ReadNeed (now air) (now table) c cells k × (k ≤ length (now columnair)) × (k < length (now e)) ⌝ }
+    ensures { λ r. ⌜ IsColumn (now (air .entry)) (now (table .entry)) c cells k (now (columnair .exit)) (now (e .exit)) ⌝ }
 {
-    read_column(air, c, cells, k, a);
-    let p = air_sum(a, k);
+    read_column(air, c, cells, k, columnair);
+    let p = air_sum(columnair, k);
     fill_edges(table, p, k, e);
 }
 
@@ -86,19 +86,19 @@ fn columns_serve(air: &[u32], table: &[u32], cells: usize, k: usize) -> Serving
     requires { ⌜ ColumnsNeed (now air) (now table) cells k ⌝ }
     ensures { λ r. ⌜ AreServed (now (air .entry)) (now (table .entry)) cells k (r .ok) (r .count) ⌝ }
 {
-    let mut a = [0u32; MOST_LAYERS];
+    let mut columnair = [0u32; MOST_LAYERS];
     let mut e = [0u64; MOST_EDGES];
     let mut count: u32 = 0;
     let mut c = 0;
     while c < cells {
-        read_edges(air, table, c, cells, k, &mut a, &mut e);
+        read_edges(air, table, c, cells, k, &mut columnair, &mut e);
         if edges_serve(&e, k) {} else {
             return Serving {
                 ok: false,
                 count: 0,
             };
         }
-        count += pairs(&a, &e, k);
+        count += pairs(&columnair, &e, k);
         c += 1;
     }
     Serving { ok: true, count }
@@ -117,18 +117,18 @@ fn move_tracer(gas: &mut [u32], air: &[u32], table: &[u32], cells: usize, k: usi
     requires { ⌜ ColumnsGasNeed (now gas) (now air) (now table) cells k ⌝ }
     ensures { λ r. ⌜ now (gas .exit) ≡ gasMoved k cells (now (table .entry)) (now (air .entry)) (now (gas .entry)) ⌝ }
 {
-    let mut a = [0u32; MOST_LAYERS];
+    let mut columnair = [0u32; MOST_LAYERS];
     let mut e = [0u64; MOST_EDGES];
-    let mut old = [0u32; MOST_LAYERS];
+    let mut columngas = [0u32; MOST_LAYERS];
     let mut q = [0u64; MOST_LAYERS];
-    let mut new = [0u32; MOST_LAYERS];
+    let mut newgas = [0u32; MOST_LAYERS];
     let mut c = 0;
     while c < cells {
-        read_edges(air, table, c, cells, k, &mut a, &mut e);
-        read_column(gas, c, cells, k, &mut old);
+        read_edges(air, table, c, cells, k, &mut columnair, &mut e);
+        read_column(gas, c, cells, k, &mut columngas);
         let cap = is_cap(c, cells);
-        remap_gas(&a, &old, cap, &e, k, &mut q, &mut new);
-        write_column(&new, gas, c, cells, k);
+        remap_gas(&columnair, &columngas, cap, &e, k, &mut q, &mut newgas);
+        write_column(&newgas, gas, c, cells, k);
         c += 1;
     }
 }
@@ -138,13 +138,13 @@ fn move_air(air: &mut [u32], table: &[u32], cells: usize, k: usize)
     requires { ⌜ ColumnsAirNeed (now air) (now table) cells k ⌝ }
     ensures { λ r. ⌜ now (air .exit) ≡ airMoved k cells (now (table .entry)) (now (air .entry)) ⌝ }
 {
-    let mut a = [0u32; MOST_LAYERS];
+    let mut columnair = [0u32; MOST_LAYERS];
     let mut e = [0u64; MOST_EDGES];
     let mut c = 0;
     while c < cells {
-        read_edges(air, table, c, cells, k, &mut a, &mut e);
-        new_air(&e, k, &mut a);
-        write_column(&a, air, c, cells, k);
+        read_edges(air, table, c, cells, k, &mut columnair, &mut e);
+        new_air(&e, k, &mut columnair);
+        write_column(&columnair, air, c, cells, k);
         c += 1;
     }
 }

@@ -12,7 +12,7 @@ use Rattle.column.proofs.fill_edges.Statement.{statement}
 use Rattle.column.proofs.fill_edges.Tie as tie
 
 abbrev Inv-loop : tie.InvT-loop
-Inv-loop table p k e₀ j₀ e j = (j ≤ k + 1) × (length e ≡ length e₀) × ((t : ℕ) → t < j → at e t ≡ edge table p t)
+Inv-loop table p k e₀ j₀ e j = (j ≤ k + 1) × (length e ≡ length e₀) × ((t : ℕ) → t < j → at e t ≡ edge table (p .0) t)
 
 abbrev μ-loop : tie.MeasureT-loop
 μ-loop table p k e₀ j₀ e j = k + 1 - j
@@ -27,7 +27,7 @@ loop-again c =
     let l = the (tie.At-loop Inv-loop μ-loop) (search) .loop in (
       search needs,
       search needs,
-      entries-more 0 (l .e) (l .j) _ (λ t x. x ≡ edge (a .table .now) (a .p) t) (search needs) (l .inv .2) (c .edge-of .ensures),
+      entries-more 0 (l .e) (l .j) _ (λ t x. x ≡ edge (a .table .now) (a .p .0) t) (search needs) (l .inv .2) (c .edge-of .ensures),
     )
 
 returns : tie.Need-returns Inv-loop μ-loop

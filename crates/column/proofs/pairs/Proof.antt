@@ -4,7 +4,7 @@
 use Prim.Native.Nat.{_+_, _-_, _≤_}
 use mathlib.Core.Path.{_≡_, sym}
 use native.Mathlib.Omega.{arith}
-use Rattle.column.specs.Walk.{WalkPlace, place-start, pass-layer, pass-edge, next-fits}
+use Rattle.column.specs.Walk.{WalkPlace, place-start, pass-layer, pass-edge, passed-fits}
 use Rattle.column.specs.Pairs.{countTo, pairs-start, pairs-more, pairs-edge, pairs-all}
 use Rattle.units.specs.The.{the}
 use borrow.Author.Needs.{needs}
@@ -13,7 +13,7 @@ use Rattle.column.proofs.pairs.Tie as tie
 
 abbrev Inv-loop : tie.InvT-loop
 Inv-loop air e k count₀ i₀ j₀ above₀ count i j above =
-    WalkPlace k air e i j above × (count ≡ countTo k air e j i) × (count ≤ i + j)
+    WalkPlace k air e i j (above .0) × (count ≡ countTo k air e j i) × (count ≤ i + j)
 
 abbrev μ-loop : tie.MeasureT-loop
 μ-loop air e k count₀ i₀ j₀ above₀ count i j above = (k - i) + (k - j)
@@ -23,25 +23,20 @@ loop-holds c =
     let a = c .before .before .args in
     (place-start (c .before .before .pre), sym (pairs-start (a .k) (a .air .now) (a .e .now)), search needs)
 
-cast-lower : tie.Need-cast-lower Inv-loop μ-loop
-cast-lower c =
+add-air-requires : tie.Need-add-air-requires Inv-loop μ-loop
+add-air-requires c κs =
     let start : tie.Start Inv-loop μ-loop = search in
     let l = the (tie.At-loop Inv-loop μ-loop) (search) .loop in
-    omega (arith, start .pre .most (l .i) (l .inv .0 .layer))
-
-add-lower : tie.Need-add-lower Inv-loop μ-loop
-add-lower c =
-    let start : tie.Start Inv-loop μ-loop = search in
-    let l = the (tie.At-loop Inv-loop μ-loop) (search) .loop in
-    omega (arith, next-fits (start .pre) (l .inv .0))
+    omega (arith, passed-fits (start .pre) (l .inv .0))
 
 loop-again : tie.Need-loop-again Inv-loop μ-loop
 loop-again c =
     let start : tie.Start Inv-loop μ-loop = search in
     let l = the (tie.At-loop Inv-loop μ-loop) (search) .loop in
+    let ends = the (tie.After-add-air Inv-loop μ-loop) (search) .add-air .ensures in
     let more = the (tie.After-shared Inv-loop μ-loop) (search) .shared .ensures in (
-      pass-layer (start .pre) (l .inv .0) (omega arith) (c .if1 .taken),
-      pairs-more (start .pre) (l .inv .0) (omega arith) (l .inv .1) more,
+      pass-layer (start .pre) (l .inv .0) ends (omega arith) (c .if1 .taken),
+      pairs-more (start .pre) (l .inv .0) ends (omega arith) (l .inv .1) more,
       omega (arith, more),
     )
 
@@ -49,10 +44,11 @@ loop-again-2 : tie.Need-loop-again-2 Inv-loop μ-loop
 loop-again-2 c =
     let start : tie.Start Inv-loop μ-loop = search in
     let l = the (tie.At-loop Inv-loop μ-loop) (search) .loop in
+    let ends = the (tie.After-add-air Inv-loop μ-loop) (search) .add-air .ensures in
     let more = the (tie.After-shared Inv-loop μ-loop) (search) .shared .ensures in
-    let counted = pairs-more (start .pre) (l .inv .0) (omega arith) (l .inv .1) more in (
+    let counted = pairs-more (start .pre) (l .inv .0) ends (omega arith) (l .inv .1) more in (
       pass-edge (start .pre) (l .inv .0) (omega arith),
-      pairs-edge (start .pre) (l .inv .0) (omega arith) (c .if1 .left) counted,
+      pairs-edge (start .pre) (l .inv .0) ends (omega arith) (c .if1 .left) counted,
       omega (arith, more),
     )
 
@@ -69,10 +65,9 @@ pairs-spec =
     Inv-loop
     μ-loop
     loop-holds
-    (λ c. search needs)  -- mul-lower
-    (λ c. search needs)  -- shared-slice-read-lower
-    cast-lower
-    add-lower
+    (λ c. search needs)  -- mul-count
+    (λ c. search needs)  -- shared-slice-read-count
+    add-air-requires
     (λ c. search needs)  -- mul-shared
     (λ c. search needs)  -- shared-slice-read-shared
     (λ c κs. search needs)  -- shared-requires

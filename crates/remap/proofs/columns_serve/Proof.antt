@@ -10,11 +10,11 @@ use Rattle.remap.proofs.columns_serve.Statement.{statement}
 use Rattle.remap.proofs.columns_serve.Tie as tie
 
 abbrev Inv-loop : tie.InvT-loop
-Inv-loop air table cells k a₀ e₀ count₀ c₀ a e count c =
-    ServedUpto air table cells k c count × (length a ≡ mostLayers) × (length e ≡ mostLayers + 1)
+Inv-loop air table cells k columnair₀ e₀ count₀ c₀ columnair e count c =
+    ServedUpto air table cells k c count × (length columnair ≡ mostLayers) × (length e ≡ mostLayers + 1)
 
 abbrev μ-loop : tie.MeasureT-loop
-μ-loop air table cells k a₀ e₀ count₀ c₀ a e count c = cells - c
+μ-loop air table cells k columnair₀ e₀ count₀ c₀ columnair e count c = cells - c
 
 loop-holds : tie.Need-loop-holds Inv-loop μ-loop
 loop-holds c =

@@ -11,11 +11,11 @@ use Rattle.remap.proofs.move_air.Statement.{statement}
 use Rattle.remap.proofs.move_air.Tie as tie
 
 abbrev Inv-loop : tie.InvT-loop
-Inv-loop air₀ table cells k a₀ e₀ c₀ air a e c =
-    Upto k cells (airNew k cells table air₀) air₀ c air × (length a ≡ mostLayers) × (length e ≡ mostLayers + 1)
+Inv-loop air₀ table cells k columnair₀ e₀ c₀ air columnair e c =
+    Upto k cells (airNew k cells table air₀) air₀ c air × (length columnair ≡ mostLayers) × (length e ≡ mostLayers + 1)
 
 abbrev μ-loop : tie.MeasureT-loop
-μ-loop air₀ table cells k a₀ e₀ c₀ air a e c = cells - c
+μ-loop air₀ table cells k columnair₀ e₀ c₀ air columnair e c = cells - c
 
 loop-holds : tie.Need-loop-holds Inv-loop μ-loop
 loop-holds c =

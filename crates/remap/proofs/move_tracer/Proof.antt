@@ -12,16 +12,16 @@ use Rattle.remap.proofs.move_tracer.Statement.{statement}
 use Rattle.remap.proofs.move_tracer.Tie as tie
 
 abbrev Inv-loop : tie.InvT-loop
-Inv-loop gas₀ air table cells k a₀ e₀ old₀ q₀ new₀ c₀ gas a e old q new c =
+Inv-loop gas₀ air table cells k columnair₀ e₀ columngas₀ q₀ newgas₀ c₀ gas columnair e columngas q newgas c =
     Upto k cells (gasNew k cells table air gas₀) gas₀ c gas
-    × (length a ≡ mostLayers)
+    × (length columnair ≡ mostLayers)
     × (length e ≡ mostLayers + 1)
-    × (length old ≡ mostLayers)
+    × (length columngas ≡ mostLayers)
     × (length q ≡ mostLayers)
-    × (length new ≡ mostLayers)
+    × (length newgas ≡ mostLayers)
 
 abbrev μ-loop : tie.MeasureT-loop
-μ-loop gas₀ air table cells k a₀ e₀ old₀ q₀ new₀ c₀ gas a e old q new c = cells - c
+μ-loop gas₀ air table cells k columnair₀ e₀ columngas₀ q₀ newgas₀ c₀ gas columnair e columngas q newgas c = cells - c
 
 loop-holds : tie.Need-loop-holds Inv-loop μ-loop
 loop-holds c =
