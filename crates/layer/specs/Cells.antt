@@ -1,16 +1,18 @@
 -- The cells of a layer, each with what enters and what leaves it, and the lists that a substep of a layer works on.
-use Prim.Native.Nat.{ℕ, zero, suc, _+_, _*_, _-_, _≤_, _<_}
+use Prim.Native.Nat.{ℕ, zero, suc, _+_, _*_, _≤_, _<_}
 use mathlib.Core.List.{List}
 use mathlib.Core.Bool.{Bool, _&&_, and-assoc, and-true}
 use mathlib.Core.Path.{_≡_, refl, sym, ap, ap₂, _∙_}
 use native.Mathlib.Omega.{arith}
-use lib.ListN.{length, set}
+use lib.ListN.{length}
+use mir.Syntax.{w32}
+use mir.Val.{Fits as Fits32}
 use Rattle.model.specs.Basic.{at, sum, every}
-use Rattle.model.specs.Sweep.{Mesh, Flow, reversed, layer, leaving, allowed}
-use Rattle.model.specs.Laws.Basic.{every-ext}
+use Rattle.model.specs.Sweep.{Flow, reversed, layer, leaving, allowed}
+use Rattle.model.specs.Laws.Basic.{every-ext, sum-none, sum-more}
 use Rattle.model.specs.Laws.Layer.{leaving-inner, leaving-north}
 use Rattle.substep.specs.Faces.{flowOf}
-use Rattle.substep.specs.Cells.{Cell, Moves, Moved, moved-none, moved-more, cellAllowed}
+use Rattle.substep.specs.Cells.{Cell, cellAllowed}
 
 -- ---- sizes
 -- a layer of at most 72 columns and 3,168 cells between the caps
@@ -46,6 +48,29 @@ pub record CapFaces (faces first w : ℕ) : Type 0 where
 pub record IsSum (l : List ℕ) (first w r : ℕ) : Type 0 where
   pub is : r ≡ sum w (λ i. at l (first + i))
   pub small : r ≤ 309237645240
+
+-- the sum as a loop over them takes it, of air or of a tracer: total is what passes the first i
+pub record SumTo (l : List ℕ) (first w i total : ℕ) : Type 0 where
+  pub reached : i ≤ w
+  pub is : total ≡ sum i (λ k. at l (first + k))
+  pub small : total ≤ 4294967295 * i
+
+pub cap-none : {l : List ℕ} {first w : ℕ} → SumTo l first w 0 0
+cap-none = record { reached = omega arith; is = sym (sum-none _); small = omega arith }
+
+module _ {l : List ℕ} {first w i total : ℕ} (sofar : SumTo l first w i total) where
+  pub cap-more : {r : ℕ} → i < w → ((k : ℕ) → Fits32 w32 (at l k)) → r ≡ total + at l (first + i) → SumTo l first w (i + 1) r
+  cap-more h fits e =
+      record {
+        reached = omega arith;
+        is = e ∙ ap (λ (x : ℕ). x + at l (first + i)) (sofar .is) ∙ sym (sum-more i _);
+        small = omega (arith, fits (first + i));
+      }
+
+  pub cap-all : w ≤ i → w ≤ 72 → IsSum l first w total
+  cap-all h few =
+      let done : i ≡ w = omega arith in
+      record { is = rw done at (sofar .is); small = omega arith }
 
 -- ---- what each cell exchanges
 module _ (w rows : ℕ) (up down : List ℕ) {e l : ℕ} where
@@ -95,18 +120,3 @@ module _ (w rows : ℕ) (flow : Flow) (l : List ℕ) where
   pub allowed-cells : allows 0 && every (rows * w) (λ j. allows (1 + j)) && allows (1 + rows * w) ≡ allowed (layer w rows) flow l
   unfolding allowed layer
   allowed-cells = every-cell (rows * w) allows
-
--- ---- amounts of which the first c cells are passed on already
-pub record Begun (mesh : Mesh) (flow : Flow) (l : List ℕ) (c : ℕ) : Type 0 where
-  pub first : List ℕ
-  pub moves : Moves mesh flow first
-  pub moved : Moved mesh flow first l c
-
--- then the first d are, whatever the amounts were before the first
-abbrev pub MovedOn : Mesh → Flow → List ℕ → ℕ → List ℕ → ℕ → Type 0
-MovedOn mesh flow l c after d = (b : Begun mesh flow l c) → Moved mesh flow (b .first) after d
-
-abbrev pub begin :
-    {mesh : Mesh} {flow : Flow} {l : List ℕ} {e o x : ℕ} →
-    Moves mesh flow l → Cell mesh flow 0 e o → x ≡ at l 0 + e - o → Begun mesh flow (set l 0 x) 1
-begin {l = l} moves cell is = record { first = l; moves = moves; moved = moved-more moves (moved-none moves) cell is }

@@ -76,14 +76,14 @@ pub record GivesPiece (w rows : ℕ) (air gas q : List ℕ) (i c m : ℕ) : Type
   pub need : (a b : ℕ) → Neighbours (layer w rows) a c b → PieceNeed air gas q a c b m
 
 -- ---- a substep of one tracer, with room for its ratios and pieces
-pub record Step (w rows : ℕ) (air gas up down q high low : List ℕ) : Type 0 where
+pub record Step (w rows : ℕ) (air gas airup airdown q gasup gasdown : List ℕ) : Type 0 where
   pub size : Size w rows
-  pub passes : Faces w rows up down
+  pub passes : Faces w rows airup airdown
   pub ratios : 2 + rows * w ≤ length q
-  pub pieces : Faces w rows high low
-  pub need : GasNeed (layer w rows) (flowOf up down) air gas
+  pub pieces : Faces w rows gasup gasdown
+  pub need : GasNeed (layer w rows) (flowOf airup airdown) air gas
 
-module _ {w rows : ℕ} {air gas up down q high low : List ℕ} (step : Step w rows air gas up down q high low)
+module _ {w rows : ℕ} {air gas airup airdown q gasup gasdown : List ℕ} (step : Step w rows air gas airup airdown q gasup gasdown)
     (ratios : AreRatios (layer w rows .cells) air gas q) (i : ℕ) (h : i < w + rows * w) where
   -- the cells on its two sides, and the pieces of the model
   abbrev south : ℕ
@@ -93,7 +93,7 @@ module _ {w rows : ℕ} {air gas up down q high low : List ℕ} (step : Step w r
   north = northOf (rows * w) i
 
   abbrev given : Flow
-  given = pieces mismatch (layer w rows) (flowOf up down) air gas
+  given = pieces mismatch (layer w rows) (flowOf airup airdown) air gas
 
   room : layer w rows .cells ≤ length q
   unfolding layer
@@ -104,7 +104,7 @@ module _ {w rows : ℕ} {air gas up down q high low : List ℕ} (step : Step w r
   inside = omega arith
 
   -- the cell south of face i gives from its high end, the cell north of it from its low end
-  pub gives-north : GivesPiece w rows air gas q i south (at up i)
+  pub gives-north : GivesPiece w rows air gas q i south (at airup i)
   unfolding layer
   gives-north =
       record {
@@ -114,7 +114,7 @@ module _ {w rows : ℕ} {air gas up down q high low : List ℕ} (step : Step w r
         need = λ a b near. high-need (layer-regular w rows) (step .need) q ratios room near i inside refl;
       }
 
-  pub gives-south : GivesPiece w rows air gas q i north (at down i)
+  pub gives-south : GivesPiece w rows air gas q i north (at airdown i)
   unfolding layer
   gives-south =
       record {
@@ -125,10 +125,10 @@ module _ {w rows : ℕ} {air gas up down q high low : List ℕ} (step : Step w r
       }
 
   -- and so the model's pieces are
-  pub piece-north : highPiece (cellMismatch mismatch (layer w rows) air gas south) (at air south) (at gas south) (at up i) ≡ given .toHigh i
+  pub piece-north : highPiece (cellMismatch mismatch (layer w rows) air gas south) (at air south) (at gas south) (at airup i) ≡ given .toHigh i
   unfolding layer
-  piece-north = sym (piece-up mismatch (layer w rows) (flowOf up down) air gas i south refl)
+  piece-north = sym (piece-up mismatch (layer w rows) (flowOf airup airdown) air gas i south refl)
 
-  pub piece-south : lowPiece (cellMismatch mismatch (layer w rows) air gas north) (at air north) (at gas north) (at down i) ≡ given .toLow i
+  pub piece-south : lowPiece (cellMismatch mismatch (layer w rows) air gas north) (at air north) (at gas north) (at airdown i) ≡ given .toLow i
   unfolding layer
-  piece-south = sym (piece-down mismatch (layer w rows) (flowOf up down) air gas i north refl)
+  piece-south = sym (piece-down mismatch (layer w rows) (flowOf airup airdown) air gas i north refl)

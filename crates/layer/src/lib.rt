@@ -1,5 +1,6 @@
 // The meridional substep of one layer with its two caps: whether it is allowed, and what it leaves in the air and in a tracer.
 // Cell 0 is the south cap, cell 1 + j the cell between face j and face w + j, and the last cell the north cap.
+// `airup` and `airdown` hold the air that passes each face northward and southward, `gasup` and `gasdown` the tracer that it carries; a list's name says of what its numbers are.
 // Every piece is taken into a list before any amount changes.
 ghost use mathlib.Core.Path.{_≡_};
 ghost use Prim.Native.Nat.{_+_, _*_, _≤_};
@@ -9,38 +10,57 @@ ghost use Rattle.model.specs.Basic.{at, every};
 ghost use Rattle.model.specs.Scheme.{highPiece, lowPiece, mismatch};
 ghost use Rattle.model.specs.Sweep.{southOf, northOf, layer, afterFlow, allowed, cellMismatch, pieces};
 ghost use Rattle.substep.specs.Faces.{flowOf, Same, stepped};
-ghost use Rattle.substep.specs.Cells.{cellAllowed, Moves};
+ghost use Rattle.substep.specs.Cells.{cellAllowed};
 ghost use Rattle.substep.specs.Pieces.{AreRatios};
-ghost use Rattle.layer.specs.Cells.{Fit, CapFaces, IsSum, Begun, MovedOn};
+ghost use Rattle.layer.specs.Cells.{Fit, CapFaces, IsSum};
 ghost use Rattle.layer.specs.Gas.{GivesPiece, Step};
-use substep::amount_after;
-use substep::both;
+ghost use Rattle.layer.specs.Passing.{Passing, PassingRows, PassedRows};
+use substep::air_after;
+use substep::both_air;
+use substep::both_tracers;
 use substep::cell_allows;
 use substep::fill_ratios;
 use substep::high_end;
 use substep::low_end;
+use substep::tracer_after;
 use units::Air;
+use units::AirSum;
 use units::Tracer;
+use units::TracerSum;
+use units::add_air;
+use units::add_tracer;
 
-// What passes the w faces of a cap, from face `first` on, in one direction.
-fn cap_sum(passes: &[u32], first: usize, w: usize) -> u64
-    requires { ⌜ CapFaces (length (now passes)) first w ⌝ }
-    ensures { λ r. ⌜ IsSum (now (passes .entry)) first w r ⌝ }
+// What passes the w faces of a cap, from face `first` on, in one direction: of air and of a tracer.
+fn cap_air(airpasses: &[u32], first: usize, w: usize) -> AirSum
+    requires { ⌜ CapFaces (length (now airpasses)) first w ⌝ }
+    ensures { λ r. ⌜ IsSum (now (airpasses .entry)) first w (r .0) ⌝ }
 {
-    let mut total: u64 = 0;
+    let mut total = AirSum(0);
     let mut i = 0;
     while i < w {
-        let k = first + i;
-        total += passes[k] as u64;
+        total = add_air(total, Air(airpasses[first + i]));
+        i += 1;
+    }
+    total
+}
+
+fn cap_gas(gaspasses: &[u32], first: usize, w: usize) -> TracerSum
+    requires { ⌜ CapFaces (length (now gaspasses)) first w ⌝ }
+    ensures { λ r. ⌜ IsSum (now (gaspasses .entry)) first w (r .0) ⌝ }
+{
+    let mut total = TracerSum(0);
+    let mut i = 0;
+    while i < w {
+        total = add_tracer(total, Tracer(gaspasses[first + i]));
         i += 1;
     }
     total
 }
 
 // Whether every cell between the caps allows the substep.
-fn rows_allow(air: &[u32], up: &[u32], down: &[u32], w: usize, rows: usize) -> bool
-    requires { ⌜ Fit w rows (now air) (now up) (now down) ⌝ }
-    ensures { λ r. ⌜ r ≡ every (rows * w) (λ j. cellAllowed (layer w rows) (flowOf (now (up .entry)) (now (down .entry))) (now (air .entry)) (1 + j)) ⌝ }
+fn rows_allow(air: &[u32], airup: &[u32], airdown: &[u32], w: usize, rows: usize) -> bool
+    requires { ⌜ Fit w rows (now air) (now airup) (now airdown) ⌝ }
+    ensures { λ r. ⌜ r ≡ every (rows * w) (λ j. cellAllowed (layer w rows) (flowOf (now (airup .entry)) (now (airdown .entry))) (now (air .entry)) (1 + j)) ⌝ }
 {
     let n = rows * w;
     let mut ok = true;
@@ -48,52 +68,92 @@ fn rows_allow(air: &[u32], up: &[u32], down: &[u32], w: usize, rows: usize) -> b
     while j < n {
         let c = 1 + j;
         let h = w + j;
-        let have = air[c];
-        ok = ok & cell_allows(Air(have), both(up[j], down[h]), both(down[j], up[h]));
+        let enters = both_air(Air(airup[j]), Air(airdown[h]));
+        let leaves = both_air(Air(airdown[j]), Air(airup[h]));
+        ok = ok & cell_allows(Air(air[c]), enters, leaves);
         j += 1;
     }
     ok
 }
 
 // Whether the substep is allowed: by the south cap, the rows and the north cap.
-pub fn layer_allowed(air: &[u32], up: &[u32], down: &[u32], w: usize, rows: usize) -> bool
-    requires { ⌜ Fit w rows (now air) (now up) (now down) ⌝ }
-    ensures { λ r. ⌜ r ≡ allowed (layer w rows) (flowOf (now (up .entry)) (now (down .entry))) (now (air .entry)) ⌝ }
+pub fn layer_allowed(air: &[u32], airup: &[u32], airdown: &[u32], w: usize, rows: usize) -> bool
+    requires { ⌜ Fit w rows (now air) (now airup) (now airdown) ⌝ }
+    ensures { λ r. ⌜ r ≡ allowed (layer w rows) (flowOf (now (airup .entry)) (now (airdown .entry))) (now (air .entry)) ⌝ }
 {
     let n = rows * w;
     let north = 1 + n;
-    let south_air = air[0];
-    let north_air = air[north];
-    let at_south = cell_allows(Air(south_air), cap_sum(down, 0, w), cap_sum(up, 0, w));
-    let at_north = cell_allows(Air(north_air), cap_sum(up, n, w), cap_sum(down, n, w));
-    at_south & rows_allow(air, up, down, w, rows) & at_north
+    let at_south = cell_allows(Air(air[0]), cap_air(airdown, 0, w), cap_air(airup, 0, w));
+    let at_north = cell_allows(
+        Air(air[north]),
+        cap_air(airup, n, w),
+        cap_air(airdown, n, w),
+    );
+    at_south & rows_allow(air, airup, airdown, w, rows) & at_north
 }
 
-// Passes on the amounts of the cells between the caps, after that of the south cap.
-fn pass_rows(amounts: &mut [u32], up: &[u32], down: &[u32], w: usize, rows: usize)
-    requires { ⌜ Fit w rows (now amounts) (now up) (now down) × Begun (layer w rows) (flowOf (now up) (now down)) (now amounts) 1 ⌝ }
-    ensures { λ r. ⌜ MovedOn (layer w rows) (flowOf (now (up .entry)) (now (down .entry))) (now (amounts .entry)) 1 (now (amounts .exit)) (1 + rows * w) ⌝ }
+// Passes on the air of the cells between the caps, after that of the south cap, and the same for a tracer.
+fn pass_rows_air(air: &mut [u32], airup: &[u32], airdown: &[u32], w: usize, rows: usize)
+    requires { ⌜ PassingRows w rows (now air) (now airup) (now airdown) ⌝ }
+    ensures { λ r. ⌜ PassedRows w rows (now (air .entry)) (now (airup .entry)) (now (airdown .entry)) (now (air .exit)) ⌝ }
 {
     let n = rows * w;
     let mut j = 0;
     while j < n {
         let c = 1 + j;
         let h = w + j;
-        amounts[c] = amount_after(amounts[c], both(up[j], down[h]), both(down[j], up[h]));
+        let enters = both_air(Air(airup[j]), Air(airdown[h]));
+        let leaves = both_air(Air(airdown[j]), Air(airup[h]));
+        air[c] = air_after(Air(air[c]), enters, leaves).0;
         j += 1;
     }
 }
 
-// Passes on a layer's amounts, of air or of a tracer, by what passes each face.
-pub fn pass_layer(amounts: &mut [u32], up: &[u32], down: &[u32], w: usize, rows: usize)
-    requires { ⌜ Fit w rows (now amounts) (now up) (now down) × Moves (layer w rows) (flowOf (now up) (now down)) (now amounts) ⌝ }
-    ensures { λ r. ⌜ now (amounts .exit) ≡ afterFlow (layer w rows) (flowOf (now (up .entry)) (now (down .entry))) (now (amounts .entry)) ⌝ }
+fn pass_rows_gas(gas: &mut [u32], gasup: &[u32], gasdown: &[u32], w: usize, rows: usize)
+    requires { ⌜ PassingRows w rows (now gas) (now gasup) (now gasdown) ⌝ }
+    ensures { λ r. ⌜ PassedRows w rows (now (gas .entry)) (now (gasup .entry)) (now (gasdown .entry)) (now (gas .exit)) ⌝ }
+{
+    let n = rows * w;
+    let mut j = 0;
+    while j < n {
+        let c = 1 + j;
+        let h = w + j;
+        let enters = both_tracers(Tracer(gasup[j]), Tracer(gasdown[h]));
+        let leaves = both_tracers(Tracer(gasdown[j]), Tracer(gasup[h]));
+        gas[c] = tracer_after(Tracer(gas[c]), enters, leaves).0;
+        j += 1;
+    }
+}
+
+// Passes on a layer's air by the air that passes each face, and a tracer by the pieces that it carries.
+pub fn pass_layer_air(air: &mut [u32], airup: &[u32], airdown: &[u32], w: usize, rows: usize)
+    requires { ⌜ Passing w rows (now air) (now airup) (now airdown) ⌝ }
+    ensures { λ r. ⌜ now (air .exit) ≡ afterFlow (layer w rows) (flowOf (now (airup .entry)) (now (airdown .entry))) (now (air .entry)) ⌝ }
 {
     let n = rows * w;
     let north = 1 + n;
-    amounts[0] = amount_after(amounts[0], cap_sum(down, 0, w), cap_sum(up, 0, w));
-    pass_rows(amounts, up, down, w, rows);
-    amounts[north] = amount_after(amounts[north], cap_sum(up, n, w), cap_sum(down, n, w));
+    let south_in = cap_air(airdown, 0, w);
+    let south_out = cap_air(airup, 0, w);
+    air[0] = air_after(Air(air[0]), south_in, south_out).0;
+    pass_rows_air(air, airup, airdown, w, rows);
+    let north_in = cap_air(airup, n, w);
+    let north_out = cap_air(airdown, n, w);
+    air[north] = air_after(Air(air[north]), north_in, north_out).0;
+}
+
+fn pass_layer_gas(gas: &mut [u32], gasup: &[u32], gasdown: &[u32], w: usize, rows: usize)
+    requires { ⌜ Passing w rows (now gas) (now gasup) (now gasdown) ⌝ }
+    ensures { λ r. ⌜ now (gas .exit) ≡ afterFlow (layer w rows) (flowOf (now (gasup .entry)) (now (gasdown .entry))) (now (gas .entry)) ⌝ }
+{
+    let n = rows * w;
+    let north = 1 + n;
+    let south_in = cap_gas(gasdown, 0, w);
+    let south_out = cap_gas(gasup, 0, w);
+    gas[0] = tracer_after(Tracer(gas[0]), south_in, south_out).0;
+    pass_rows_gas(gas, gasup, gasdown, w, rows);
+    let north_in = cap_gas(gasup, n, w);
+    let north_out = cap_gas(gasdown, n, w);
+    gas[north] = tracer_after(Tracer(gas[north]), north_in, north_out).0;
 }
 
 // The cell south of a face, and the cell north of it, where n cells lie between the caps.
@@ -142,45 +202,45 @@ fn fill_pieces(
     air: &[u32],
     gas: &[u32],
     q: &[u64],
-    up: &[u32],
-    down: &[u32],
+    airup: &[u32],
+    airdown: &[u32],
     w: usize,
     rows: usize,
-    high: &mut [u32],
-    low: &mut [u32],
+    gasup: &mut [u32],
+    gasdown: &mut [u32],
 )
-    requires { ⌜ Step w rows (now air) (now gas) (now up) (now down) (now q) (now high) (now low) × AreRatios (layer w rows .cells) (now air) (now gas) (now q) ⌝ }
-    ensures { λ r. ⌜ Same (layer w rows .faces) (flowOf (now (high .exit)) (now (low .exit))) (pieces mismatch (layer w rows) (flowOf (now (up .entry)) (now (down .entry))) (now (air .entry)) (now (gas .entry))) ⌝ }
+    requires { ⌜ Step w rows (now air) (now gas) (now airup) (now airdown) (now q) (now gasup) (now gasdown) × AreRatios (layer w rows .cells) (now air) (now gas) (now q) ⌝ }
+    ensures { λ r. ⌜ Same (layer w rows .faces) (flowOf (now (gasup .exit)) (now (gasdown .exit))) (pieces mismatch (layer w rows) (flowOf (now (airup .entry)) (now (airdown .entry))) (now (air .entry)) (now (gas .entry))) ⌝ }
 {
     let faces = w + rows * w;
     let mut i = 0;
     while i < faces {
-        let to_north = up[i];
-        let to_south = down[i];
+        let to_north = airup[i];
+        let to_south = airdown[i];
         let p = northward(air, gas, q, w, rows, i, Air(to_north));
         let r = southward(air, gas, q, w, rows, i, Air(to_south));
-        high[i] = p.0;
-        low[i] = r.0;
+        gasup[i] = p.0;
+        gasdown[i] = r.0;
         i += 1;
     }
 }
 
-// A layer's tracer after an allowed substep; q, high and low are room for its ratios and pieces.
+// A layer's tracer after an allowed substep; q, gasup and gasdown are room for its ratios and pieces.
 pub fn step_layer_gas(
     gas: &mut [u32],
     air: &[u32],
-    up: &[u32],
-    down: &[u32],
+    airup: &[u32],
+    airdown: &[u32],
     w: usize,
     rows: usize,
     q: &mut [u64],
-    high: &mut [u32],
-    low: &mut [u32],
+    gasup: &mut [u32],
+    gasdown: &mut [u32],
 )
-    requires { ⌜ Step w rows (now air) (now gas) (now up) (now down) (now q) (now high) (now low) ⌝ }
-    ensures { λ r. ⌜ now (gas .exit) ≡ stepped (layer w rows) (flowOf (now (up .entry)) (now (down .entry))) (now (air .entry)) (now (gas .entry)) ⌝ }
+    requires { ⌜ Step w rows (now air) (now gas) (now airup) (now airdown) (now q) (now gasup) (now gasdown) ⌝ }
+    ensures { λ r. ⌜ now (gas .exit) ≡ stepped (layer w rows) (flowOf (now (airup .entry)) (now (airdown .entry))) (now (air .entry)) (now (gas .entry)) ⌝ }
 {
     fill_ratios(air, &gas[..], air.len(), q);
-    fill_pieces(air, &gas[..], q, up, down, w, rows, high, low);
-    pass_layer(gas, high, low, w, rows);
+    fill_pieces(air, &gas[..], q, airup, airdown, w, rows, gasup, gasdown);
+    pass_layer_gas(gas, gasup, gasdown, w, rows);
 }

@@ -63,28 +63,28 @@ same-faces W R fluxes long same = rw long at same
 
 -- ---- what `layer_permits` needs and finds
 -- a layer's cells from cell `first` on, its fluxes, and room for what passes its faces
-pub record LayerNeed (g : Grid) (air : List ℕ) (first : ℕ) (fluxes : List ℤ) (up down : List ℕ) : Type 0 where
+pub record LayerNeed (g : Grid) (air : List ℕ) (first : ℕ) (fluxes : List ℤ) (airup airdown : List ℕ) : Type 0 where
   pub range : InRange g
   pub inside : first + layerCells g ≤ length air
   pub long : length fluxes ≡ g .W * (g .R + 1)
-  pub rooms : Rooms up down
+  pub rooms : Rooms airup airdown
 
-pub record IsPermit (g : Grid) (air : List ℕ) (first : ℕ) (fluxes : List ℤ) (up down : List ℕ) (r : Bool) : Type 0 where
-  pub passes : AreParts fluxes 1 1 up down
+pub record IsPermit (g : Grid) (air : List ℕ) (first : ℕ) (fluxes : List ℤ) (airup airdown : List ℕ) (r : Bool) : Type 0 where
+  pub passes : AreParts fluxes 1 1 airup airdown
   pub serving : serves (layer (g .W) (g .R)) fluxes (part air first (layerCells g)) 1 ≡ r
 
 -- so tested, over the lent air
-pub permit : {g : Grid} {air : List ℕ} {first : ℕ} {fluxes : List ℤ} {had have up down : List ℕ} {wide : ℕ} {r : Bool} →
-    LayerNeed g air first fluxes had have → wide ≡ layerCells g → AreParts fluxes 1 1 up down →
-    r ≡ allowed (layer (g .W) (g .R)) (flowOf up down) (lentLayer air first wide) → IsPermit g air first fluxes up down r
-permit {g} {air} {first} {fluxes} {had} {have} {up} {down} need alike passes e =
+pub permit : {g : Grid} {air : List ℕ} {first : ℕ} {fluxes : List ℤ} {had have airup airdown : List ℕ} {wide : ℕ} {r : Bool} →
+    LayerNeed g air first fluxes had have → wide ≡ layerCells g → AreParts fluxes 1 1 airup airdown →
+    r ≡ allowed (layer (g .W) (g .R)) (flowOf airup airdown) (lentLayer air first wide) → IsPermit g air first fluxes airup airdown r
+permit {g} {air} {first} {fluxes} {had} {have} {airup} {airdown} need alike passes e =
     let mesh : Mesh = layer (g .W) (g .R) in
     let same = same-faces (g .W) (g .R) fluxes (need .long) passes in
     record {
       passes = passes;
       serving =
           serves-one mesh fluxes _ ∙
-          sym (e ∙ ap (allowed mesh (flowOf up down)) (layer-lent g alike air first) ∙ same-allowed mesh (layer-regular (g .W) (g .R)) same _);
+          sym (e ∙ ap (allowed mesh (flowOf airup airdown)) (layer-lent g alike air first) ∙ same-allowed mesh (layer-regular (g .W) (g .R)) same _);
     }
 
 -- ---- the places behind the layer and behind the fluxes; the last: the substep is not allowed
@@ -96,13 +96,13 @@ abbrev pub fromFluxes : ℕ → List ℤ → List Place
 fromFluxes k fluxes = fluxTooLarge fluxes meridionalLimit ∷ fromSubstep k fluxes
 
 -- ---- what `layer_place` finds
-pub record LayerFound (w : World) (k : ℕ) (fluxes : List ℤ) (up down : List ℕ) (p : Placed) : Type 0 where
+pub record LayerFound (w : World) (k : ℕ) (fluxes : List ℤ) (airup airdown : List ℕ) (p : Placed) : Type 0 where
   pub left : Left w (Like w (meridional k fluxes)) []
   pub fits : Fits w
   pub long : length fluxes ≡ w .grid .W * (w .grid .R + 1)
   pub start : p .first ≡ layerStart (w .grid) k
-  pub passes : AreParts fluxes 1 1 up down
+  pub passes : AreParts fluxes 1 1 airup airdown
 
 abbrev pub IsLayerPlace : World → ℕ → List ℤ → List ℕ → List ℕ → Placed → Type 0
-IsLayerPlace w k fluxes up down p =
-    IsPlaced w (Like w (meridional k fluxes)) (p .answer) (LayerFound w k fluxes up down p)
+IsLayerPlace w k fluxes airup airdown p =
+    IsPlaced w (Like w (meridional k fluxes)) (p .answer) (LayerFound w k fluxes airup airdown p)

@@ -23,14 +23,14 @@ use Rattle.units.specs.Agrees.{accepted-agrees}
 use Rattle.places.specs.declared.Placed.{Placed}
 use Rattle.places.specs.Walk.{none}
 use Rattle.substep.specs.Faces.{flowOf, Same, same-allowed, same-after}
-use Rattle.substep.specs.Cells.{Moves, air-moves}
+use Rattle.substep.specs.Cells.{air-moves}
 use Rattle.substep.specs.Lent.{put-back}
-use Rattle.layer.specs.Cells.{Fit}
+use Rattle.layer.specs.Passing.{Passing}
 use Rattle.meridional.specs.LayerPlace.{Rooms, LayerFound, lentLayer, layer-lent, layer-long, layer-fit, same-faces, serves-one}
 use Rattle.meridional.specs.LayerTracers.{LayerTracersNeed, sweptTracers, swept-same}
 
 module _
-    {w : World} {k : ℕ} {fluxes : List ℤ} {up down : List ℕ} {p : Placed} (found : LayerFound w k fluxes up down p)
+    {w : World} {k : ℕ} {fluxes : List ℤ} {airup airdown : List ℕ} {p : Placed} (found : LayerFound w k fluxes airup airdown p)
     {wide : ℕ} (alike : wide ≡ layerCells (w .grid)) where
   abbrev mesh : Mesh
   mesh = layer (w .grid .W) (w .grid .R)
@@ -59,10 +59,10 @@ module _
   lent-is =
       layer-lent (w .grid) alike (w .air) (p .first) ∙ ap (λ (i : ℕ). part (w .air) i (layerCells (w .grid))) (found .start)
 
-  same : Same (mesh .faces) (flowOf up down) (parts fluxes 1 1)
+  same : Same (mesh .faces) (flowOf airup airdown) (parts fluxes 1 1)
   same = same-faces (w .grid .W) (w .grid .R) fluxes (found .long) (found .passes)
 
-  lent-permits : allowed mesh (flowOf up down) lent ≡ true
+  lent-permits : allowed mesh (flowOf airup airdown) lent ≡ true
   unfolding layer
   lent-permits =
       same-allowed mesh (layer-regular (w .grid .W) (w .grid .R)) same lent ∙
@@ -76,12 +76,12 @@ module _
       rw lent-is
       (cells-in (layerStart (w .grid) k) (layerCells (w .grid)) (worldCells (w .grid)) (sweeps .inside) (w .air) (found .fits .air))
 
-  after-length : {new : List ℕ} → new ≡ afterFlow mesh (flowOf up down) lent → length new ≡ wide
+  after-length : {new : List ℕ} → new ≡ afterFlow mesh (flowOf airup airdown) lent → length new ≡ wide
   unfolding layer
-  after-length stored = ap length stored ∙ length-after-flow mesh (flowOf up down) lent ∙ sym alike
+  after-length stored = ap length stored ∙ length-after-flow mesh (flowOf airup airdown) lent ∙ sym alike
 
-  pub meridional-agrees : {new after : List ℕ} → new ≡ afterFlow mesh (flowOf up down) lent →
-      after ≡ sweptTracers (w .grid) (w .tracers) lent (flowOf up down) (p .first) →
+  pub meridional-agrees : {new after : List ℕ} → new ≡ afterFlow mesh (flowOf airup airdown) lent →
+      after ≡ sweptTracers (w .grid) (w .tracers) lent (flowOf airup airdown) (p .first) →
       Agrees w (meridional k fluxes) (Accepted 1) (withAmounts w (putMid (p .first) (p .first + wide - p .first) (w .air) new) after)
   unfolding swept layer airAfter gasAfter
   meridional-agrees {new} {after} stored done =
@@ -93,7 +93,7 @@ module _
       (done ∙ swept-same (w .grid) (w .tracers) lent (p .first) same ∙
       ap₂ (λ (l : List ℕ) (i : ℕ). sweptTracers (w .grid) (w .tracers) l (parts fluxes 1 1) i) lent-is (found .start)))
 
-  pub tracers-need : LayerTracersNeed (w .grid) (w .tracers) lent (flowOf up down) (p .first)
+  pub tracers-need : LayerTracersNeed (w .grid) (w .tracers) lent (flowOf airup airdown) (p .first)
   tracers-need =
       record {
         range = range;
@@ -105,9 +105,9 @@ module _
         total = found .fits .totals;
       }
 
-  pub air-need : Rooms up down → Fit (w .grid .W) (w .grid .R) lent up down × Moves mesh (flowOf up down) lent
+  pub air-need : Rooms airup airdown → Passing (w .grid .W) (w .grid .R) lent airup airdown
   unfolding layer
   air-need rooms = (
     layer-fit (w .grid) alike (w .air) (p .first) range rooms layer-in-air,
-    air-moves mesh (flowOf up down) lent (layer-long (w .grid) alike (w .air) (p .first) layer-in-air) lent-permits,
+    air-moves mesh (flowOf airup airdown) lent (layer-long (w .grid) alike (w .air) (p .first) layer-in-air) lent-permits,
   )

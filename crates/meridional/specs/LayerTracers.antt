@@ -131,9 +131,9 @@ module _ {g : Grid} {tracers air : List ℕ} {flow : Flow} {first : ℕ} (need :
         part-more swept-changes h e new first (omega (arith, need .inside)) (ap (written (gas-of t) first) own)
 
 -- with the room that `sweep_tracers` declares
-pub step-need : {g : Grid} → InRange g → {air gas up down q high low : List ℕ} → Rooms up down → length q ≡ mostLayerCells →
-    length high ≡ mostFaces → length low ≡ mostFaces → GasNeed (layer (g .W) (g .R)) (flowOf up down) air gas →
-    Step (g .W) (g .R) air gas up down q high low
+pub step-need : {g : Grid} → InRange g → {air gas airup airdown q gasup gasdown : List ℕ} → Rooms airup airdown → length q ≡ mostLayerCells →
+    length gasup ≡ mostFaces → length gasdown ≡ mostFaces → GasNeed (layer (g .W) (g .R)) (flowOf airup airdown) air gas →
+    Step (g .W) (g .R) air gas airup airdown q gasup gasdown
 step-need range rooms ratios northward southward need =
     let size = layer-size range in
     record {

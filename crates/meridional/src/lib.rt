@@ -7,7 +7,7 @@ ghost use Rattle.substep.specs.Faces.{flowOf};
 ghost use Rattle.meridional.specs.LayerPlace.{Rooms, LayerNeed, IsPermit, IsLayerPlace};
 ghost use Rattle.meridional.specs.LayerTracers.{LayerTracersNeed, sweptTracers};
 use layer::layer_allowed;
-use layer::pass_layer;
+use layer::pass_layer_air;
 use layer::step_layer_gas;
 use places::Lent;
 use places::Placed;
@@ -27,35 +27,35 @@ use units::layer_start;
 use units::number;
 use units::world_cells;
 
-// Fills up and down with what passes each face, and says whether the substep is allowed.
+// Fills airup and airdown with the air that passes each face northward and southward, and says whether the substep is allowed.
 fn layer_permits(
     g: Grid,
     air: &[u32],
     first: usize,
     fluxes: &[i32],
-    up: &mut [u32],
-    down: &mut [u32],
+    airup: &mut [u32],
+    airdown: &mut [u32],
 ) -> bool
-    requires { ⌜ LayerNeed (gridOf g) (now air) first (now fluxes) (now up) (now down) ⌝ }
-    ensures { λ r. ⌜ IsPermit (gridOf g) (now (air .entry)) first (now (fluxes .entry)) (now (up .exit)) (now (down .exit)) r ⌝ }
+    requires { ⌜ LayerNeed (gridOf g) (now air) first (now fluxes) (now airup) (now airdown) ⌝ }
+    ensures { λ r. ⌜ IsPermit (gridOf g) (now (air .entry)) first (now (fluxes .entry)) (now (airup .exit)) (now (airdown .exit)) r ⌝ }
 {
     let end = first + (layer_cells(g) as usize);
-    fill_parts(fluxes, 1, 1, up, down);
-    layer_allowed(&air[first..end], up, down, g.w as usize, g.r as usize)
+    fill_parts(fluxes, 1, 1, airup, airdown);
+    layer_allowed(&air[first..end], airup, airdown, g.w as usize, g.r as usize)
 }
 
-// Places 1 to 10: where the layer starts. Where the call is accepted, up and down have what passes each face.
+// Places 1 to 10: where the layer starts. Where the call is accepted, airup and airdown have the air that passes each face.
 fn layer_place(
     g: Grid,
     air: &[u32],
     tracers: &[u32],
     layer: u32,
     fluxes: &[i32],
-    up: &mut [u32],
-    down: &mut [u32],
+    airup: &mut [u32],
+    airdown: &mut [u32],
 ) -> Placed
-    requires { ⌜ Rooms (now up) (now down) ⌝ }
-    ensures { λ p. ⌜ IsLayerPlace (worldOf g (now (air .entry)) (now (tracers .entry))) layer (now (fluxes .entry)) (now (up .exit)) (now (down .exit)) p ⌝ }
+    requires { ⌜ Rooms (now airup) (now airdown) ⌝ }
+    ensures { λ p. ⌜ IsLayerPlace (worldOf g (now (air .entry)) (now (tracers .entry))) layer (now (fluxes .entry)) (now (airup .exit)) (now (airdown .exit)) p ⌝ }
 {
     let tested = common_places(g, air, tracers, Lent::LayerFluxes(fluxes.len()));
     let answer = tested.answer;
@@ -69,7 +69,7 @@ fn layer_place(
         return not_placed(Answer::Refused(Refusal::Fluxes));
     }
     let first = layer_start(g, layer) as usize;
-    if layer_permits(g, air, first, fluxes, up, down) {} else {
+    if layer_permits(g, air, first, fluxes, airup, airdown) {} else {
         return not_placed(Answer::Refused(Refusal::Meridional));
     }
     Placed {
@@ -80,16 +80,23 @@ fn layer_place(
 }
 
 // The layer of every tracer, swept where it is lent; `air` is the layer's.
-fn sweep_tracers(g: Grid, tracers: &mut [u32], air: &[u32], up: &[u32], down: &[u32], first: usize)
-    requires { ⌜ Rooms (now up) (now down) × LayerTracersNeed (gridOf g) (now tracers) (now air) (flowOf (now up) (now down)) first ⌝ }
-    ensures { λ x. ⌜ now (tracers .exit) ≡ sweptTracers (gridOf g) (now (tracers .entry)) (now (air .entry)) (flowOf (now (up .entry)) (now (down .entry))) first ⌝ }
+fn sweep_tracers(
+    g: Grid,
+    tracers: &mut [u32],
+    air: &[u32],
+    airup: &[u32],
+    airdown: &[u32],
+    first: usize,
+)
+    requires { ⌜ Rooms (now airup) (now airdown) × LayerTracersNeed (gridOf g) (now tracers) (now air) (flowOf (now airup) (now airdown)) first ⌝ }
+    ensures { λ x. ⌜ now (tracers .exit) ≡ sweptTracers (gridOf g) (now (tracers .entry)) (now (air .entry)) (flowOf (now (airup .entry)) (now (airdown .entry))) first ⌝ }
 {
     let n = g.n as usize;
     let wide = layer_cells(g) as usize;
     let cells = world_cells(g) as usize;
     let mut q = [0u64; MOST_LAYER_CELLS];
-    let mut high = [0u32; MOST_FACES];
-    let mut low = [0u32; MOST_FACES];
+    let mut gasup = [0u32; MOST_FACES];
+    let mut gasdown = [0u32; MOST_FACES];
     let mut t = 0;
     while t < n {
         let a = t * cells + first;
@@ -97,13 +104,13 @@ fn sweep_tracers(g: Grid, tracers: &mut [u32], air: &[u32], up: &[u32], down: &[
         step_layer_gas(
             &mut tracers[a..e],
             air,
-            up,
-            down,
+            airup,
+            airdown,
             g.w as usize,
             g.r as usize,
             &mut q,
-            &mut high,
-            &mut low,
+            &mut gasup,
+            &mut gasdown,
         );
         t += 1;
     }
@@ -119,16 +126,22 @@ pub fn meridional(
 ) -> Answer
     ensures { λ x. ⌜ Agrees (worldOf g (now (air .entry)) (now (tracers .entry))) (meridional-call layer (now (fluxes .entry))) x (worldOf g (now (air .exit)) (now (tracers .exit))) ⌝ }
 {
-    let mut up = [0u32; MOST_FACES];
-    let mut down = [0u32; MOST_FACES];
-    let place = layer_place(g, air, tracers, layer, fluxes, &mut up, &mut down);
+    let mut airup = [0u32; MOST_FACES];
+    let mut airdown = [0u32; MOST_FACES];
+    let place = layer_place(g, air, tracers, layer, fluxes, &mut airup, &mut airdown);
     let answer = place.answer;
     if number(answer) == 0 {} else {
         return answer;
     }
     let first = place.first;
     let end = first + (layer_cells(g) as usize);
-    sweep_tracers(g, tracers, &air[first..end], &up, &down, first);
-    pass_layer(&mut air[first..end], &up, &down, g.w as usize, g.r as usize);
+    sweep_tracers(g, tracers, &air[first..end], &airup, &airdown, first);
+    pass_layer_air(
+        &mut air[first..end],
+        &airup,
+        &airdown,
+        g.w as usize,
+        g.r as usize,
+    );
     Answer::Accepted(1)
 }

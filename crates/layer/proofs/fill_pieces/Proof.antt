@@ -14,14 +14,14 @@ use Rattle.layer.proofs.fill_pieces.Statement.{statement}
 use Rattle.layer.proofs.fill_pieces.Tie as tie
 
 abbrev Inv-loop : tie.InvT-loop
-Inv-loop air gas q up down w rows high₀ low₀ faces i₀ high low i =
+Inv-loop air gas q airup airdown w rows gasup₀ gasdown₀ faces i₀ gasup gasdown i =
     (i ≤ w + rows * w)
-    × (length high ≡ length high₀)
-    × (length low ≡ length low₀)
-    × Same i (flowOf high low) (pieces mismatch (layer w rows) (flowOf up down) air gas)
+    × (length gasup ≡ length gasup₀)
+    × (length gasdown ≡ length gasdown₀)
+    × Same i (flowOf gasup gasdown) (pieces mismatch (layer w rows) (flowOf airup airdown) air gas)
 
 abbrev μ-loop : tie.MeasureT-loop
-μ-loop air gas q up down w rows high₀ low₀ faces i₀ high low i = w + rows * w - i
+μ-loop air gas q airup airdown w rows gasup₀ gasdown₀ faces i₀ gasup gasdown i = w + rows * w - i
 
 loop-holds : tie.Need-loop-holds Inv-loop μ-loop
 loop-holds c = (search needs, search needs, search needs, same-none _ _)
@@ -45,7 +45,7 @@ loop-again c =
       search needs,
       search needs,
       search needs,
-      same-more (l .high) (l .low) (search needs) (search needs) (l .inv .3)
+      same-more (l .gasup) (l .gasdown) (search needs) (search needs) (l .inv .3)
           (c .before .northward .ensures ∙ piece-north (pre .0) (pre .1) (l .i) (omega arith))
           (c .southward .ensures ∙ piece-south (pre .0) (pre .1) (l .i) (omega arith)),
     )
@@ -72,10 +72,10 @@ fill-pieces-spec =
     (λ c. search needs)  -- shared-slice-read-to-south
     northward-requires
     southward-requires
-    (λ c. search needs)  -- mul-high
-    (λ c. search needs)  -- slice-write-high
-    (λ c. search needs)  -- mul-low
-    (λ c. search needs)  -- slice-write-low
+    (λ c. search needs)  -- mul-gasup
+    (λ c. search needs)  -- slice-write-gasup
+    (λ c. search needs)  -- mul-gasdown
+    (λ c. search needs)  -- slice-write-gasdown
     (λ c. search needs)  -- add-i
     (λ c. search needs)  -- loop-less
     loop-again

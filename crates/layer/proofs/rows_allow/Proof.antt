@@ -15,10 +15,10 @@ use Rattle.layer.proofs.rows_allow.Statement.{statement}
 use Rattle.layer.proofs.rows_allow.Tie as tie
 
 abbrev Inv-loop : tie.InvT-loop
-Inv-loop air up down w rows n ok₀ j₀ ok j = (j ≤ rows * w) × (ok ≡ every j (λ k. cellAllowed (layer w rows) (flowOf up down) air (1 + k)))
+Inv-loop air airup airdown w rows n ok₀ j₀ ok j = (j ≤ rows * w) × (ok ≡ every j (λ k. cellAllowed (layer w rows) (flowOf airup airdown) air (1 + k)))
 
 abbrev μ-loop : tie.MeasureT-loop
-μ-loop air up down w rows n ok₀ j₀ ok j = rows * w - j
+μ-loop air airup airdown w rows n ok₀ j₀ ok j = rows * w - j
 
 loop-holds : tie.Need-loop-holds Inv-loop μ-loop
 loop-holds c = (search needs, sym (every-none _))
@@ -27,9 +27,9 @@ loop-again : tie.Need-loop-again Inv-loop μ-loop
 loop-again c =
     let a = the (tie.Start Inv-loop μ-loop) (search) .args in
     let l = the (tie.At-loop Inv-loop μ-loop) (search) .loop in
-    let enters = the (tie.After-both Inv-loop μ-loop) (search) .both .ensures .0 in
-    let leaves = the (tie.After-both2 Inv-loop μ-loop) (search) .both2 .ensures .0 in
-    let cell = row-cell (a .w) (a .rows) (a .up .now) (a .down .now) (l .j) (omega arith) enters leaves in
+    let enters = the (tie.After-both-air Inv-loop μ-loop) (search) .both-air .ensures .0 in
+    let leaves = the (tie.After-both-air2 Inv-loop μ-loop) (search) .both-air2 .ensures .0 in
+    let cell = row-cell (a .w) (a .rows) (a .airup .now) (a .airdown .now) (l .j) (omega arith) enters leaves in
     (search needs, ap₂ _&&_ (l .inv .1) (c .cell-allows .ensures ∙ cell-allows cell (a .air .now)) ∙ sym (every-more (l .j) _))
 
 returns : tie.Need-returns Inv-loop μ-loop
@@ -49,18 +49,18 @@ rows-allow-spec =
     loop-holds
     (λ c. search needs)  -- add-c
     (λ c. search needs)  -- add-h
-    (λ c. search needs)  -- mul-have
-    (λ c. search needs)  -- shared-slice-read-have
-    (λ c. search needs)  -- mul-both
-    (λ c. search needs)  -- shared-slice-read-both
-    (λ c. search needs)  -- mul-both-2
-    (λ c. search needs)  -- shared-slice-read-both-2
-    (λ c κs. search needs)  -- both-requires
-    (λ c. search needs)  -- mul-both-3
-    (λ c. search needs)  -- shared-slice-read-both-3
-    (λ c. search needs)  -- mul-both-4
-    (λ c. search needs)  -- shared-slice-read-both-4
-    (λ c κs. search needs)  -- both-requires-2
+    (λ c. search needs)  -- mul-t14
+    (λ c. search needs)  -- shared-slice-read-t16
+    (λ c. search needs)  -- mul-t18
+    (λ c. search needs)  -- shared-slice-read-t20
+    (λ c κs. search needs)  -- both-air-requires
+    (λ c. search needs)  -- mul-t14-2
+    (λ c. search needs)  -- shared-slice-read-t16-2
+    (λ c. search needs)  -- mul-t18-2
+    (λ c. search needs)  -- shared-slice-read-t20-2
+    (λ c κs. search needs)  -- both-air-requires-2
+    (λ c. search needs)  -- mul-t14-3
+    (λ c. search needs)  -- shared-slice-read-t20-3
     (λ c κs. search needs)  -- cell-allows-requires
     (λ c. search needs)  -- add-j
     (λ c. search needs)  -- loop-less

@@ -26,8 +26,8 @@ fill-pieces-requires c κs =
       rw (pre .need .airLong) at filled,
     )
 
-pass-layer-requires : tie.Need-pass-layer-requires
-pass-layer-requires c κs =
+pass-layer-gas-requires : tie.Need-pass-layer-gas-requires
+pass-layer-gas-requires c κs =
     let start : tie.Start = search in
     let pieces = the tie.After-fill-pieces (search) .fill-pieces .ensures in
     let a = start .args in
@@ -41,7 +41,7 @@ returns : tie.Need-returns
 returns c =
     let start : tie.Start = search in
     let pieces = the tie.After-fill-pieces (search) .fill-pieces .ensures in
-    c .before .before .pass-layer .ensures ∙ gas-after (layer-regular (start .args .w) (start .args .rows)) (start .pre .need) pieces
+    c .before .before .pass-layer-gas .ensures ∙ gas-after (layer-regular (start .args .w) (start .args .rows)) (start .pre .need) pieces
 
 pub step-layer-gas-spec : {M : Type 1} → statement M
 step-layer-gas-spec =
@@ -49,7 +49,7 @@ step-layer-gas-spec =
     (tie.spec
     fill-ratios-requires
     fill-pieces-requires
-    pass-layer-requires
+    pass-layer-gas-requires
     (λ c. search needs)  -- same-length
     (λ c. search needs)  -- same-length-2
     (λ c. search needs)  -- same-length-3

@@ -55,24 +55,24 @@ sweep-tracers-requires c κs =
     let found = place .layer-place .ensures .found (accepted yes) in
     (record { high = search needs; low = search needs }, tracers-need found (wide .layer-cells .ensures .0))
 
-mul-pass-layer : tie.Need-mul-pass-layer
-mul-pass-layer c =
+mul-pass-layer-air : tie.Need-mul-pass-layer-air
+mul-pass-layer-air c =
     let wide : tie.After-layer-cells = search in
     let yes : tie.Then1 = search in
     let place : tie.After-layer-place = search in
     let found = place .layer-place .ensures .found (accepted yes) in
     omega (arith, layer-near found (wide .layer-cells .ensures .0))
 
-part-pass-layer-end : tie.Need-part-pass-layer-end
-part-pass-layer-end c =
+part-pass-layer-air-end : tie.Need-part-pass-layer-air-end
+part-pass-layer-air-end c =
     let wide : tie.After-layer-cells = search in
     let yes : tie.Then1 = search in
     let place : tie.After-layer-place = search in
     let found = place .layer-place .ensures .found (accepted yes) in
     layer-in-air found (wide .layer-cells .ensures .0)
 
-pass-layer-requires : tie.Need-pass-layer-requires
-pass-layer-requires c κs =
+pass-layer-air-requires : tie.Need-pass-layer-air-requires
+pass-layer-air-requires c κs =
     let wide : tie.After-layer-cells = search in
     let yes : tie.Then1 = search in
     let place : tie.After-layer-place = search in
@@ -81,13 +81,13 @@ pass-layer-requires c κs =
 
 returns-2 : tie.Need-returns-2
 returns-2 c =
-    let passed : tie.After-pass-layer = search in
+    let passed : tie.After-pass-layer-air = search in
     let swept : tie.After-sweep-tracers = search in
     let wide : tie.After-layer-cells = search in
     let yes : tie.Then1 = search in
     let place : tie.After-layer-place = search in
     let found = place .layer-place .ensures .found (accepted yes) in
-    meridional-agrees found (wide .layer-cells .ensures .0) (passed .pass-layer .ensures) (swept .sweep-tracers .ensures)
+    meridional-agrees found (wide .layer-cells .ensures .0) (passed .pass-layer-air .ensures) (swept .sweep-tracers .ensures)
 
 pub meridional-spec : {M : Type 1} → statement M
 meridional-spec =
@@ -110,15 +110,15 @@ meridional-spec =
     (λ c. search needs)  -- slice-aggregate-sweep-tracers
     (λ c. search needs)  -- slice-aggregate-sweep-tracers-2
     sweep-tracers-requires
-    mul-pass-layer
-    (λ c. search needs)  -- sub-pass-layer
-    (λ c. search needs)  -- part-pass-layer-start
-    part-pass-layer-end
-    (λ c. search needs)  -- slice-aggregate-pass-layer
-    (λ c. search needs)  -- slice-aggregate-pass-layer-2
-    (λ c. search needs)  -- cast-pass-layer
-    (λ c. search needs)  -- cast-pass-layer-2
-    pass-layer-requires
+    mul-pass-layer-air
+    (λ c. search needs)  -- sub-pass-layer-air
+    (λ c. search needs)  -- part-pass-layer-air-start
+    part-pass-layer-air-end
+    (λ c. search needs)  -- slice-aggregate-pass-layer-air
+    (λ c. search needs)  -- slice-aggregate-pass-layer-air-2
+    (λ c. search needs)  -- cast-pass-layer-air
+    (λ c. search needs)  -- cast-pass-layer-air-2
+    pass-layer-air-requires
     (λ c. search needs)  -- same-length-3
     (λ c. search needs)  -- same-length-4
     returns-2)

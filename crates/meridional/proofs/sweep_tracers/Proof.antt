@@ -14,15 +14,15 @@ use Rattle.meridional.proofs.sweep_tracers.Statement.{statement}
 use Rattle.meridional.proofs.sweep_tracers.Tie as tie
 
 abbrev Inv-loop : tie.InvT-loop
-Inv-loop g tracers₀ air up down first n wide cells q₀ high₀ low₀ t₀ tracers q high low t =
+Inv-loop g tracers₀ air airup airdown first n wide cells q₀ gasup₀ gasdown₀ t₀ tracers q gasup gasdown t =
     (t ≤ n)
-    × (tracers ≡ sweptUpTo (gridOf g) tracers₀ air (flowOf up down) first t)
+    × (tracers ≡ sweptUpTo (gridOf g) tracers₀ air (flowOf airup airdown) first t)
     × (length q ≡ mostLayerCells)
-    × (length high ≡ mostFaces)
-    × (length low ≡ mostFaces)
+    × (length gasup ≡ mostFaces)
+    × (length gasdown ≡ mostFaces)
 
 abbrev μ-loop : tie.MeasureT-loop
-μ-loop g tracers₀ air up down first n wide cells q₀ high₀ low₀ t₀ tracers q high low t = n - t
+μ-loop g tracers₀ air airup airdown first n wide cells q₀ gasup₀ gasdown₀ t₀ tracers q gasup gasdown t = n - t
 
 layer-cells-requires : tie.Need-layer-cells-requires Inv-loop μ-loop
 layer-cells-requires c κs =
