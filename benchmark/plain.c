@@ -438,12 +438,3 @@ uint64_t CALL(remap)(uint32_t w, uint32_t r, uint32_t k, uint32_t n, uint32_t *a
         remap_column(&g, air + c, tracers + c, table, c == 0 || c + 1 == g.layer);
     return count;
 }
-
-/* A plain read of memory, for the read bandwidth: the sum in 32 bits. */
-uint32_t CALL(read)(const uint32_t *numbers, size_t length)
-{
-    uint32_t sum = 0;
-    for (size_t i = 0; i < length; i++)
-        sum += numbers[i];
-    return sum;
-}

@@ -125,7 +125,11 @@ pub const VERSIONS: [Version; COUNT] = [
         ],
     },
     Version {
-        name: "gcc -O3 -march=native",
+        // tools/benchmark may link an earlier library here
+        name: match option_env!("BEFORE") {
+            Some(_) => "the library before",
+            None => "gcc -O3 -march=native",
+        },
         calls: [native0::call, native1::call, native2::call, native3::call],
     },
     Version {
@@ -139,11 +143,11 @@ pub const VERSIONS: [Version; COUNT] = [
 ];
 
 extern "C" {
-    fn native0_read(numbers: *const u32, length: usize) -> u32;
+    fn plain_read(numbers: *const u32, length: usize) -> u32;
 }
 
 /// A plain read of all numbers: their sum in 32 bits, by gcc -O3 -march=native.
 pub fn read(numbers: &[u32]) -> u32 {
     // SAFETY: the pointer goes with its list's length, and nothing is written.
-    unsafe { native0_read(numbers.as_ptr(), numbers.len()) }
+    unsafe { plain_read(numbers.as_ptr(), numbers.len()) }
 }
