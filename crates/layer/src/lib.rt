@@ -1,27 +1,19 @@
-// The meridional substep of one layer with its two caps: whether it is allowed, and what it leaves in the air and in a tracer.
+// The meridional substep of one layer with its two caps: whether it is allowed, and the air or a tracer passed on by what passes each face.
 // Cell 0 is the south cap, cell 1 + j the cell between face j and face w + j, and the last cell the north cap.
 // `airup` and `airdown` hold the air that passes each face northward and southward, `gasup` and `gasdown` the tracer that it carries; a list's name says of what its numbers are.
-// Every piece is taken into a list before any amount changes.
 ghost use mathlib.Core.Path.{_≡_};
-ghost use Prim.Native.Nat.{_+_, _*_, _≤_};
+ghost use Prim.Native.Nat.{_+_, _*_};
 ghost use lib.ListN.{length};
-ghost use Rattle.model.specs.Limits.{mostFaces};
-ghost use Rattle.model.specs.Basic.{at, every};
-ghost use Rattle.model.specs.Scheme.{highPiece, lowPiece, mismatch};
-ghost use Rattle.model.specs.Sweep.{southOf, northOf, layer, afterFlow, allowed, cellMismatch, pieces};
-ghost use Rattle.substep.specs.Faces.{flowOf, Same, stepped};
+ghost use Rattle.model.specs.Basic.{every};
+ghost use Rattle.model.specs.Sweep.{layer, afterFlow, allowed};
+ghost use Rattle.substep.specs.Faces.{flowOf};
 ghost use Rattle.substep.specs.Cells.{cellAllowed};
-ghost use Rattle.substep.specs.Pieces.{AreRatios};
 ghost use Rattle.layer.specs.Cells.{Fit, CapFaces, IsSum};
-ghost use Rattle.layer.specs.Gas.{GivesPiece, Step};
 ghost use Rattle.layer.specs.Passing.{Passing, PassingRows, PassedRows};
 use substep::air_after;
 use substep::both_air;
 use substep::both_tracers;
 use substep::cell_allows;
-use substep::fill_ratios;
-use substep::high_end;
-use substep::low_end;
 use substep::tracer_after;
 use units::Air;
 use units::AirSum;
@@ -141,7 +133,7 @@ pub fn pass_layer_air(air: &mut [u32], airup: &[u32], airdown: &[u32], w: usize,
     air[north] = air_after(Air(air[north]), north_in, north_out).0;
 }
 
-fn pass_layer_gas(gas: &mut [u32], gasup: &[u32], gasdown: &[u32], w: usize, rows: usize)
+pub fn pass_layer_gas(gas: &mut [u32], gasup: &[u32], gasdown: &[u32], w: usize, rows: usize)
     requires { ⌜ Passing w rows (now gas) (now gasup) (now gasdown) ⌝ }
     ensures { λ r. ⌜ now (gas .exit) ≡ afterFlow (layer w rows) (flowOf (now (gasup .entry)) (now (gasdown .entry))) (now (gas .entry)) ⌝ }
 {
@@ -154,93 +146,4 @@ fn pass_layer_gas(gas: &mut [u32], gasup: &[u32], gasdown: &[u32], w: usize, row
     let north_in = cap_gas(gasup, n, w);
     let north_out = cap_gas(gasdown, n, w);
     gas[north] = tracer_after(Tracer(gas[north]), north_in, north_out).0;
-}
-
-// The cell south of a face, and the cell north of it, where n cells lie between the caps.
-fn south_of(w: usize, face: usize) -> usize
-    requires { ⌜ face ≤ mostFaces ⌝ }
-    ensures { λ r. ⌜ r ≡ southOf w face ⌝ }
-{
-    if face < w { 0 } else { 1 + (face - w) }
-}
-
-fn north_of(n: usize, face: usize) -> usize
-    requires { ⌜ n ≤ 3168 ⌝ }
-    ensures { λ r. ⌜ r ≡ northOf n face ⌝ }
-{
-    if face < n { 1 + face } else { 1 + n }
-}
-
-// The piece of m units of air that pass face i northward, from the high end of the cell south of it.
-// The south cap is its own neighbour on both sides, so that its mismatch is none.
-fn northward(air: &[u32], gas: &[u32], q: &[u64], w: usize, rows: usize, i: usize, m: Air) -> Tracer
-    requires { ⌜ GivesPiece w rows (now air) (now gas) (now q) i (southOf w i) (m .0) ⌝ }
-    ensures { λ p. ⌜ p .0 ≡ highPiece (cellMismatch mismatch (layer w rows) (now (air .entry)) (now (gas .entry)) (southOf w i)) (at (now (air .entry)) (southOf w i)) (at (now (gas .entry)) (southOf w i)) (m .0) ⌝ }
-{
-    let c = south_of(w, i);
-    if i < w {
-        return high_end(air, gas, q, c, c, c, m);
-    }
-    high_end(air, gas, q, south_of(w, i - w), c, north_of(rows * w, i), m)
-}
-
-// The same southward, from the low end of the cell north of it.
-fn southward(air: &[u32], gas: &[u32], q: &[u64], w: usize, rows: usize, i: usize, m: Air) -> Tracer
-    requires { ⌜ GivesPiece w rows (now air) (now gas) (now q) i (northOf (rows * w) i) (m .0) ⌝ }
-    ensures { λ p. ⌜ p .0 ≡ lowPiece (cellMismatch mismatch (layer w rows) (now (air .entry)) (now (gas .entry)) (northOf (rows * w) i)) (at (now (air .entry)) (northOf (rows * w) i)) (at (now (gas .entry)) (northOf (rows * w) i)) (m .0) ⌝ }
-{
-    let n = rows * w;
-    let c = north_of(n, i);
-    if n <= i {
-        return low_end(air, gas, q, c, c, c, m);
-    }
-    low_end(air, gas, q, south_of(w, i), c, north_of(n, w + i), m)
-}
-
-// The pieces through each face, in both directions.
-fn fill_pieces(
-    air: &[u32],
-    gas: &[u32],
-    q: &[u64],
-    airup: &[u32],
-    airdown: &[u32],
-    w: usize,
-    rows: usize,
-    gasup: &mut [u32],
-    gasdown: &mut [u32],
-)
-    requires { ⌜ Step w rows (now air) (now gas) (now airup) (now airdown) (now q) (now gasup) (now gasdown) × AreRatios (layer w rows .cells) (now air) (now gas) (now q) ⌝ }
-    ensures { λ r. ⌜ Same (layer w rows .faces) (flowOf (now (gasup .exit)) (now (gasdown .exit))) (pieces mismatch (layer w rows) (flowOf (now (airup .entry)) (now (airdown .entry))) (now (air .entry)) (now (gas .entry))) ⌝ }
-{
-    let faces = w + rows * w;
-    let mut i = 0;
-    while i < faces {
-        let to_north = airup[i];
-        let to_south = airdown[i];
-        let p = northward(air, gas, q, w, rows, i, Air(to_north));
-        let r = southward(air, gas, q, w, rows, i, Air(to_south));
-        gasup[i] = p.0;
-        gasdown[i] = r.0;
-        i += 1;
-    }
-}
-
-// A layer's tracer after an allowed substep; q, gasup and gasdown are room for its ratios and pieces.
-pub fn step_layer_gas(
-    gas: &mut [u32],
-    air: &[u32],
-    airup: &[u32],
-    airdown: &[u32],
-    w: usize,
-    rows: usize,
-    q: &mut [u64],
-    gasup: &mut [u32],
-    gasdown: &mut [u32],
-)
-    requires { ⌜ Step w rows (now air) (now gas) (now airup) (now airdown) (now q) (now gasup) (now gasdown) ⌝ }
-    ensures { λ r. ⌜ now (gas .exit) ≡ stepped (layer w rows) (flowOf (now (airup .entry)) (now (airdown .entry))) (now (air .entry)) (now (gas .entry)) ⌝ }
-{
-    fill_ratios(air, &gas[..], air.len(), q);
-    fill_pieces(air, &gas[..], q, airup, airdown, w, rows, gasup, gasdown);
-    pass_layer_gas(gas, gasup, gasdown, w, rows);
 }

@@ -20,7 +20,7 @@ use Rattle.units.specs.EachTracer.{Changes, changedUpTo, gas-inside, length-gas
 use Rattle.substep.specs.Faces.{flowOf, Same, stepped, same-stepped}
 use Rattle.substep.specs.Pieces.{GasNeed}
 use Rattle.substep.specs.Lent.{part-lent, put-back}
-use Rattle.layer.specs.Gas.{Step}
+use Rattle.layer_gas.specs.Gas.{Step}
 use Rattle.meridional.specs.LayerPlace.{Rooms, layer-size, rooms-serve}
 
 -- a layer's cells from cell `first` on, in tracers of the grid's lengths, and an allowed substep over the layer's air

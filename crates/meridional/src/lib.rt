@@ -8,7 +8,7 @@ ghost use Rattle.meridional.specs.LayerPlace.{Rooms, LayerNeed, IsPermit
 ghost use Rattle.meridional.specs.LayerTracers.{LayerTracersNeed, sweptTracers};
 use layer::layer_allowed;
 use layer::pass_layer_air;
-use layer::step_layer_gas;
+use layer_gas::step_layer_gas;
 use places::Lent;
 use places::Placed;
 use places::common_places;

@@ -1,14 +1,14 @@
--- `layer::step_layer_gas` meets its contract: all pieces are taken, and then passed on.
+-- `layer_gas::step_layer_gas` meets its contract: all pieces are taken, and then passed on.
 use Prim.Native.Nat.{ℕ}
 use mathlib.Core.Path.{sym, subst, _∙_}
 use native.Mathlib.Omega.{arith}
 use Rattle.model.specs.Laws.Layer.{layer-regular}
 use Rattle.substep.specs.Pieces.{HasAir, has-air, gas-moves, gas-after}
 use Rattle.layer.specs.Cells.{layer-cells}
 use Rattle.units.specs.The.{the}
 use borrow.Author.Needs.{needs}
-use Rattle.layer.proofs.step_layer_gas.Statement.{statement}
-use Rattle.layer.proofs.step_layer_gas.Tie as tie
+use Rattle.layer_gas.proofs.step_layer_gas.Statement.{statement}
+use Rattle.layer_gas.proofs.step_layer_gas.Tie as tie
 
 fill-ratios-requires : tie.Need-fill-ratios-requires
 fill-ratios-requires c κs =

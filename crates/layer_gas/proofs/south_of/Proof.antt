@@ -1,10 +1,10 @@
--- `layer::south_of` meets its contract.
+-- `layer_gas::south_of` meets its contract.
 use mathlib.Core.Path.{sym, _∙_}
 use native.Mathlib.Omega.{arith}
 use Rattle.model.specs.Laws.Layer.{south-cap, south-inner}
 use borrow.Author.Needs.{needs}
-use Rattle.layer.proofs.south_of.Statement.{statement}
-use Rattle.layer.proofs.south_of.Tie as tie
+use Rattle.layer_gas.proofs.south_of.Statement.{statement}
+use Rattle.layer_gas.proofs.south_of.Tie as tie
 
 returns : tie.Need-returns
 returns c = sym (south-cap (c .before .args .w) (c .before .args .face) (omega arith))

@@ -1,4 +1,4 @@
--- `layer::fill_pieces` meets its contract. The loop's invariant: the faces passed have their two pieces.
+-- `layer_gas::fill_pieces` meets its contract. The loop's invariant: the faces passed have their two pieces.
 use Prim.Native.Nat.{_+_, _*_, _-_, _≤_}
 use mathlib.Core.Path.{_≡_, _∙_}
 use native.Mathlib.Omega.{arith}
@@ -6,12 +6,12 @@ use lib.ListN.{length}
 use Rattle.model.specs.Scheme.{mismatch}
 use Rattle.model.specs.Sweep.{layer, pieces}
 use Rattle.substep.specs.Faces.{flowOf, Same, same-none, same-more}
 use Rattle.layer.specs.Cells.{layer-faces}
-use Rattle.layer.specs.Gas.{gives-north, gives-south, piece-north, piece-south}
+use Rattle.layer_gas.specs.Gas.{gives-north, gives-south, piece-north, piece-south}
 use Rattle.units.specs.The.{the}
 use borrow.Author.Needs.{needs}
-use Rattle.layer.proofs.fill_pieces.Statement.{statement}
-use Rattle.layer.proofs.fill_pieces.Tie as tie
+use Rattle.layer_gas.proofs.fill_pieces.Statement.{statement}
+use Rattle.layer_gas.proofs.fill_pieces.Tie as tie
 
 abbrev Inv-loop : tie.InvT-loop
 Inv-loop air gas q airup airdown w rows gasup₀ gasdown₀ faces i₀ gasup gasdown i =

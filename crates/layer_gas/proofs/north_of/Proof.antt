@@ -1,10 +1,10 @@
--- `layer::north_of` meets its contract.
+-- `layer_gas::north_of` meets its contract.
 use mathlib.Core.Path.{sym, _∙_}
 use native.Mathlib.Omega.{arith}
 use Rattle.model.specs.Laws.Layer.{north-inner, north-cap}
 use borrow.Author.Needs.{needs}
-use Rattle.layer.proofs.north_of.Statement.{statement}
-use Rattle.layer.proofs.north_of.Tie as tie
+use Rattle.layer_gas.proofs.north_of.Statement.{statement}
+use Rattle.layer_gas.proofs.north_of.Tie as tie
 
 returns : tie.Need-returns
 returns c = sym (north-inner (c .before .args .n) (c .before .args .face) (omega arith) ∙ omega arith)

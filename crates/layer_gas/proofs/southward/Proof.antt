@@ -1,12 +1,12 @@
--- `layer::southward` meets its contract: a cap is its own neighbour on both sides.
+-- `layer_gas::southward` meets its contract: a cap is its own neighbour on both sides.
 use mathlib.Core.Path.{_∙_}
 use native.Mathlib.Omega.{arith}
 use Rattle.substep.specs.Pieces.{piece-low}
-use Rattle.layer.specs.Gas.{north-cap-near, north-near}
+use Rattle.layer_gas.specs.Gas.{north-cap-near, north-near}
 use Rattle.units.specs.The.{the}
 use borrow.Author.Needs.{needs}
-use Rattle.layer.proofs.southward.Statement.{statement}
-use Rattle.layer.proofs.southward.Tie as tie
+use Rattle.layer_gas.proofs.southward.Statement.{statement}
+use Rattle.layer_gas.proofs.southward.Tie as tie
 
 low-end-requires : tie.Need-low-end-requires
 low-end-requires c κs =

@@ -1,12 +1,12 @@
--- `layer::northward` meets its contract: a cap is its own neighbour on both sides.
+-- `layer_gas::northward` meets its contract: a cap is its own neighbour on both sides.
 use mathlib.Core.Path.{_∙_}
 use native.Mathlib.Omega.{arith}
 use Rattle.substep.specs.Pieces.{piece-high}
-use Rattle.layer.specs.Gas.{south-cap-near, south-near}
+use Rattle.layer_gas.specs.Gas.{south-cap-near, south-near}
 use Rattle.units.specs.The.{the}
 use borrow.Author.Needs.{needs}
-use Rattle.layer.proofs.northward.Statement.{statement}
-use Rattle.layer.proofs.northward.Tie as tie
+use Rattle.layer_gas.proofs.northward.Statement.{statement}
+use Rattle.layer_gas.proofs.northward.Tie as tie
 
 high-end-requires : tie.Need-high-end-requires
 high-end-requires c κs =
