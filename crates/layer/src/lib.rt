@@ -2,9 +2,9 @@
 // Cell 0 is the south cap, cell 1 + j the cell between face j and face w + j, and the last cell the north cap.
 // `airup` and `airdown` hold the air that passes each face northward and southward, `gasup` and `gasdown` the tracer that it carries; a list's name says of what its numbers are.
 ghost use mathlib.Core.Path.{_≡_};
-ghost use Prim.Native.Nat.{_+_, _*_};
+ghost use Prim.Native.Nat.{_+_, _*_, _≤_, _<_};
 ghost use lib.ListN.{length};
-ghost use Rattle.model.specs.Basic.{every};
+ghost use Rattle.model.specs.Basic.{at, every};
 ghost use Rattle.model.specs.Sweep.{layer, afterFlow, allowed};
 ghost use Rattle.substep.specs.Faces.{flowOf};
 ghost use Rattle.substep.specs.Cells.{cellAllowed};
@@ -49,6 +49,21 @@ fn cap_gas(gaspasses: &[u32], first: usize, w: usize) -> TracerSum
     total
 }
 
+// What passes the two faces of cell 1 + j, face j as in the first list and face w + j as in the second: of air and of a tracer.
+fn row_air(airlow: &[u32], airhigh: &[u32], w: usize, j: usize) -> AirSum
+    requires { ⌜ (j < length (now airlow)) × (w + j < length (now airhigh)) ⌝ }
+    ensures { λ r. ⌜ (r .0 ≡ at (now (airlow .entry)) j + at (now (airhigh .entry)) (w + j)) × (r .0 ≤ 8589934590) ⌝ }
+{
+    both_air(Air(airlow[j]), Air(airhigh[w + j]))
+}
+
+fn row_gas(gaslow: &[u32], gashigh: &[u32], w: usize, j: usize) -> TracerSum
+    requires { ⌜ (j < length (now gaslow)) × (w + j < length (now gashigh)) ⌝ }
+    ensures { λ r. ⌜ (r .0 ≡ at (now (gaslow .entry)) j + at (now (gashigh .entry)) (w + j)) × (r .0 ≤ 8589934590) ⌝ }
+{
+    both_tracers(Tracer(gaslow[j]), Tracer(gashigh[w + j]))
+}
+
 // Whether every cell between the caps allows the substep.
 fn rows_allow(air: &[u32], airup: &[u32], airdown: &[u32], w: usize, rows: usize) -> bool
     requires { ⌜ Fit w rows (now air) (now airup) (now airdown) ⌝ }
@@ -59,9 +74,8 @@ fn rows_allow(air: &[u32], airup: &[u32], airdown: &[u32], w: usize, rows: usize
     let mut j = 0;
     while j < n {
         let c = 1 + j;
-        let h = w + j;
-        let enters = both_air(Air(airup[j]), Air(airdown[h]));
-        let leaves = both_air(Air(airdown[j]), Air(airup[h]));
+        let enters = row_air(airup, airdown, w, j);
+        let leaves = row_air(airdown, airup, w, j);
         ok = ok & cell_allows(Air(air[c]), enters, leaves);
         j += 1;
     }
@@ -93,9 +107,8 @@ fn pass_rows_air(air: &mut [u32], airup: &[u32], airdown: &[u32], w: usize, rows
     let mut j = 0;
     while j < n {
         let c = 1 + j;
-        let h = w + j;
-        let enters = both_air(Air(airup[j]), Air(airdown[h]));
-        let leaves = both_air(Air(airdown[j]), Air(airup[h]));
+        let enters = row_air(airup, airdown, w, j);
+        let leaves = row_air(airdown, airup, w, j);
         air[c] = air_after(Air(air[c]), enters, leaves).0;
         j += 1;
     }
@@ -109,9 +122,8 @@ fn pass_rows_gas(gas: &mut [u32], gasup: &[u32], gasdown: &[u32], w: usize, rows
     let mut j = 0;
     while j < n {
         let c = 1 + j;
-        let h = w + j;
-        let enters = both_tracers(Tracer(gasup[j]), Tracer(gasdown[h]));
-        let leaves = both_tracers(Tracer(gasdown[j]), Tracer(gasup[h]));
+        let enters = row_gas(gasup, gasdown, w, j);
+        let leaves = row_gas(gasdown, gasup, w, j);
         gas[c] = tracer_after(Tracer(gas[c]), enters, leaves).0;
         j += 1;
     }

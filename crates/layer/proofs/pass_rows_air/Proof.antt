@@ -40,19 +40,10 @@ pass-rows-air-spec =
     (λ c. search needs)  -- mul-n
     loop-holds
     (λ c. search needs)  -- add-c
-    (λ c. search needs)  -- add-h
+    (λ c κs. search needs)  -- row-air-requires
+    (λ c κs. search needs)  -- row-air-requires-2
     (λ c. search needs)  -- mul-t13
-    (λ c. search needs)  -- shared-slice-read-t15
-    (λ c. search needs)  -- mul-t17
-    (λ c. search needs)  -- shared-slice-read-t19
-    (λ c κs. search needs)  -- both-air-requires
-    (λ c. search needs)  -- mul-t13-2
-    (λ c. search needs)  -- shared-slice-read-t15-2
-    (λ c. search needs)  -- mul-t17-2
-    (λ c. search needs)  -- shared-slice-read-t19-2
-    (λ c κs. search needs)  -- both-air-requires-2
-    (λ c. search needs)  -- mul-t13-3
-    (λ c. search needs)  -- slice-read-t19
+    (λ c. search needs)  -- slice-read-t15
     air-after-requires
     (λ c. search needs)  -- mul-air
     (λ c. search needs)  -- slice-write-air

@@ -27,8 +27,8 @@ loop-again : tie.Need-loop-again Inv-loop μ-loop
 loop-again c =
     let a = the (tie.Start Inv-loop μ-loop) (search) .args in
     let l = the (tie.At-loop Inv-loop μ-loop) (search) .loop in
-    let enters = the (tie.After-both-air Inv-loop μ-loop) (search) .both-air .ensures .0 in
-    let leaves = the (tie.After-both-air2 Inv-loop μ-loop) (search) .both-air2 .ensures .0 in
+    let enters = the (tie.After-row-air Inv-loop μ-loop) (search) .row-air .ensures .0 in
+    let leaves = the (tie.After-row-air2 Inv-loop μ-loop) (search) .row-air2 .ensures .0 in
     let cell = row-cell (a .w) (a .rows) (a .airup .now) (a .airdown .now) (l .j) (omega arith) enters leaves in
     (search needs, ap₂ _&&_ (l .inv .1) (c .cell-allows .ensures ∙ cell-allows cell (a .air .now)) ∙ sym (every-more (l .j) _))
 
@@ -48,19 +48,10 @@ rows-allow-spec =
     (λ c. search needs)  -- mul-n
     loop-holds
     (λ c. search needs)  -- add-c
-    (λ c. search needs)  -- add-h
-    (λ c. search needs)  -- mul-t14
-    (λ c. search needs)  -- shared-slice-read-t16
-    (λ c. search needs)  -- mul-t18
-    (λ c. search needs)  -- shared-slice-read-t20
-    (λ c κs. search needs)  -- both-air-requires
-    (λ c. search needs)  -- mul-t14-2
-    (λ c. search needs)  -- shared-slice-read-t16-2
-    (λ c. search needs)  -- mul-t18-2
-    (λ c. search needs)  -- shared-slice-read-t20-2
-    (λ c κs. search needs)  -- both-air-requires-2
-    (λ c. search needs)  -- mul-t14-3
-    (λ c. search needs)  -- shared-slice-read-t20-3
+    (λ c κs. search needs)  -- row-air-requires
+    (λ c κs. search needs)  -- row-air-requires-2
+    (λ c. search needs)  -- mul-t13
+    (λ c. search needs)  -- shared-slice-read-t15
     (λ c κs. search needs)  -- cell-allows-requires
     (λ c. search needs)  -- add-j
     (λ c. search needs)  -- loop-less
