@@ -23,7 +23,7 @@
  *   puldeho_emission           448
  *   puldeho_withdrawal         384
  *   puldeho_zonal           25,552
- *   puldeho_meridional      93,936
+ *   puldeho_meridional      93,952
  *   puldeho_remap           17,648
  *   puldeho_total              416
  *   puldeho_cell               384
@@ -39,7 +39,7 @@ extern "C" {
 #endif
 
 /* The deepest stack of all calls, in bytes. */
-#define PULDEHO_STACK 93936
+#define PULDEHO_STACK 93952
 
 /* The numbers of the refusals. */
 enum puldeho_refusal {
