@@ -1,4 +1,4 @@
-// Air units, tracer units, mismatches, the grid, and the answer of a call.
+// Air units and tracer units with their sums, mismatches, the grid, and the answer of a call.
 ghost use mathlib.Core.Path.{_≡_};
 ghost use Prim.Native.Nat.{_≤_, _+_};
 ghost use Rattle.model.specs.Limits.{mostLayerCells, mostCells};
