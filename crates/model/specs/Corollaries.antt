@@ -1,4 +1,4 @@
--- What follows from demand 3 in the buyer's words, each statement from the theorem `demand-3` alone. Each of its fields is used, so that a theorem that says less is refused here.
+-- What follows from demand 3 in the buyer's words: of what calls keep, each statement uses the theorem `demand-3` alone. Each of its fields is used, so that a theorem that says less is refused here.
 -- Assumes what the theorem assumes, that `step` accepts the load.
 use Prim.Native.Nat.{ℕ, suc, _+_, _*_, _-_, _≤_, _<_}
 use mathlib.Core.List.{List}
@@ -93,7 +93,7 @@ module _ (w : World) (calls : List Call) (loaded : Loaded w) where
   pub same-air : (i j : ℕ) → airTotal (at-point i) ≡ airTotal (at-point j)
   same-air i j = demand-3 w calls loaded i .airKept ∙ sym (demand-3 w calls loaded j .airKept)
 
-  -- a gas of which no cell has a unit at one point is in no cell at a later one, if none of it was emitted between them
+  -- a gas of which no cell has a unit at one point is in no cell at a later one, if none of it was emitted or withdrawn between them
   pub none-stays-none :
       (t i j : ℕ) → t < start .grid .N → i ≤ j →
       ((c : ℕ) → c < worldCells (at-point i .grid) → at (gas (at-point i) t) c ≡ 0) →
@@ -133,12 +133,12 @@ module _ (w : World) (calls : List Call) (loaded : Loaded w) where
         let sweeps = meridional-sweeps k fluxes (at-point i) (sym (answer-is _ _) ∙ accepted) in
         one-substep-near (promised t i (meridional k fluxes) h made accepted) lo hi _ (sweeps .inside) between c (unfold layer in hc)
 
-  -- whatever another load brings of the other gases, one gas has the same total at each point, and its readings give the same
+  -- whatever another load brings of the other gases, one gas has the same total at each point, and a reading of its total answers the same
   pub one-gas-alone :
       (v : World) → Loaded v → (t i : ℕ) → t < start .grid .N →
       start .grid ≡ loadedWorld v .grid → start .air ≡ loadedWorld v .air → gas start t ≡ gas (loadedWorld v) t →
       (gasTotal (at-point i) t ≡ gasTotal (point (loadedWorld v) calls i) t)
-      × (callAt calls i ≡ total t → step (at-point i) (total t) .count ≡ step (point (loadedWorld v) calls i) (total t) .count)
+      × (callAt calls i ≡ total t → (step (at-point i) (total t) .answer ≡ step (point (loadedWorld v) calls i) (total t) .answer) × (step (at-point i) (total t) .count ≡ step (point (loadedWorld v) calls i) (total t) .count))
   one-gas-alone v other t i h sameGrid sameAir sameGas =
       let own : ℕ → Bool = λ s. eqb t s in
       let self : own t ≡ true = eq-eqb t t refl in
@@ -148,5 +148,5 @@ module _ (w : World) (calls : List Call) (loaded : Loaded w) where
         ap₂ (λ (g : Grid) (l : List ℕ). sum (worldCells g) (at l)) (same .0 .sameGrid) (same .0 .sameGas t self),
         λ made.
             let named : namesNoOther own start (callAt calls i) ≡ true = rw made (sym (names-present own start t h) ∙ self) in
-            rw made at (same .1 named .1),
+            rw made at (same .1 named),
       )

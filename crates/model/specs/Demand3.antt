@@ -28,7 +28,7 @@ pub record HoldsAt (start : World) (calls : List Call) (i : ℕ) : Type 0 where
       (t : ℕ) → t < start .grid .N →
       gasTotal (point start calls i) t + history start t (take i calls) .withdrawn ≡ gasTotal start t + history start t (take i calls) .emitted
   pub airKept : airTotal (point start calls i) ≡ airTotal start
-  -- "A gas at the same whole-number ratio to air in every cell keeps that ratio exactly while none of it is emitted or withdrawn": at each later point j
+  -- "A gas at the same whole-number ratio to air in every cell keeps that ratio exactly while none of it is emitted or withdrawn": at each later point j. The sums of `history` only grow, so where they are equal, no unit came or went between the two points
   pub ratioKept :
       (t z j : ℕ) → t < start .grid .N → i ≤ j → HasRatio (point start calls i) t z →
       history start t (take j calls) ≡ history start t (take i calls) → HasRatio (point start calls j) t z

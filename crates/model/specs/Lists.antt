@@ -62,6 +62,6 @@ namesOwn own w (tracer t) = elim (ltb t (w .grid .N)) [ true ↦ own t | false �
 abbrev pub namesNoOther : (ℕ → Bool) → World → Call → Bool
 namesNoOther own w call = namesOwn own w (meaning call .names)
 
--- "So are the answers (0 or the refusal's number) .. and the counts": of one call in two worlds
+-- "So are the answers (0 or the refusal's number) to all calls that name no other tracer, and the counts of all sweeps": of one call in two worlds; a sweep names no tracer
 abbrev pub SameReply : World → World → Call → Type 0
 SameReply w v call = (step w call .answer ≡ step v call .answer) × (step w call .count ≡ step v call .count)

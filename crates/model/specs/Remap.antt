@@ -17,7 +17,7 @@ column g l c = tab (g .K) (λ k. at l (layerStart g k + c))
 abbrev pub airAbove : List ℕ → ℕ → ℕ
 airAbove air k = sum k (at air)
 
--- "edge j = a + floor(b·P / 65,536)", for pair j = (a, b)
+-- "edge j = a + floor(b·P / 65,536)", for pair j = (a, b), which stands at entries 2j and 2j + 1 of the table
 unfoldable pub edge : List ℕ → ℕ → ℕ → ℕ
 edge table P j = at table (2 * j) + at table (2 * j + 1) * P / tableScale
 
@@ -38,6 +38,7 @@ layerMismatch rule cap K air gas k =
           (ratio (at air (suc k)) (at gas (suc k)))
     ]
 
+-- all layers of a column
 unfoldable pub layers : Rule → Bool → ℕ → List ℕ → List ℕ → List ColumnLayer
 layers rule cap K air gas =
     tab K (λ k. record { air = at air k; tracer = at gas k; slope = layerMismatch rule cap K air gas k })
@@ -83,6 +84,7 @@ isCap g c = eqb c 0 || eqb (suc c) (layerCells g)
 abbrev pub columnAir : Grid → List ℕ → ℕ → ℕ
 columnAir g air c = airAbove (column g air c) (g .K)
 
+-- the air, and a tracer's amounts, of all cells after the remap: new layer k of the column at place c
 unfoldable pub remappedAir : Grid → List ℕ → List ℕ → List ℕ
 remappedAir g table air = overCells g (λ k c. newAir table (columnAir g air c) k)
 

@@ -20,7 +20,7 @@ pub record Mismatch : Type 0 where
 abbrev pub Rule : Type 0
 Rule = ℕ → ℕ → ℕ → Mismatch
 
--- "a neighbour on its low side (qa) and on its high side (qb): size = the smallest of |qb − qa|/2 rounded down, 2(q − least of the three), 2(greatest of the three − q); sign = that of qb − qa"
+-- "a neighbour on its low side (qa) and on its high side (qb): size = the smallest of |qb − qa|/2 rounded down, 2(q − least of the three), 2(greatest of the three − q); sign = that of qb − qa"; where qa = qb the size is 0 and the sign is never used
 unfoldable pub mismatch : Rule
 mismatch qa q qb =
     record {

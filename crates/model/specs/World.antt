@@ -6,7 +6,7 @@ use lib.Dec.{leb}
 use Rattle.model.specs.Limits.{airLimit}
 use Rattle.model.specs.Basic.{at, part, sum, tab, joined}
 
--- "W columns round the globe, R rows from south to north, K layers from the top down and N tracers"
+-- "W columns round the globe .., R rows from south to north .., K layers from the top down .. and N tracers"
 pub record Grid : Type 0 where
   pub W : ℕ
   pub R : ℕ

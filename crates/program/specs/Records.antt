@@ -91,7 +91,7 @@ pub data Command : Type 0 where
   make : Call → Command
 
 -- "1 grid: W, R, K, N, a byte each. 2 load: all air, then all tracers, 4 bytes each. 3 emission and 4 withdrawal: tracer 1 byte, cell over all layers 2 bytes, amount 4.
--- 5 zonal: layer 1, row 1, fluxes 4 each. 6 meridional: layer 1, fluxes. 7 remap: pairs a, b, 4 each. 8 total: tracer 1. 9 cell: tracer 1, cell 2."
+-- 5 zonal: layer 1, row 1, fluxes 4 each. 6 meridional: layer 1, fluxes. 7 remap: pairs a, b, 4 each. 8 total: tracer 1. 9 cell: tracer 1, cell 2." An unknown kind is never in place, so its line is not reached.
 abbrev pub commandOf : Grid → Kind → List ℕ → Command
 commandOf g unknown body = make load
 commandOf g gridKind body = setGrid (record { W = at body 0; R = at body 1; K = at body 2; N = at body 3 })

@@ -7,6 +7,7 @@ use Rattle.model.specs.Lists.{loadedWorld, after}
 use Rattle.program.specs.Records.{start, worldOf, setGrid, setWorld, make, nothing, fault, command}
 use Rattle.program.specs.Lines.{Entry}
 
+-- the world that the last accepted load left, and the calls made since
 pub record Since : Type 0 where
   pub first : World
   pub calls : List Call

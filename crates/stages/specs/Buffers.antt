@@ -9,6 +9,7 @@ use Rattle.units.specs.declared.Grid as declared
 use Rattle.units.specs.Grid.{worldOf}
 use Rattle.stages.specs.Limits.{programAmounts}
 
+-- the program's two buffers; a world stands at their start
 pub record Buffers : Type 0 where
   pub air : List ℕ
   pub tracers : List ℕ

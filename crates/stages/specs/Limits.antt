@@ -9,6 +9,6 @@ programAmounts = 4096
 abbrev pub programFaces : ℕ
 programFaces = 2118
 
--- the bytes of a body, those of a load: 4 for each cell's air and for each amount
+-- the bytes of the longest body, a load's: 4 for each of 2,048 cells' air and of 4,096 amounts
 abbrev pub programBody : ℕ
 programBody = 24576
