@@ -1,48 +1,72 @@
 /*
- * Puldeho, the transport core of the tracer console: its calls for C.
- * Made by tools/bindings from bindings/calls.txt, refusals.txt and stack.txt: not to be edited.
- * To link: target/staticlib/libboundary.a, which `rt staticlib boundary` writes, on x86-64 Linux.
+ * Puldeho, the transport core of the tracer console, for C and C++: version 0.1.0.
+ * Made by tools/bindings from the tables of bindings/: not to be edited.
  *
- * The world. The caller keeps it and lends it to each call: the grid W, R, K, N by value,
- * air with K*C numbers and tracers with N*K*C numbers, where C = 2 + R*W. Layer k starts at k*C,
- * tracer t at t*K*C. The library keeps nothing between calls.
+ * To compile and link, on x86-64 Linux: cc program.c $(pkg-config --cflags --libs puldeho)
+ * The guide (docs/GUIDE.md, installed as share/doc/puldeho/GUIDE.md) explains grid, units, fluxes, refusals.
  *
- * What a call returns: answer * 2^32 + count. The answer is 0, or the number of the first refusal
- * that applies. A refusal has count 0 and leaves every lent number as it was.
+ *     uint32_t air[6] = {100, 100, 100, 100, 100, 100}, tracers[6] = {0, 0, 100, 200, 100, 0};
+ *     int32_t fluxes[4] = {0, 50, 0, 0};
+ *     struct puldeho_grid grid = {4, 1, 1, 1};
+ *     struct puldeho_world world = puldeho_world_over(grid, air, 6, tracers, 6);
+ *     enum puldeho_refusal refusal = puldeho_load(&world);
+ *     if (refusal == PULDEHO_ACCEPTED)
+ *         refusal = puldeho_zonal(&world, 0, 0, fluxes, 4, NULL);
+ *     if (refusal != PULDEHO_ACCEPTED)
+ *         fprintf(stderr, "refused: %s\n", puldeho_refusal_text(refusal));
+ *
+ * What a call gives: PULDEHO_ACCEPTED, which is 0, or the first refusal that applies. A refused call
+ * changes nothing: neither air nor tracers. A count, where a call has one, is written to the last
+ * argument, 0 if the call is refused; that pointer may be null.
  *
  * What is assumed of pointers:
- * - each pointer goes with the length after it, in numbers: so many can be read there, or written;
+ * - each goes with the length after it, in numbers, not bytes: so many can be read there, or written;
  * - it is not null and is aligned to 4 bytes, unless the length is 0;
- * - a buffer that is written shares no memory with another buffer of the same call;
- * - nobody else writes a lent buffer during the call, or reads one that is written.
- * Nothing is assumed of the numbers or of the lengths: any are answered.
+ * - a list that is written shares no memory with another list of the same call;
+ * - nobody else writes a lent list during the call, or reads one that is written.
+ * Nothing is assumed of the numbers or of the lengths: any are answered. The library keeps nothing
+ * between calls; several threads may call it, each with a world of its own.
  *
  * What is assumed of the stack: that it has room for the call. The deepest stack in bytes, read from
  * the object code by tools/stack, return address and libc's functions included, arguments not:
- *   puldeho_load               336
- *   puldeho_emission           448
- *   puldeho_withdrawal         384
- *   puldeho_zonal           25,552
- *   puldeho_meridional      93,952
- *   puldeho_remap           17,648
- *   puldeho_total              416
- *   puldeho_cell               384
+ *   puldeho_raw_load               336
+ *   puldeho_raw_emission           448
+ *   puldeho_raw_withdrawal         384
+ *   puldeho_raw_zonal           25,552
+ *   puldeho_raw_meridional      93,952
+ *   puldeho_raw_remap           17,648
+ *   puldeho_raw_total              416
+ *   puldeho_raw_cell               384
  */
 #ifndef PULDEHO_H
 #define PULDEHO_H
 
 #include <stddef.h>
 #include <stdint.h>
+#include <string.h>
+
+#define PULDEHO_VERSION "0.1.0"
+#define PULDEHO_VERSION_MAJOR 0
+#define PULDEHO_VERSION_MINOR 1
+#define PULDEHO_VERSION_PATCH 0
+
+/* The deepest stack of all calls, in bytes. */
+#define PULDEHO_STACK 93952
+
+#if defined(__GNUC__)
+#define PULDEHO_MUST_USE __attribute__((warn_unused_result))
+#else
+#define PULDEHO_MUST_USE
+#endif
 
 #ifdef __cplusplus
 extern "C" {
 #endif
 
-/* The deepest stack of all calls, in bytes. */
-#define PULDEHO_STACK 93952
-
-/* The numbers of the refusals. */
+/* What a call gives. Later versions have further refusals. */
 enum puldeho_refusal {
+    /* the call was made */
+    PULDEHO_ACCEPTED = 0,
     /* W, R, K or N is outside its range */
     PULDEHO_GRID_RANGE = 1,
     /* a lent length is not the grid's */
@@ -69,32 +93,188 @@ enum puldeho_refusal {
     PULDEHO_REMAP = 12
 };
 
-/* 0 if the call was accepted, else the number of the refusal. */
-static inline uint32_t puldeho_answer(uint64_t returned)
+/* Why a call was refused: the condition of a refusal, in words. */
+static inline const char *puldeho_refusal_text(enum puldeho_refusal refusal)
 {
-    return (uint32_t)(returned >> 32);
+    switch (refusal) {
+    case PULDEHO_ACCEPTED:
+        return "accepted";
+    case PULDEHO_GRID_RANGE:
+        return "W, R, K or N is outside its range";
+    case PULDEHO_LENGTHS:
+        return "a lent length is not the grid's";
+    case PULDEHO_AIR_RANGE:
+        return "a cell's air is 0 or above 65,535";
+    case PULDEHO_TOTALS:
+        return "a tracer's total is above 268,435,455";
+    case PULDEHO_INDEX:
+        return "the tracer, cell, layer or row is absent";
+    case PULDEHO_EMISSION:
+        return "the total would pass 268,435,455";
+    case PULDEHO_WITHDRAWAL:
+        return "the cell has less than the amount";
+    case PULDEHO_FLUXES:
+        return "a flux's size is above 1,048,560 (zonal) or 65,535 (meridional)";
+    case PULDEHO_ZONAL:
+        return "no count from 1 to 16 serves";
+    case PULDEHO_MERIDIONAL:
+        return "the substep is not allowed";
+    case PULDEHO_TABLE:
+        return "the first pair is not (0, 0), the last is not (0, 65,536), an a is above 2,097,120, or a b is above 65,536";
+    case PULDEHO_REMAP:
+        return "in some column the edges do not rise strictly, or a new layer exceeds 65,535";
+    }
+    return "no refusal of this version";
 }
 
-/* The count of an accepted call, 0 of a refused one. */
-static inline uint32_t puldeho_count(uint64_t returned)
+/* What to do about a refusal, in words. puldeho_why_NAME, below, says more of the world at hand. */
+static inline const char *puldeho_refusal_remedy(enum puldeho_refusal refusal)
 {
-    return (uint32_t)returned;
+    switch (refusal) {
+    case PULDEHO_ACCEPTED:
+        return "nothing: the call was made";
+    case PULDEHO_GRID_RANGE:
+        return "give W from 4 to 72, R from 1 to 44, K from 1 to 32 and N from 1 to 8";
+    case PULDEHO_LENGTHS:
+        return "take the lengths from the functions puldeho_.._length of the grid";
+    case PULDEHO_AIR_RANGE:
+        return "choose the unit of air so that every cell has 1 to 65,535, or make layers of more even air";
+    case PULDEHO_TOTALS:
+        return "choose a larger unit for that gas, so that its total stays below the limit with room for what is emitted";
+    case PULDEHO_INDEX:
+        return "count from 0, and take cell numbers from puldeho_cell_number, puldeho_south_cap and puldeho_north_cap";
+    case PULDEHO_EMISSION:
+        return "load the gas in a larger unit, or withdraw before emitting";
+    case PULDEHO_WITHDRAWAL:
+        return "read the cell first, and withdraw at most what it has";
+    case PULDEHO_FLUXES:
+        return "give fluxes in units of air moved during this step; a smaller time step makes them smaller";
+    case PULDEHO_ZONAL:
+        return "make the step in several smaller ones; where a cell would end empty or too full, correct the fluxes, since no smaller step helps";
+    case PULDEHO_MERIDIONAL:
+        return "make the step in several smaller ones; where a cell would end empty or too full, correct the fluxes, since no smaller step helps";
+    case PULDEHO_TABLE:
+        return "give K + 1 pairs from the top down, the first 0, 0 and the last 0, 65,536";
+    case PULDEHO_REMAP:
+        return "make neighbouring pairs differ by at least one unit of air in the column with the least air; with air in proportion to area use a = 0";
+    }
+    return "compile the program anew, with the header of the library that it is linked with";
+}
+
+/* The grid: W columns round the globe (4 to 72), R rows from south to north (1 to 44), K layers from
+ * the top down (1 to 32), N tracers (1 to 8). Columns, rows, layers, tracers and cells are counted from 0. */
+struct puldeho_grid {
+    uint32_t w, r, k, n;
+};
+
+/* C, the cells of a layer: its R*W cells and the two caps. */
+static inline size_t puldeho_cells_in_layer(struct puldeho_grid grid)
+{
+    return 2 + (size_t)grid.r * grid.w;
+}
+
+/* The length of air: K*C. In it: the air of every cell; layer k starts at k*C. */
+static inline size_t puldeho_air_length(struct puldeho_grid grid)
+{
+    return (size_t)grid.k * puldeho_cells_in_layer(grid);
+}
+
+/* The length of tracers: N*K*C. In it: the amounts of every tracer; tracer t starts at
+ * t*K*C. */
+static inline size_t puldeho_tracers_length(struct puldeho_grid grid)
+{
+    return (size_t)grid.n * (size_t)grid.k * puldeho_cells_in_layer(grid);
+}
+
+/* The length of fluxes of a zonal call: W. In it: flux i crosses the face from column i to
+ * column i + 1, the last to column 0; positive eastward. */
+static inline size_t puldeho_zonal_fluxes_length(struct puldeho_grid grid)
+{
+    return (size_t)grid.w;
+}
+
+/* The length of fluxes of a meridional call: W*(R + 1). In it: flux g*W + i crosses between
+ * rows g - 1 and g in column i; row -1 is the south cap, row R the north cap; positive
+ * northward. */
+static inline size_t puldeho_meridional_fluxes_length(struct puldeho_grid grid)
+{
+    return (size_t)grid.w * ((size_t)grid.r + 1);
+}
+
+/* The length of table of a remap call: 2*(K + 1). In it: pair j is a at 2*j and b at 2*j +
+ * 1; edge j = a + floor(b*P/65536), P the air of the column. */
+static inline size_t puldeho_remap_table_length(struct puldeho_grid grid)
+{
+    return 2 * ((size_t)grid.k + 1);
+}
+
+/* What the functions below give for a place that the grid has not. Every call refuses it, with 5. */
+#define PULDEHO_NO_CELL UINT32_MAX
+
+/* The number of a cell over all layers: layer*C + 1 + row*W + column. */
+static inline uint32_t puldeho_cell_number(struct puldeho_grid grid, uint32_t layer, uint32_t row, uint32_t column)
+{
+    if (layer >= grid.k || row >= grid.r || column >= grid.w)
+        return PULDEHO_NO_CELL;
+    return (uint32_t)(layer * puldeho_cells_in_layer(grid) + 1 + (size_t)row * grid.w + column);
+}
+
+/* The number of a layer's south cap: layer*C. */
+static inline uint32_t puldeho_south_cap(struct puldeho_grid grid, uint32_t layer)
+{
+    if (layer >= grid.k)
+        return PULDEHO_NO_CELL;
+    return (uint32_t)(layer * puldeho_cells_in_layer(grid));
+}
+
+/* The number of a layer's north cap: layer*C + C - 1. */
+static inline uint32_t puldeho_north_cap(struct puldeho_grid grid, uint32_t layer)
+{
+    if (layer >= grid.k)
+        return PULDEHO_NO_CELL;
+    return (uint32_t)((layer + (size_t)1) * puldeho_cells_in_layer(grid) - 1);
+}
+
+/* The world: the grid, and the lists that the caller keeps and lends to each call, with their lengths
+ * in numbers. Later versions have further fields. Make it with puldeho_world_over, or by naming its
+ * fields, as in {.grid = grid, .air = air, ..}: what is not set is 0 then, and stands for a value of
+ * its own. Start with puldeho_load. */
+struct puldeho_world {
+    struct puldeho_grid grid;
+    /* the air of every cell; layer k starts at k*C: K*C numbers */
+    uint32_t *air;
+    size_t air_length;
+    /* the amounts of every tracer; tracer t starts at t*K*C: N*K*C numbers */
+    uint32_t *tracers;
+    size_t tracers_length;
+};
+
+/* The world of a grid and lent lists; each length is how many numbers the list has. */
+static inline struct puldeho_world puldeho_world_over(
+    struct puldeho_grid grid,
+    uint32_t *air, size_t air_length,
+    uint32_t *tracers, size_t tracers_length)
+{
+    struct puldeho_world world;
+    memset(&world, 0, sizeof world);
+    world.grid = grid;
+    world.air = air;
+    world.air_length = air_length;
+    world.tracers = tracers;
+    world.tracers_length = tracers_length;
+    return world;
 }
 
 /*
- * Checks air and tracers and changes nothing. Writes nothing. Refusals, in order: 1 2 3 4.
- * Count: 0.
+ * The proved functions. Users call those further down, which are plain C over these. Each returns one
+ * number, refusal * 2^32 + count: kept in an int, it is 0 for many a refused call.
  */
-uint64_t puldeho_load(
+PULDEHO_MUST_USE uint64_t puldeho_raw_load(
     uint32_t w, uint32_t r, uint32_t k, uint32_t n,
     const uint32_t *air, size_t air_length,
     const uint32_t *tracers, size_t tracers_length);
 
-/*
- * Adds amount to one cell of one tracer. Cells are numbered over all layers. Writes tracers.
- * Refusals, in order: 1 2 3 4 5 6. Count: 0.
- */
-uint64_t puldeho_emission(
+PULDEHO_MUST_USE uint64_t puldeho_raw_emission(
     uint32_t w, uint32_t r, uint32_t k, uint32_t n,
     const uint32_t *air, size_t air_length,
     uint32_t *tracers, size_t tracers_length,
@@ -102,11 +282,7 @@ uint64_t puldeho_emission(
     uint32_t cell,
     uint32_t amount);
 
-/*
- * Takes amount from one cell of one tracer. Cells are numbered over all layers. Writes tracers.
- * Refusals, in order: 1 2 3 4 5 7. Count: 0.
- */
-uint64_t puldeho_withdrawal(
+PULDEHO_MUST_USE uint64_t puldeho_raw_withdrawal(
     uint32_t w, uint32_t r, uint32_t k, uint32_t n,
     const uint32_t *air, size_t air_length,
     uint32_t *tracers, size_t tracers_length,
@@ -114,11 +290,7 @@ uint64_t puldeho_withdrawal(
     uint32_t cell,
     uint32_t amount);
 
-/*
- * Sweeps one row of one layer by W fluxes, positive eastward. Writes air and tracers. Refusals,
- * in order: 1 2 3 4 5 8 9. Count: the number of substeps, 1 to 16.
- */
-uint64_t puldeho_zonal(
+PULDEHO_MUST_USE uint64_t puldeho_raw_zonal(
     uint32_t w, uint32_t r, uint32_t k, uint32_t n,
     uint32_t *air, size_t air_length,
     uint32_t *tracers, size_t tracers_length,
@@ -126,48 +298,237 @@ uint64_t puldeho_zonal(
     uint32_t row,
     const int32_t *fluxes, size_t fluxes_length);
 
-/*
- * Sweeps one layer by W*(R + 1) fluxes, positive northward. Writes air and tracers. Refusals,
- * in order: 1 2 3 4 5 8 10. Count: 1.
- */
-uint64_t puldeho_meridional(
+PULDEHO_MUST_USE uint64_t puldeho_raw_meridional(
     uint32_t w, uint32_t r, uint32_t k, uint32_t n,
     uint32_t *air, size_t air_length,
     uint32_t *tracers, size_t tracers_length,
     uint32_t layer,
     const int32_t *fluxes, size_t fluxes_length);
 
-/*
- * Remaps all columns to the edges of a table of K + 1 pairs a, b, lent as 2*(K + 1) numbers.
- * Writes air and tracers. Refusals, in order: 1 2 3 4 11 12. Count: the pairs of an old and a
- * new layer that share air, over all columns.
- */
-uint64_t puldeho_remap(
+PULDEHO_MUST_USE uint64_t puldeho_raw_remap(
     uint32_t w, uint32_t r, uint32_t k, uint32_t n,
     uint32_t *air, size_t air_length,
     uint32_t *tracers, size_t tracers_length,
     const uint32_t *table, size_t table_length);
 
-/*
- * Reads the total of one tracer. Writes nothing. Refusals, in order: 1 2 3 4 5. Count: the
- * total of the tracer.
- */
-uint64_t puldeho_total(
+PULDEHO_MUST_USE uint64_t puldeho_raw_total(
     uint32_t w, uint32_t r, uint32_t k, uint32_t n,
     const uint32_t *air, size_t air_length,
     const uint32_t *tracers, size_t tracers_length,
     uint32_t tracer);
 
-/*
- * Reads one cell of one tracer. Cells are numbered over all layers. Writes nothing. Refusals,
- * in order: 1 2 3 4 5. Count: the amount in the cell.
- */
-uint64_t puldeho_cell(
+PULDEHO_MUST_USE uint64_t puldeho_raw_cell(
     uint32_t w, uint32_t r, uint32_t k, uint32_t n,
     const uint32_t *air, size_t air_length,
     const uint32_t *tracers, size_t tracers_length,
     uint32_t tracer,
     uint32_t cell);
+
+/* Takes apart what a proved function returned. */
+static inline enum puldeho_refusal puldeho_refusal_and_count(uint64_t returned, uint32_t *count)
+{
+    if (count != NULL)
+        *count = (uint32_t)returned;
+    return (enum puldeho_refusal)(returned >> 32);
+}
+
+/* The calls. */
+
+/*
+ * Takes the lent lists as the world from now on. Checks them and changes no number in them.
+ * Writes nothing. Refusals, in order: 1 2 3 4.
+ */
+PULDEHO_MUST_USE static inline enum puldeho_refusal puldeho_load(
+    struct puldeho_world *world)
+{
+    return puldeho_refusal_and_count(puldeho_raw_load(
+        world->grid.w, world->grid.r, world->grid.k, world->grid.n,
+        world->air, world->air_length,
+        world->tracers, world->tracers_length), NULL);
+}
+
+/*
+ * Adds amount to one cell of one tracer. Cells are numbered over all layers. Writes tracers.
+ * Refusals, in order: 1 2 3 4 5 6.
+ */
+PULDEHO_MUST_USE static inline enum puldeho_refusal puldeho_emission(
+    struct puldeho_world *world,
+    uint32_t tracer,
+    uint32_t cell,
+    uint32_t amount)
+{
+    return puldeho_refusal_and_count(puldeho_raw_emission(
+        world->grid.w, world->grid.r, world->grid.k, world->grid.n,
+        world->air, world->air_length,
+        world->tracers, world->tracers_length,
+        tracer,
+        cell,
+        amount), NULL);
+}
+
+/*
+ * Takes amount from one cell of one tracer. Cells are numbered over all layers. Writes tracers.
+ * Refusals, in order: 1 2 3 4 5 7.
+ */
+PULDEHO_MUST_USE static inline enum puldeho_refusal puldeho_withdrawal(
+    struct puldeho_world *world,
+    uint32_t tracer,
+    uint32_t cell,
+    uint32_t amount)
+{
+    return puldeho_refusal_and_count(puldeho_raw_withdrawal(
+        world->grid.w, world->grid.r, world->grid.k, world->grid.n,
+        world->air, world->air_length,
+        world->tracers, world->tracers_length,
+        tracer,
+        cell,
+        amount), NULL);
+}
+
+/*
+ * Sweeps one row of one layer by W fluxes, positive eastward. Writes air and tracers. Refusals,
+ * in order: 1 2 3 4 5 8 9. substeps: the number of substeps, 1 to 16.
+ */
+PULDEHO_MUST_USE static inline enum puldeho_refusal puldeho_zonal(
+    struct puldeho_world *world,
+    uint32_t layer,
+    uint32_t row,
+    const int32_t *fluxes, size_t fluxes_length,
+    uint32_t *substeps)
+{
+    return puldeho_refusal_and_count(puldeho_raw_zonal(
+        world->grid.w, world->grid.r, world->grid.k, world->grid.n,
+        world->air, world->air_length,
+        world->tracers, world->tracers_length,
+        layer,
+        row,
+        fluxes, fluxes_length), substeps);
+}
+
+/*
+ * Sweeps one layer by W*(R + 1) fluxes, positive northward. Writes air and tracers. Refusals,
+ * in order: 1 2 3 4 5 8 10. substeps: the number of substeps, 1.
+ */
+PULDEHO_MUST_USE static inline enum puldeho_refusal puldeho_meridional(
+    struct puldeho_world *world,
+    uint32_t layer,
+    const int32_t *fluxes, size_t fluxes_length,
+    uint32_t *substeps)
+{
+    return puldeho_refusal_and_count(puldeho_raw_meridional(
+        world->grid.w, world->grid.r, world->grid.k, world->grid.n,
+        world->air, world->air_length,
+        world->tracers, world->tracers_length,
+        layer,
+        fluxes, fluxes_length), substeps);
+}
+
+/*
+ * Remaps all columns to the edges of a table of K + 1 pairs a, b, lent as 2*(K + 1) numbers.
+ * Writes air and tracers. Refusals, in order: 1 2 3 4 11 12. pairs: the pairs of an old and a
+ * new layer that share air, over all columns.
+ */
+PULDEHO_MUST_USE static inline enum puldeho_refusal puldeho_remap(
+    struct puldeho_world *world,
+    const uint32_t *table, size_t table_length,
+    uint32_t *pairs)
+{
+    return puldeho_refusal_and_count(puldeho_raw_remap(
+        world->grid.w, world->grid.r, world->grid.k, world->grid.n,
+        world->air, world->air_length,
+        world->tracers, world->tracers_length,
+        table, table_length), pairs);
+}
+
+/*
+ * Reads the total of one tracer. Writes nothing. Refusals, in order: 1 2 3 4 5. units: the
+ * total of the tracer.
+ */
+PULDEHO_MUST_USE static inline enum puldeho_refusal puldeho_total(
+    const struct puldeho_world *world,
+    uint32_t tracer,
+    uint32_t *units)
+{
+    return puldeho_refusal_and_count(puldeho_raw_total(
+        world->grid.w, world->grid.r, world->grid.k, world->grid.n,
+        world->air, world->air_length,
+        world->tracers, world->tracers_length,
+        tracer), units);
+}
+
+/*
+ * Reads one cell of one tracer. Cells are numbered over all layers. Writes nothing. Refusals,
+ * in order: 1 2 3 4 5. units: the amount in the cell.
+ */
+PULDEHO_MUST_USE static inline enum puldeho_refusal puldeho_cell(
+    const struct puldeho_world *world,
+    uint32_t tracer,
+    uint32_t cell,
+    uint32_t *units)
+{
+    return puldeho_refusal_and_count(puldeho_raw_cell(
+        world->grid.w, world->grid.r, world->grid.k, world->grid.n,
+        world->air, world->air_length,
+        world->tracers, world->tracers_length,
+        tracer,
+        cell), units);
+}
+
+/*
+ * Why a call is refused: for each call a function that takes the same arguments, writes into `text`
+ * which cell, row or column is in the way, how much air it has and how much would leave, and whether
+ * a smaller time step can help, and returns the refusal, 0 if the call would be accepted. Ask after the
+ * refusal, before the world changes. `text` gets at most `size` bytes with the final 0;
+ * PULDEHO_WHY_SIZE are enough for any. These functions are plain C and not proved; they only read.
+ */
+#define PULDEHO_WHY_SIZE 1024
+
+enum puldeho_refusal puldeho_why_load(
+    const struct puldeho_world *world,
+    char *text, size_t size);
+
+enum puldeho_refusal puldeho_why_emission(
+    const struct puldeho_world *world,
+    uint32_t tracer,
+    uint32_t cell,
+    uint32_t amount,
+    char *text, size_t size);
+
+enum puldeho_refusal puldeho_why_withdrawal(
+    const struct puldeho_world *world,
+    uint32_t tracer,
+    uint32_t cell,
+    uint32_t amount,
+    char *text, size_t size);
+
+enum puldeho_refusal puldeho_why_zonal(
+    const struct puldeho_world *world,
+    uint32_t layer,
+    uint32_t row,
+    const int32_t *fluxes, size_t fluxes_length,
+    char *text, size_t size);
+
+enum puldeho_refusal puldeho_why_meridional(
+    const struct puldeho_world *world,
+    uint32_t layer,
+    const int32_t *fluxes, size_t fluxes_length,
+    char *text, size_t size);
+
+enum puldeho_refusal puldeho_why_remap(
+    const struct puldeho_world *world,
+    const uint32_t *table, size_t table_length,
+    char *text, size_t size);
+
+enum puldeho_refusal puldeho_why_total(
+    const struct puldeho_world *world,
+    uint32_t tracer,
+    char *text, size_t size);
+
+enum puldeho_refusal puldeho_why_cell(
+    const struct puldeho_world *world,
+    uint32_t tracer,
+    uint32_t cell,
+    char *text, size_t size);
 
 #ifdef __cplusplus
 }

@@ -21,7 +21,7 @@ impl Version {
     }
 }
 
-/// The calls with the arguments of bindings/puldeho.h, under a prefix.
+/// The raw calls of bindings/puldeho.h, under a prefix.
 #[rustfmt::skip]
 macro_rules! c_calls {
     ($module:ident, $prefix:literal) => {

@@ -1,21 +1,18 @@
-/* Made by tools/bindings from bindings/calls.txt: not to be edited. */
+/* Made by tools/bindings from the tables of bindings/: not to be edited. */
 #include <stdlib.h>
 
-#include "puldeho.h"
 #include "script.h"
 
-static bool make_load(struct world *world, char *rest, uint64_t *returned)
+static bool make_load(struct puldeho_world *world, char *rest, struct outcome *outcome)
 {
     if (!at_end(rest))
         return false;
-    *returned = puldeho_load(
-        world->w, world->r, world->k, world->n,
-        world->air.numbers, world->air.length,
-        world->tracers.numbers, world->tracers.length);
+    outcome->why = puldeho_why_load(world, outcome->text, sizeof outcome->text);
+    outcome->refusal = puldeho_load(world);
     return true;
 }
 
-static bool make_emission(struct world *world, char *rest, uint64_t *returned)
+static bool make_emission(struct puldeho_world *world, char *rest, struct outcome *outcome)
 {
     uint32_t tracer;
     uint32_t cell;
@@ -25,17 +22,12 @@ static bool make_emission(struct world *world, char *rest, uint64_t *returned)
         || !take_u32(&rest, &amount)
         || !at_end(rest))
         return false;
-    *returned = puldeho_emission(
-        world->w, world->r, world->k, world->n,
-        world->air.numbers, world->air.length,
-        world->tracers.numbers, world->tracers.length,
-        tracer,
-        cell,
-        amount);
+    outcome->why = puldeho_why_emission(world, tracer, cell, amount, outcome->text, sizeof outcome->text);
+    outcome->refusal = puldeho_emission(world, tracer, cell, amount);
     return true;
 }
 
-static bool make_withdrawal(struct world *world, char *rest, uint64_t *returned)
+static bool make_withdrawal(struct puldeho_world *world, char *rest, struct outcome *outcome)
 {
     uint32_t tracer;
     uint32_t cell;
@@ -45,17 +37,12 @@ static bool make_withdrawal(struct world *world, char *rest, uint64_t *returned)
         || !take_u32(&rest, &amount)
         || !at_end(rest))
         return false;
-    *returned = puldeho_withdrawal(
-        world->w, world->r, world->k, world->n,
-        world->air.numbers, world->air.length,
-        world->tracers.numbers, world->tracers.length,
-        tracer,
-        cell,
-        amount);
+    outcome->why = puldeho_why_withdrawal(world, tracer, cell, amount, outcome->text, sizeof outcome->text);
+    outcome->refusal = puldeho_withdrawal(world, tracer, cell, amount);
     return true;
 }
 
-static bool make_zonal(struct world *world, char *rest, uint64_t *returned)
+static bool make_zonal(struct puldeho_world *world, char *rest, struct outcome *outcome)
 {
     uint32_t layer;
     uint32_t row;
@@ -65,18 +52,13 @@ static bool make_zonal(struct world *world, char *rest, uint64_t *returned)
         || !take_i32s(&rest, &fluxes)
         || !at_end(rest))
         return false;
-    *returned = puldeho_zonal(
-        world->w, world->r, world->k, world->n,
-        world->air.numbers, world->air.length,
-        world->tracers.numbers, world->tracers.length,
-        layer,
-        row,
-        (const int32_t *)fluxes.numbers, fluxes.length);
+    outcome->why = puldeho_why_zonal(world, layer, row, (const int32_t *)fluxes.numbers, fluxes.length, outcome->text, sizeof outcome->text);
+    outcome->refusal = puldeho_zonal(world, layer, row, (const int32_t *)fluxes.numbers, fluxes.length, &outcome->count);
     free(fluxes.numbers);
     return true;
 }
 
-static bool make_meridional(struct world *world, char *rest, uint64_t *returned)
+static bool make_meridional(struct puldeho_world *world, char *rest, struct outcome *outcome)
 {
     uint32_t layer;
     struct list fluxes;
@@ -84,46 +66,36 @@ static bool make_meridional(struct world *world, char *rest, uint64_t *returned)
         || !take_i32s(&rest, &fluxes)
         || !at_end(rest))
         return false;
-    *returned = puldeho_meridional(
-        world->w, world->r, world->k, world->n,
-        world->air.numbers, world->air.length,
-        world->tracers.numbers, world->tracers.length,
-        layer,
-        (const int32_t *)fluxes.numbers, fluxes.length);
+    outcome->why = puldeho_why_meridional(world, layer, (const int32_t *)fluxes.numbers, fluxes.length, outcome->text, sizeof outcome->text);
+    outcome->refusal = puldeho_meridional(world, layer, (const int32_t *)fluxes.numbers, fluxes.length, &outcome->count);
     free(fluxes.numbers);
     return true;
 }
 
-static bool make_remap(struct world *world, char *rest, uint64_t *returned)
+static bool make_remap(struct puldeho_world *world, char *rest, struct outcome *outcome)
 {
     struct list table;
     if (!take_u32s(&rest, &table)
         || !at_end(rest))
         return false;
-    *returned = puldeho_remap(
-        world->w, world->r, world->k, world->n,
-        world->air.numbers, world->air.length,
-        world->tracers.numbers, world->tracers.length,
-        (const uint32_t *)table.numbers, table.length);
+    outcome->why = puldeho_why_remap(world, (const uint32_t *)table.numbers, table.length, outcome->text, sizeof outcome->text);
+    outcome->refusal = puldeho_remap(world, (const uint32_t *)table.numbers, table.length, &outcome->count);
     free(table.numbers);
     return true;
 }
 
-static bool make_total(struct world *world, char *rest, uint64_t *returned)
+static bool make_total(struct puldeho_world *world, char *rest, struct outcome *outcome)
 {
     uint32_t tracer;
     if (!take_u32(&rest, &tracer)
         || !at_end(rest))
         return false;
-    *returned = puldeho_total(
-        world->w, world->r, world->k, world->n,
-        world->air.numbers, world->air.length,
-        world->tracers.numbers, world->tracers.length,
-        tracer);
+    outcome->why = puldeho_why_total(world, tracer, outcome->text, sizeof outcome->text);
+    outcome->refusal = puldeho_total(world, tracer, &outcome->count);
     return true;
 }
 
-static bool make_cell(struct world *world, char *rest, uint64_t *returned)
+static bool make_cell(struct puldeho_world *world, char *rest, struct outcome *outcome)
 {
     uint32_t tracer;
     uint32_t cell;
@@ -131,12 +103,8 @@ static bool make_cell(struct world *world, char *rest, uint64_t *returned)
         || !take_u32(&rest, &cell)
         || !at_end(rest))
         return false;
-    *returned = puldeho_cell(
-        world->w, world->r, world->k, world->n,
-        world->air.numbers, world->air.length,
-        world->tracers.numbers, world->tracers.length,
-        tracer,
-        cell);
+    outcome->why = puldeho_why_cell(world, tracer, cell, outcome->text, sizeof outcome->text);
+    outcome->refusal = puldeho_cell(world, tracer, cell, &outcome->count);
     return true;
 }
 

@@ -1,4 +1,4 @@
-/* Case P of document 01 and some refusals, in C through the header. It says what it does and gives;
+/* Case P of document 01 and each refusal that C can get, through the header. It says what it does and gives;
  * the exit status is 1 if anything differs. */
 #include <stdio.h>
 #include <string.h>
@@ -9,30 +9,43 @@
 
 static const uint32_t first_air[CELLS] = {100, 100, 100, 100, 100, 100};
 static const uint32_t first_tracers[CELLS] = {0, 0, 100, 200, 100, 0};
+static uint32_t air[CELLS], tracers[CELLS];
 static int differences = 0;
 
-/* Says what a call gave and whether that is what document 01 defines. */
-static void expect(const char *what, uint64_t returned, uint32_t answer, uint32_t count)
+/* The world of case P before its first call. */
+static struct puldeho_world first_world(void)
 {
-    uint32_t got_answer = puldeho_answer(returned);
-    uint32_t got_count = puldeho_count(returned);
-    if (got_answer == answer && got_count == count) {
-        printf("%s: answer %u, count %u, as it should be\n", what, got_answer, got_count);
-    } else {
-        printf("%s: answer %u, count %u, but it should be %u, %u\n", what, got_answer, got_count, answer, count);
-        differences++;
-    }
+    struct puldeho_grid grid = {4, 1, 1, 1};
+    memcpy(air, first_air, sizeof air);
+    memcpy(tracers, first_tracers, sizeof tracers);
+    return puldeho_world_over(grid, air, CELLS, tracers, CELLS);
+}
+
+/* Says what a call gave and whether that is what document 01 defines. */
+static void expect(const char *what, enum puldeho_refusal got, enum puldeho_refusal wanted)
+{
+    printf("%s: %s", what, puldeho_refusal_text(got));
+    if (got != wanted)
+        printf(", but it should be: %s", puldeho_refusal_text(wanted));
+    printf("\n");
+    differences += got != wanted;
+}
+
+static void expect_number(const char *what, uint32_t got, uint32_t wanted)
+{
+    printf("%s: %u", what, (unsigned)got);
+    if (got != wanted)
+        printf(", but it should be %u", (unsigned)wanted);
+    printf("\n");
+    differences += got != wanted;
 }
 
 /* Says whether a list has the numbers that it should have. */
 static void expect_list(const char *what, const uint32_t *list, const uint32_t *wanted)
 {
-    if (memcmp(list, wanted, CELLS * sizeof *list) == 0) {
-        printf("%s: as it should be\n", what);
-    } else {
-        printf("%s: DIFFERENT\n", what);
-        differences++;
-    }
+    int same = memcmp(list, wanted, CELLS * sizeof *list) == 0;
+    printf("%s: %s\n", what, same ? "as it should be" : "DIFFERENT");
+    differences += !same;
 }
 
 static void case_p(void)
@@ -40,34 +53,49 @@ static void case_p(void)
     static const uint32_t air_after[CELLS] = {100, 100, 50, 150, 100, 100};
     static const uint32_t tracers_after[CELLS] = {0, 0, 38, 262, 100, 0};
     static const int32_t fluxes[4] = {0, 50, 0, 0};
-    uint32_t air[CELLS], tracers[CELLS];
-    memcpy(air, first_air, sizeof air);
-    memcpy(tracers, first_tracers, sizeof tracers);
-    expect("case P, load", puldeho_load(4, 1, 1, 1, air, CELLS, tracers, CELLS), 0, 0);
-    expect("case P, zonal sweep", puldeho_zonal(4, 1, 1, 1, air, CELLS, tracers, CELLS, 0, 0, fluxes, 4), 0, 1);
-    expect("case P, total", puldeho_total(4, 1, 1, 1, air, CELLS, tracers, CELLS, 0), 0, 400);
-    expect("case P, cell 3", puldeho_cell(4, 1, 1, 1, air, CELLS, tracers, CELLS, 0, 3), 0, 262);
+    struct puldeho_world world = first_world();
+    uint32_t substeps = 99, total = 99, cell = 99;
+    expect("case P, load", puldeho_load(&world), PULDEHO_ACCEPTED);
+    expect("case P, zonal sweep", puldeho_zonal(&world, 0, 0, fluxes, 4, &substeps), PULDEHO_ACCEPTED);
+    expect_number("case P, substeps", substeps, 1);
+    expect("case P, total", puldeho_total(&world, 0, &total), PULDEHO_ACCEPTED);
+    expect_number("case P, units in all cells", total, 400);
+    expect("case P, cell 3", puldeho_cell(&world, 0, puldeho_cell_number(world.grid, 0, 0, 2), &cell), PULDEHO_ACCEPTED);
+    expect_number("case P, units in cell 3", cell, 262);
     expect_list("case P, air after", air, air_after);
     expect_list("case P, tracers after", tracers, tracers_after);
 }
 
+/* Lists of a wrong length, and of none. */
+static void lengths(void)
+{
+    static const int32_t fluxes[4] = {0, 50, 0, 0};
+    static const uint32_t table[4] = {0, 0, 0, 65536};
+    struct puldeho_world world = first_world();
+    struct puldeho_world narrow = world, empty = world, shorter = world;
+    narrow.grid.w = 3;
+    empty = puldeho_world_over(world.grid, NULL, 0, NULL, 0);
+    shorter.air_length = CELLS - 1;
+    expect("3 columns", puldeho_load(&narrow), PULDEHO_GRID_RANGE);
+    expect("no lists", puldeho_load(&empty), PULDEHO_LENGTHS);
+    expect("air too short", puldeho_emission(&shorter, 0, 0, 1), PULDEHO_LENGTHS);
+    expect("3 fluxes", puldeho_zonal(&world, 0, 0, fluxes, 3, NULL), PULDEHO_LENGTHS);
+    expect("half a table", puldeho_remap(&world, table, 2, NULL), PULDEHO_LENGTHS);
+}
+
+/* Refusals of the call's own arguments. A refused call gives 0 for its count and changes nothing. */
 static void refusals(void)
 {
     static const int32_t emptying[4] = {0, 100, 0, 0};
-    static const uint32_t table[4] = {0, 0, 0, 65536};
-    uint32_t air[CELLS], tracers[CELLS];
-    memcpy(air, first_air, sizeof air);
-    memcpy(tracers, first_tracers, sizeof tracers);
-    expect("3 columns", puldeho_load(3, 1, 1, 1, air, CELLS, tracers, CELLS), PULDEHO_GRID_RANGE, 0);
-    expect("no buffers", puldeho_load(4, 1, 1, 1, NULL, 0, NULL, 0), PULDEHO_LENGTHS, 0);
-    expect("air too short", puldeho_emission(4, 1, 1, 1, air, CELLS - 1, tracers, CELLS, 0, 0, 1), PULDEHO_LENGTHS, 0);
-    expect("3 fluxes", puldeho_zonal(4, 1, 1, 1, air, CELLS, tracers, CELLS, 0, 0, emptying, 3), PULDEHO_LENGTHS, 0);
-    expect("half a table", puldeho_remap(4, 1, 1, 1, air, CELLS, tracers, CELLS, table, 2), PULDEHO_LENGTHS, 0);
-    expect("cell 6", puldeho_emission(4, 1, 1, 1, air, CELLS, tracers, CELLS, 0, 6, 1), PULDEHO_INDEX, 0);
-    expect("more than is there", puldeho_withdrawal(4, 1, 1, 1, air, CELLS, tracers, CELLS, 0, 3, 201),
-        PULDEHO_WITHDRAWAL, 0);
-    expect("a cell would empty", puldeho_zonal(4, 1, 1, 1, air, CELLS, tracers, CELLS, 0, 0, emptying, 4),
-        PULDEHO_ZONAL, 0);
+    static const int32_t northward[8] = {100, 0, 0, 0, 0, 0, 0, 0};
+    struct puldeho_world world = first_world();
+    uint32_t substeps = 99;
+    expect("cell 6", puldeho_emission(&world, 0, 6, 1), PULDEHO_INDEX);
+    expect("no such cell", puldeho_emission(&world, 0, puldeho_cell_number(world.grid, 0, 1, 0), 1), PULDEHO_INDEX);
+    expect("more than is there", puldeho_withdrawal(&world, 0, 3, 201), PULDEHO_WITHDRAWAL);
+    expect("a cell would empty", puldeho_zonal(&world, 0, 0, emptying, 4, &substeps), PULDEHO_ZONAL);
+    expect_number("its count", substeps, 0);
+    expect("the cap would empty", puldeho_meridional(&world, 0, northward, 8, &substeps), PULDEHO_MERIDIONAL);
     expect_list("refusals, air after", air, first_air);
     expect_list("refusals, tracers after", tracers, first_tracers);
 }
@@ -75,6 +103,7 @@ static void refusals(void)
 int main(void)
 {
     case_p();
+    lengths();
     refusals();
     return differences == 0 ? 0 : 1;
 }

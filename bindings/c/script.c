@@ -1,13 +1,13 @@
 /*
  * Reads a script of calls from standard input, makes them in the library through the header, and prints what the second
- * implementation's program `script` prints (reference/README.md has the form of a line). A bad line ends it with status 1.
+ * implementation's program `script` prints (reference/README.md has the form of a line). A bad line ends it with status 1,
+ * and so does a call for which puldeho_why_NAME names another refusal than the library gives.
  */
 #include <inttypes.h>
 #include <stdio.h>
 #include <stdlib.h>
 #include <string.h>
 
-#include "puldeho.h"
 #include "script.h"
 
 static const char space[] = " \t\r";
@@ -75,60 +75,66 @@ bool take_i32s(char **rest, struct list *list)
     return take_numbers(rest, INT32_MIN, INT32_MAX, list);
 }
 
-static bool set_list(char *rest, struct list *list)
+static bool set_list(char *rest, uint32_t **numbers, size_t *length)
 {
-    free(list->numbers);
-    return take_u32s(&rest, list);
+    struct list list;
+    bool good = take_u32s(&rest, &list);
+    free(*numbers);
+    *numbers = list.numbers;
+    *length = list.length;
+    return good;
 }
 
-static bool set_grid(char *rest, struct world *world)
+static bool set_grid(char *rest, struct puldeho_grid *grid)
 {
-    return take_u32(&rest, &world->w) && take_u32(&rest, &world->r) && take_u32(&rest, &world->k)
-        && take_u32(&rest, &world->n) && at_end(rest);
+    return take_u32(&rest, &grid->w) && take_u32(&rest, &grid->r) && take_u32(&rest, &grid->k)
+        && take_u32(&rest, &grid->n) && at_end(rest);
 }
 
-static void show_list(const char *name, const struct list *list)
+static void show_list(const char *name, const uint32_t *numbers, size_t length)
 {
     printf("%s", name);
-    for (size_t i = 0; i < list->length; i++)
-        printf(" %" PRIu32, list->numbers[i]);
+    for (size_t i = 0; i < length; i++)
+        printf(" %" PRIu32, numbers[i]);
     printf("\n");
 }
 
-static bool show(const char *rest, const struct world *world)
+static bool show(const char *rest, const struct puldeho_world *world)
 {
     if (!at_end(rest))
         return false;
-    show_list("air", &world->air);
-    show_list("tracers", &world->tracers);
+    show_list("air", world->air, world->air_length);
+    show_list("tracers", world->tracers, world->tracers_length);
     return true;
 }
 
-static bool make_call(const char *name, char *rest, struct world *world)
+static bool make_call(const char *name, char *rest, struct puldeho_world *world)
 {
     for (const struct call *call = calls; call->name != NULL; call++) {
         if (strcmp(name, call->name) == 0) {
-            uint64_t returned;
-            if (!call->make(world, rest, &returned))
+            struct outcome outcome = {PULDEHO_ACCEPTED, 0, PULDEHO_ACCEPTED, ""};
+            if (!call->make(world, rest, &outcome))
                 return false;
-            printf("%s %" PRIu32 " %" PRIu32 "\n", name, puldeho_answer(returned), puldeho_count(returned));
-            return true;
+            printf("%s %d %" PRIu32 "\n", name, (int)outcome.refusal, outcome.count);
+            if (outcome.why != outcome.refusal)
+                fprintf(stderr, "%s gives %d, but why says %d: %s\n", name, (int)outcome.refusal, (int)outcome.why, outcome.text);
+            return outcome.why == outcome.refusal;
         }
     }
     return false;
 }
 
-static bool run_line(char *rest, struct world *world)
+static bool run_line(char *rest, struct puldeho_world *world)
 {
     const char *name = take_word(&rest);
     if (*name == '\0' || *name == '#')
         return true;
     if (strcmp(name, "grid") == 0)
-        return set_grid(rest, world);
+        return set_grid(rest, &world->grid);
     if (strcmp(name, "air") == 0)
-        return set_list(rest, &world->air);
+        return set_list(rest, &world->air, &world->air_length);
     if (strcmp(name, "tracers") == 0)
-        return set_list(rest, &world->tracers);
+        return set_list(rest, &world->tracers, &world->tracers_length);
     if (strcmp(name, "show") == 0)
         return show(rest, world);
     return make_call(name, rest, world);
@@ -156,7 +162,8 @@ static bool read_line(char **line, size_t *size)
 
 int main(void)
 {
-    struct world world = {0, 0, 0, 0, {NULL, 0}, {NULL, 0}};
+    struct puldeho_grid none = {0, 0, 0, 0};
+    struct puldeho_world world = puldeho_world_over(none, NULL, 0, NULL, 0);
     char *line = NULL;
     size_t size = 0;
     for (unsigned long number = 1; read_line(&line, &size); number++) {

@@ -6,20 +6,25 @@
 #include <stddef.h>
 #include <stdint.h>
 
+#include "puldeho.h"
+
 struct list {
     uint32_t *numbers;
     size_t length;
 };
 
-struct world {
-    uint32_t w, r, k, n;
-    struct list air, tracers;
+/* What a call gave, and why beforehand. A call without a count leaves it. */
+struct outcome {
+    enum puldeho_refusal refusal;
+    uint32_t count;
+    enum puldeho_refusal why;
+    char text[PULDEHO_WHY_SIZE];
 };
 
 /* A call by its name in a script. `make` is false if the rest of the line is not its arguments. */
 struct call {
     const char *name;
-    bool (*make)(struct world *world, char *rest, uint64_t *returned);
+    bool (*make)(struct puldeho_world *world, char *rest, struct outcome *outcome);
 };
 
 /* Every call; the last has no name. */

@@ -1,7 +1,7 @@
-// Made by tools/bindings from bindings/calls.txt: not to be edited.
+// Made by tools/bindings from the tables of bindings/: not to be edited.
 //! The second implementation's calls, made in the library and written as lines of a script.
 
-use puldeho::{Grid, Refusal};
+use puldeho::{raw, Grid, Refusal};
 use reference::{Call, World};
 
 /// Makes the call in the library.
@@ -10,28 +10,28 @@ pub fn call(world: &mut World, call: &Call) -> Result<u32, Refusal> {
     let grid = Grid { w: grid.w, r: grid.r, k: grid.k, n: grid.n };
     match call {
         Call::Load => {
-            puldeho::load(grid, air, tracers)
+            raw::load(grid, air, tracers)
         }
         Call::Emission { tracer, cell, amount } => {
-            puldeho::emission(grid, air, tracers, *tracer, *cell, *amount)
+            raw::emission(grid, air, tracers, *tracer, *cell, *amount)
         }
         Call::Withdrawal { tracer, cell, amount } => {
-            puldeho::withdrawal(grid, air, tracers, *tracer, *cell, *amount)
+            raw::withdrawal(grid, air, tracers, *tracer, *cell, *amount)
         }
         Call::Zonal { layer, row, fluxes } => {
-            puldeho::zonal(grid, air, tracers, *layer, *row, fluxes)
+            raw::zonal(grid, air, tracers, *layer, *row, fluxes)
         }
         Call::Meridional { layer, fluxes } => {
-            puldeho::meridional(grid, air, tracers, *layer, fluxes)
+            raw::meridional(grid, air, tracers, *layer, fluxes)
         }
         Call::Remap { table } => {
-            puldeho::remap(grid, air, tracers, table)
+            raw::remap(grid, air, tracers, table)
         }
         Call::Total { tracer } => {
-            puldeho::total(grid, air, tracers, *tracer)
+            raw::total(grid, air, tracers, *tracer)
         }
         Call::Cell { tracer, cell } => {
-            puldeho::cell(grid, air, tracers, *tracer, *cell)
+            raw::cell(grid, air, tracers, *tracer, *cell)
         }
     }
 }

@@ -1,41 +1,45 @@
-//! A world of one layer and one gas, lent to the proved library for every sweep, and what is recorded of a run.
+//! A world of one layer and one gas in the proved library, and what is recorded of a run.
 
 use puldeho::{Grid, Refusal};
 use std::ops::Range;
 
-pub struct World {
-    pub grid: Grid,
-    pub air: Vec<u32>,
-    pub gas: Vec<u32>,
-}
+pub struct World(puldeho::World);
 
 impl World {
     /// The world after an accepted load.
     pub fn load(w: u32, r: u32, air: Vec<u32>, gas: Vec<u32>) -> Result<World, Refusal> {
-        let grid = Grid { w, r, k: 1, n: 1 };
-        puldeho::load(grid, &air, &gas)?;
-        Ok(World { grid, air, gas })
+        puldeho::World::load(Grid { w, r, k: 1, n: 1 }, air, gas).map(World)
     }
 
     /// Sweeps one row; the number of substeps.
     pub fn zonal(&mut self, row: u32, fluxes: &[i32]) -> Result<u32, Refusal> {
-        puldeho::zonal(self.grid, &mut self.air, &mut self.gas, 0, row, fluxes)
+        self.0.zonal(0, row, fluxes)
     }
 
     /// Sweeps the layer.
     pub fn meridional(&mut self, fluxes: &[i32]) -> Result<u32, Refusal> {
-        puldeho::meridional(self.grid, &mut self.air, &mut self.gas, 0, fluxes)
+        self.0.meridional(0, fluxes)
     }
 
     /// The gas total, as the library reads it.
     pub fn total(&self) -> Result<u32, Refusal> {
-        puldeho::total(self.grid, &self.air, &self.gas, 0)
+        self.0.total(0)
+    }
+
+    /// The air of every cell.
+    pub fn air(&self) -> &[u32] {
+        self.0.air()
+    }
+
+    /// The gas in every cell.
+    pub fn gas(&self) -> &[u32] {
+        self.0.tracers()
     }
 
     /// Every cell's gas over its air, with `unit` units of gas to one unit of air as 1.
     pub fn ratios(&self, unit: u32) -> Vec<f64> {
         let ratio = |(air, gas): (&u32, &u32)| f64::from(*gas) / f64::from(*air) / f64::from(unit);
-        self.air.iter().zip(&self.gas).map(ratio).collect()
+        self.air().iter().zip(self.gas()).map(ratio).collect()
     }
 }
 
@@ -116,7 +120,7 @@ impl Watch {
         Ok(Watch {
             cells,
             unit,
-            air: world.air.clone(),
+            air: world.air().to_vec(),
             record,
         })
     }
@@ -124,14 +128,14 @@ impl Watch {
     /// Records the world after a step whose sweeps took at most `substeps` substeps.
     pub fn step(&mut self, world: &World, substeps: u32) {
         let ratios = &world.ratios(self.unit)[self.cells.clone()];
-        let gas = &world.gas[self.cells.clone()];
+        let gas = &world.gas()[self.cells.clone()];
         let record = &mut self.record;
         record.steps += 1;
         record.peak_after = greatest(ratios);
         record.greatest = record.greatest.max(record.peak_after);
         record.least = record.least.min(least(ratios));
         record.least_gas = gas.iter().copied().fold(record.least_gas, u32::min);
-        record.air_back += u32::from(world.air == self.air);
+        record.air_back += u32::from(world.air() == self.air);
         record.most_substeps = record.most_substeps.max(substeps);
     }
 

@@ -1,6 +1,9 @@
-// Made by tools/bindings from bindings/calls.txt: not to be edited.
+// Made by tools/bindings from the tables of bindings/: not to be edited.
 
 use crate::{outcome, Grid};
+
+/// The version of the library that this wrapper was made for.
+pub const VERSION: &str = "0.1.0";
 
 /// Why a call was refused. It then changed nothing. `refusal as u32` is its number.
 #[derive(Clone, Copy, Debug, PartialEq, Eq)]
@@ -66,236 +69,381 @@ impl Refusal {
             Refusal::Remap => "in some column the edges do not rise strictly, or a new layer exceeds 65,535",
         }
     }
+
+    /// What to do about it, in words.
+    pub fn remedy(self) -> &'static str {
+        match self {
+            Refusal::GridRange => "give W from 4 to 72, R from 1 to 44, K from 1 to 32 and N from 1 to 8",
+            Refusal::Lengths => "take the lengths from the functions puldeho_.._length of the grid",
+            Refusal::AirRange => "choose the unit of air so that every cell has 1 to 65,535, or make layers of more even air",
+            Refusal::Totals => "choose a larger unit for that gas, so that its total stays below the limit with room for what is emitted",
+            Refusal::Index => "count from 0, and take cell numbers from puldeho_cell_number, puldeho_south_cap and puldeho_north_cap",
+            Refusal::Emission => "load the gas in a larger unit, or withdraw before emitting",
+            Refusal::Withdrawal => "read the cell first, and withdraw at most what it has",
+            Refusal::Fluxes => "give fluxes in units of air moved during this step; a smaller time step makes them smaller",
+            Refusal::Zonal => "make the step in several smaller ones; where a cell would end empty or too full, correct the fluxes, since no smaller step helps",
+            Refusal::Meridional => "make the step in several smaller ones; where a cell would end empty or too full, correct the fluxes, since no smaller step helps",
+            Refusal::Table => "give K + 1 pairs from the top down, the first 0, 0 and the last 0, 65,536",
+            Refusal::Remap => "make neighbouring pairs differ by at least one unit of air in the column with the least air; with air in proportion to area use a = 0",
+        }
+    }
 }
 
-extern "C" {
-    fn puldeho_load(
-        w: u32, r: u32, k: u32, n: u32,
-        air: *const u32, air_length: usize,
-        tracers: *const u32, tracers_length: usize,
-    ) -> u64;
-    fn puldeho_emission(
-        w: u32, r: u32, k: u32, n: u32,
-        air: *const u32, air_length: usize,
-        tracers: *mut u32, tracers_length: usize,
+/// How long the lists are that go with a grid.
+impl Grid {
+    /// The length of air: K*C. In it: the air of every cell; layer k starts at k*C.
+    pub fn air_length(self) -> usize {
+        self.k as usize * self.cells_in_layer()
+    }
+
+    /// The length of tracers: N*K*C. In it: the amounts of every tracer; tracer t starts at t*K*C.
+    pub fn tracers_length(self) -> usize {
+        self.n as usize * self.k as usize * self.cells_in_layer()
+    }
+
+    /// The length of fluxes of a zonal call: W. In it: flux i crosses the face from column i to column i + 1, the last to column 0; positive eastward.
+    pub fn zonal_fluxes_length(self) -> usize {
+        self.w as usize
+    }
+
+    /// The length of fluxes of a meridional call: W*(R + 1). In it: flux g*W + i crosses between rows g - 1 and g in column i; row -1 is the south cap, row R the north cap; positive northward.
+    pub fn meridional_fluxes_length(self) -> usize {
+        self.w as usize * (self.r as usize + 1)
+    }
+
+    /// The length of table of a remap call: 2*(K + 1). In it: pair j is a at 2*j and b at 2*j + 1; edge j = a + floor(b*P/65536), P the air of the column.
+    pub fn remap_table_length(self) -> usize {
+        2 * (self.k as usize + 1)
+    }
+}
+
+/// A world that owns its lists, made by an accepted load, so that a later call is refused for its own arguments only.
+#[derive(Clone, Debug, PartialEq, Eq)]
+pub struct World {
+    grid: Grid,
+    air: Vec<u32>,
+    tracers: Vec<u32>,
+}
+
+impl World {
+    /// Takes the lists as the world from now on, if the load is accepted.
+    pub fn load(grid: Grid, air: impl Into<Vec<u32>>, tracers: impl Into<Vec<u32>>) -> Result<World, Refusal> {
+        let world = World { grid, air: air.into(), tracers: tracers.into() };
+        raw::load(grid, &world.air, &world.tracers)?;
+        Ok(world)
+    }
+
+    /// The grid.
+    pub fn grid(&self) -> Grid {
+        self.grid
+    }
+
+    /// The air of every cell; layer k starts at k*C.
+    pub fn air(&self) -> &[u32] {
+        &self.air
+    }
+
+    /// The amounts of every tracer; tracer t starts at t*K*C.
+    pub fn tracers(&self) -> &[u32] {
+        &self.tracers
+    }
+
+    /// Adds amount to one cell of one tracer. Cells are numbered over all layers.
+    ///
+    /// Refusals, in order: 1 2 3 4 5 6.
+    pub fn emission(&mut self, tracer: u32, cell: u32, amount: u32) -> Result<(), Refusal> {
+        raw::emission(self.grid, &self.air, &mut self.tracers, tracer, cell, amount)?;
+        Ok(())
+    }
+
+    /// Takes amount from one cell of one tracer. Cells are numbered over all layers.
+    ///
+    /// Refusals, in order: 1 2 3 4 5 7.
+    pub fn withdrawal(&mut self, tracer: u32, cell: u32, amount: u32) -> Result<(), Refusal> {
+        raw::withdrawal(self.grid, &self.air, &mut self.tracers, tracer, cell, amount)?;
+        Ok(())
+    }
+
+    /// Sweeps one row of one layer by W fluxes, positive eastward.
+    ///
+    /// It gives the number of substeps, 1 to 16.
+    ///
+    /// Refusals, in order: 1 2 3 4 5 8 9.
+    pub fn zonal(&mut self, layer: u32, row: u32, fluxes: &[i32]) -> Result<u32, Refusal> {
+        raw::zonal(self.grid, &mut self.air, &mut self.tracers, layer, row, fluxes)
+    }
+
+    /// Sweeps one layer by W*(R + 1) fluxes, positive northward.
+    ///
+    /// It gives the number of substeps, 1.
+    ///
+    /// Refusals, in order: 1 2 3 4 5 8 10.
+    pub fn meridional(&mut self, layer: u32, fluxes: &[i32]) -> Result<u32, Refusal> {
+        raw::meridional(self.grid, &mut self.air, &mut self.tracers, layer, fluxes)
+    }
+
+    /// Remaps all columns to the edges of a table of K + 1 pairs a, b, lent as 2*(K + 1) numbers.
+    ///
+    /// It gives the pairs of an old and a new layer that share air, over all columns.
+    ///
+    /// Refusals, in order: 1 2 3 4 11 12.
+    pub fn remap(&mut self, table: &[u32]) -> Result<u32, Refusal> {
+        raw::remap(self.grid, &mut self.air, &mut self.tracers, table)
+    }
+
+    /// Reads the total of one tracer.
+    ///
+    /// It gives the total of the tracer.
+    ///
+    /// Refusals, in order: 1 2 3 4 5.
+    pub fn total(&self, tracer: u32) -> Result<u32, Refusal> {
+        raw::total(self.grid, &self.air, &self.tracers, tracer)
+    }
+
+    /// Reads one cell of one tracer. Cells are numbered over all layers.
+    ///
+    /// It gives the amount in the cell.
+    ///
+    /// Refusals, in order: 1 2 3 4 5.
+    pub fn cell(&self, tracer: u32, cell: u32) -> Result<u32, Refusal> {
+        raw::cell(self.grid, &self.air, &self.tracers, tracer, cell)
+    }
+}
+
+/// The calls over lists that the caller keeps and lends, each with the grid: any numbers and lengths are answered.
+/// A later version may lend further lists; programs over [`World`] do not change then.
+pub mod raw {
+    use super::{outcome, Grid, Refusal};
+
+    extern "C" {
+        fn puldeho_raw_load(
+            w: u32, r: u32, k: u32, n: u32,
+            air: *const u32, air_length: usize,
+            tracers: *const u32, tracers_length: usize,
+        ) -> u64;
+        fn puldeho_raw_emission(
+            w: u32, r: u32, k: u32, n: u32,
+            air: *const u32, air_length: usize,
+            tracers: *mut u32, tracers_length: usize,
+            tracer: u32,
+            cell: u32,
+            amount: u32,
+        ) -> u64;
+        fn puldeho_raw_withdrawal(
+            w: u32, r: u32, k: u32, n: u32,
+            air: *const u32, air_length: usize,
+            tracers: *mut u32, tracers_length: usize,
+            tracer: u32,
+            cell: u32,
+            amount: u32,
+        ) -> u64;
+        fn puldeho_raw_zonal(
+            w: u32, r: u32, k: u32, n: u32,
+            air: *mut u32, air_length: usize,
+            tracers: *mut u32, tracers_length: usize,
+            layer: u32,
+            row: u32,
+            fluxes: *const i32, fluxes_length: usize,
+        ) -> u64;
+        fn puldeho_raw_meridional(
+            w: u32, r: u32, k: u32, n: u32,
+            air: *mut u32, air_length: usize,
+            tracers: *mut u32, tracers_length: usize,
+            layer: u32,
+            fluxes: *const i32, fluxes_length: usize,
+        ) -> u64;
+        fn puldeho_raw_remap(
+            w: u32, r: u32, k: u32, n: u32,
+            air: *mut u32, air_length: usize,
+            tracers: *mut u32, tracers_length: usize,
+            table: *const u32, table_length: usize,
+        ) -> u64;
+        fn puldeho_raw_total(
+            w: u32, r: u32, k: u32, n: u32,
+            air: *const u32, air_length: usize,
+            tracers: *const u32, tracers_length: usize,
+            tracer: u32,
+        ) -> u64;
+        fn puldeho_raw_cell(
+            w: u32, r: u32, k: u32, n: u32,
+            air: *const u32, air_length: usize,
+            tracers: *const u32, tracers_length: usize,
+            tracer: u32,
+            cell: u32,
+        ) -> u64;
+}
+
+    /// Takes the lent lists as the world from now on. Checks them and changes no number in them.
+    ///
+    /// Count: 0. Refusals, in order: 1 2 3 4.
+    pub fn load(
+        grid: Grid,
+        air: &[u32],
+        tracers: &[u32],
+    ) -> Result<u32, Refusal> {
+        // SAFETY: each pointer goes with its slice's length, and the borrows keep all others from what is written.
+        outcome(unsafe {
+            puldeho_raw_load(
+                grid.w, grid.r, grid.k, grid.n,
+                air.as_ptr(), air.len(),
+                tracers.as_ptr(), tracers.len(),
+            )
+        })
+    }
+
+    /// Adds amount to one cell of one tracer. Cells are numbered over all layers.
+    ///
+    /// Count: 0. Refusals, in order: 1 2 3 4 5 6.
+    pub fn emission(
+        grid: Grid,
+        air: &[u32],
+        tracers: &mut [u32],
         tracer: u32,
         cell: u32,
         amount: u32,
-    ) -> u64;
-    fn puldeho_withdrawal(
-        w: u32, r: u32, k: u32, n: u32,
-        air: *const u32, air_length: usize,
-        tracers: *mut u32, tracers_length: usize,
+    ) -> Result<u32, Refusal> {
+        // SAFETY: each pointer goes with its slice's length, and the borrows keep all others from what is written.
+        outcome(unsafe {
+            puldeho_raw_emission(
+                grid.w, grid.r, grid.k, grid.n,
+                air.as_ptr(), air.len(),
+                tracers.as_mut_ptr(), tracers.len(),
+                tracer,
+                cell,
+                amount,
+            )
+        })
+    }
+
+    /// Takes amount from one cell of one tracer. Cells are numbered over all layers.
+    ///
+    /// Count: 0. Refusals, in order: 1 2 3 4 5 7.
+    pub fn withdrawal(
+        grid: Grid,
+        air: &[u32],
+        tracers: &mut [u32],
         tracer: u32,
         cell: u32,
         amount: u32,
-    ) -> u64;
-    fn puldeho_zonal(
-        w: u32, r: u32, k: u32, n: u32,
-        air: *mut u32, air_length: usize,
-        tracers: *mut u32, tracers_length: usize,
+    ) -> Result<u32, Refusal> {
+        // SAFETY: each pointer goes with its slice's length, and the borrows keep all others from what is written.
+        outcome(unsafe {
+            puldeho_raw_withdrawal(
+                grid.w, grid.r, grid.k, grid.n,
+                air.as_ptr(), air.len(),
+                tracers.as_mut_ptr(), tracers.len(),
+                tracer,
+                cell,
+                amount,
+            )
+        })
+    }
+
+    /// Sweeps one row of one layer by W fluxes, positive eastward.
+    ///
+    /// Count: the number of substeps, 1 to 16. Refusals, in order: 1 2 3 4 5 8 9.
+    pub fn zonal(
+        grid: Grid,
+        air: &mut [u32],
+        tracers: &mut [u32],
         layer: u32,
         row: u32,
-        fluxes: *const i32, fluxes_length: usize,
-    ) -> u64;
-    fn puldeho_meridional(
-        w: u32, r: u32, k: u32, n: u32,
-        air: *mut u32, air_length: usize,
-        tracers: *mut u32, tracers_length: usize,
+        fluxes: &[i32],
+    ) -> Result<u32, Refusal> {
+        // SAFETY: each pointer goes with its slice's length, and the borrows keep all others from what is written.
+        outcome(unsafe {
+            puldeho_raw_zonal(
+                grid.w, grid.r, grid.k, grid.n,
+                air.as_mut_ptr(), air.len(),
+                tracers.as_mut_ptr(), tracers.len(),
+                layer,
+                row,
+                fluxes.as_ptr(), fluxes.len(),
+            )
+        })
+    }
+
+    /// Sweeps one layer by W*(R + 1) fluxes, positive northward.
+    ///
+    /// Count: the number of substeps, 1. Refusals, in order: 1 2 3 4 5 8 10.
+    pub fn meridional(
+        grid: Grid,
+        air: &mut [u32],
+        tracers: &mut [u32],
         layer: u32,
-        fluxes: *const i32, fluxes_length: usize,
-    ) -> u64;
-    fn puldeho_remap(
-        w: u32, r: u32, k: u32, n: u32,
-        air: *mut u32, air_length: usize,
-        tracers: *mut u32, tracers_length: usize,
-        table: *const u32, table_length: usize,
-    ) -> u64;
-    fn puldeho_total(
-        w: u32, r: u32, k: u32, n: u32,
-        air: *const u32, air_length: usize,
-        tracers: *const u32, tracers_length: usize,
+        fluxes: &[i32],
+    ) -> Result<u32, Refusal> {
+        // SAFETY: each pointer goes with its slice's length, and the borrows keep all others from what is written.
+        outcome(unsafe {
+            puldeho_raw_meridional(
+                grid.w, grid.r, grid.k, grid.n,
+                air.as_mut_ptr(), air.len(),
+                tracers.as_mut_ptr(), tracers.len(),
+                layer,
+                fluxes.as_ptr(), fluxes.len(),
+            )
+        })
+    }
+
+    /// Remaps all columns to the edges of a table of K + 1 pairs a, b, lent as 2*(K + 1) numbers.
+    ///
+    /// Count: the pairs of an old and a new layer that share air, over all columns. Refusals, in order: 1 2 3 4 11 12.
+    pub fn remap(
+        grid: Grid,
+        air: &mut [u32],
+        tracers: &mut [u32],
+        table: &[u32],
+    ) -> Result<u32, Refusal> {
+        // SAFETY: each pointer goes with its slice's length, and the borrows keep all others from what is written.
+        outcome(unsafe {
+            puldeho_raw_remap(
+                grid.w, grid.r, grid.k, grid.n,
+                air.as_mut_ptr(), air.len(),
+                tracers.as_mut_ptr(), tracers.len(),
+                table.as_ptr(), table.len(),
+            )
+        })
+    }
+
+    /// Reads the total of one tracer.
+    ///
+    /// Count: the total of the tracer. Refusals, in order: 1 2 3 4 5.
+    pub fn total(
+        grid: Grid,
+        air: &[u32],
+        tracers: &[u32],
         tracer: u32,
-    ) -> u64;
-    fn puldeho_cell(
-        w: u32, r: u32, k: u32, n: u32,
-        air: *const u32, air_length: usize,
-        tracers: *const u32, tracers_length: usize,
+    ) -> Result<u32, Refusal> {
+        // SAFETY: each pointer goes with its slice's length, and the borrows keep all others from what is written.
+        outcome(unsafe {
+            puldeho_raw_total(
+                grid.w, grid.r, grid.k, grid.n,
+                air.as_ptr(), air.len(),
+                tracers.as_ptr(), tracers.len(),
+                tracer,
+            )
+        })
+    }
+
+    /// Reads one cell of one tracer. Cells are numbered over all layers.
+    ///
+    /// Count: the amount in the cell. Refusals, in order: 1 2 3 4 5.
+    pub fn cell(
+        grid: Grid,
+        air: &[u32],
+        tracers: &[u32],
         tracer: u32,
         cell: u32,
-    ) -> u64;
-}
-
-/// Checks air and tracers and changes nothing.
-///
-/// Count: 0. Refusals, in order: 1 2 3 4.
-pub fn load(
-    grid: Grid,
-    air: &[u32],
-    tracers: &[u32],
-) -> Result<u32, Refusal> {
-    // SAFETY: each pointer goes with its slice's length, and the borrows keep all others from what is written.
-    outcome(unsafe {
-        puldeho_load(
-            grid.w, grid.r, grid.k, grid.n,
-            air.as_ptr(), air.len(),
-            tracers.as_ptr(), tracers.len(),
-        )
-    })
-}
-
-/// Adds amount to one cell of one tracer. Cells are numbered over all layers.
-///
-/// Count: 0. Refusals, in order: 1 2 3 4 5 6.
-pub fn emission(
-    grid: Grid,
-    air: &[u32],
-    tracers: &mut [u32],
-    tracer: u32,
-    cell: u32,
-    amount: u32,
-) -> Result<u32, Refusal> {
-    // SAFETY: each pointer goes with its slice's length, and the borrows keep all others from what is written.
-    outcome(unsafe {
-        puldeho_emission(
-            grid.w, grid.r, grid.k, grid.n,
-            air.as_ptr(), air.len(),
-            tracers.as_mut_ptr(), tracers.len(),
-            tracer,
-            cell,
-            amount,
-        )
-    })
-}
-
-/// Takes amount from one cell of one tracer. Cells are numbered over all layers.
-///
-/// Count: 0. Refusals, in order: 1 2 3 4 5 7.
-pub fn withdrawal(
-    grid: Grid,
-    air: &[u32],
-    tracers: &mut [u32],
-    tracer: u32,
-    cell: u32,
-    amount: u32,
-) -> Result<u32, Refusal> {
-    // SAFETY: each pointer goes with its slice's length, and the borrows keep all others from what is written.
-    outcome(unsafe {
-        puldeho_withdrawal(
-            grid.w, grid.r, grid.k, grid.n,
-            air.as_ptr(), air.len(),
-            tracers.as_mut_ptr(), tracers.len(),
-            tracer,
-            cell,
-            amount,
-        )
-    })
-}
-
-/// Sweeps one row of one layer by W fluxes, positive eastward.
-///
-/// Count: the number of substeps, 1 to 16. Refusals, in order: 1 2 3 4 5 8 9.
-pub fn zonal(
-    grid: Grid,
-    air: &mut [u32],
-    tracers: &mut [u32],
-    layer: u32,
-    row: u32,
-    fluxes: &[i32],
-) -> Result<u32, Refusal> {
-    // SAFETY: each pointer goes with its slice's length, and the borrows keep all others from what is written.
-    outcome(unsafe {
-        puldeho_zonal(
-            grid.w, grid.r, grid.k, grid.n,
-            air.as_mut_ptr(), air.len(),
-            tracers.as_mut_ptr(), tracers.len(),
-            layer,
-            row,
-            fluxes.as_ptr(), fluxes.len(),
-        )
-    })
-}
-
-/// Sweeps one layer by W*(R + 1) fluxes, positive northward.
-///
-/// Count: 1. Refusals, in order: 1 2 3 4 5 8 10.
-pub fn meridional(
-    grid: Grid,
-    air: &mut [u32],
-    tracers: &mut [u32],
-    layer: u32,
-    fluxes: &[i32],
-) -> Result<u32, Refusal> {
-    // SAFETY: each pointer goes with its slice's length, and the borrows keep all others from what is written.
-    outcome(unsafe {
-        puldeho_meridional(
-            grid.w, grid.r, grid.k, grid.n,
-            air.as_mut_ptr(), air.len(),
-            tracers.as_mut_ptr(), tracers.len(),
-            layer,
-            fluxes.as_ptr(), fluxes.len(),
-        )
-    })
-}
-
-/// Remaps all columns to the edges of a table of K + 1 pairs a, b, lent as 2*(K + 1) numbers.
-///
-/// Count: the pairs of an old and a new layer that share air, over all columns. Refusals, in order: 1 2 3 4 11 12.
-pub fn remap(
-    grid: Grid,
-    air: &mut [u32],
-    tracers: &mut [u32],
-    table: &[u32],
-) -> Result<u32, Refusal> {
-    // SAFETY: each pointer goes with its slice's length, and the borrows keep all others from what is written.
-    outcome(unsafe {
-        puldeho_remap(
-            grid.w, grid.r, grid.k, grid.n,
-            air.as_mut_ptr(), air.len(),
-            tracers.as_mut_ptr(), tracers.len(),
-            table.as_ptr(), table.len(),
-        )
-    })
-}
-
-/// Reads the total of one tracer.
-///
-/// Count: the total of the tracer. Refusals, in order: 1 2 3 4 5.
-pub fn total(
-    grid: Grid,
-    air: &[u32],
-    tracers: &[u32],
-    tracer: u32,
-) -> Result<u32, Refusal> {
-    // SAFETY: each pointer goes with its slice's length, and the borrows keep all others from what is written.
-    outcome(unsafe {
-        puldeho_total(
-            grid.w, grid.r, grid.k, grid.n,
-            air.as_ptr(), air.len(),
-            tracers.as_ptr(), tracers.len(),
-            tracer,
-        )
-    })
-}
-
-/// Reads one cell of one tracer. Cells are numbered over all layers.
-///
-/// Count: the amount in the cell. Refusals, in order: 1 2 3 4 5.
-pub fn cell(
-    grid: Grid,
-    air: &[u32],
-    tracers: &[u32],
-    tracer: u32,
-    cell: u32,
-) -> Result<u32, Refusal> {
-    // SAFETY: each pointer goes with its slice's length, and the borrows keep all others from what is written.
-    outcome(unsafe {
-        puldeho_cell(
-            grid.w, grid.r, grid.k, grid.n,
-            air.as_ptr(), air.len(),
-            tracers.as_ptr(), tracers.len(),
-            tracer,
-            cell,
-        )
-    })
+    ) -> Result<u32, Refusal> {
+        // SAFETY: each pointer goes with its slice's length, and the borrows keep all others from what is written.
+        outcome(unsafe {
+            puldeho_raw_cell(
+                grid.w, grid.r, grid.k, grid.n,
+                air.as_ptr(), air.len(),
+                tracers.as_ptr(), tracers.len(),
+                tracer,
+                cell,
+            )
+        })
+    }
 }

@@ -1,8 +1,8 @@
-//! The calls of the proved transport library, safe: any grid, numbers and lengths are answered.
+//! The proved transport library, safe: any grid, numbers and lengths are answered.
 //!
-//! The caller keeps the world and lends it to each call: `air` with K·C numbers and `tracers` with
-//! N·K·C, where C = 2 + R·W. Layer k starts at k·C, tracer t at t·K·C. A call gives its count, or
-//! the first refusal that applies, and then it changed nothing.
+//! A [`World`] is made by a load and owns its lists: `air` with K·C numbers and `tracers` with N·K·C,
+//! where C = 2 + R·W. Layer k starts at k·C, tracer t at t·K·C. A call gives its count, or the first
+//! refusal that applies, and then it changed nothing. docs/GUIDE.md explains grid, units and fluxes.
 //!
 //! What no type can say: the stack must have room for the call (bindings/puldeho.h has the bytes).
 
@@ -20,9 +20,43 @@ pub struct Grid {
     pub n: u32,
 }
 
+impl Grid {
+    /// C, the cells of a layer: its R·W cells and the two caps.
+    pub fn cells_in_layer(self) -> usize {
+        2 + self.r as usize * self.w as usize
+    }
+
+    /// The number of a cell over all layers, if the grid has it.
+    pub fn cell_number(self, layer: u32, row: u32, column: u32) -> Option<u32> {
+        let present = layer < self.k && row < self.r && column < self.w;
+        let number = layer as usize * self.cells_in_layer()
+            + 1
+            + (row as usize * self.w as usize)
+            + column as usize;
+        present.then_some(number as u32)
+    }
+
+    /// The number of a layer's south cap, if the grid has the layer.
+    pub fn south_cap(self, layer: u32) -> Option<u32> {
+        (layer < self.k).then(|| (layer as usize * self.cells_in_layer()) as u32)
+    }
+
+    /// The number of a layer's north cap, if the grid has the layer.
+    pub fn north_cap(self, layer: u32) -> Option<u32> {
+        let after = (layer as usize + 1) * self.cells_in_layer();
+        (layer < self.k).then(|| (after - 1) as u32)
+    }
+}
+
 impl std::fmt::Display for Refusal {
     fn fmt(&self, f: &mut std::fmt::Formatter) -> std::fmt::Result {
-        write!(f, "refusal {}: {}", *self as u32, self.condition())
+        write!(
+            f,
+            "refusal {}: {}; {}",
+            *self as u32,
+            self.condition(),
+            self.remedy()
+        )
     }
 }
 

@@ -1,6 +1,6 @@
 //! Case P, m1 and each refusal through the safe wrapper, linked with the proved library.
 
-use puldeho::{Grid, Refusal};
+use puldeho::{raw, Grid, Refusal, World};
 
 const GRID: Grid = Grid {
     w: 4,
@@ -14,15 +14,55 @@ const MOST: u32 = 268_435_455;
 
 #[test]
 fn case_p() {
-    let (mut air, mut tracers) = (AIR, TRACERS);
-    assert_eq!(puldeho::load(GRID, &air, &tracers), Ok(0));
-    let fluxes = [0, 50, 0, 0];
+    let mut world = World::load(GRID, AIR, TRACERS).unwrap();
+    assert_eq!(world.zonal(0, 0, &[0, 50, 0, 0]), Ok(1));
+    assert_eq!(world.total(0), Ok(400));
+    assert_eq!(world.cell(0, 3), Ok(262));
+    assert_eq!(world.air(), [100, 100, 50, 150, 100, 100]);
+    assert_eq!(world.tracers(), [0, 0, 38, 262, 100, 0]);
+    assert_eq!(world.grid(), GRID);
+}
+
+#[test]
+fn a_world_is_made_by_an_accepted_load_only() {
     assert_eq!(
-        puldeho::zonal(GRID, &mut air, &mut tracers, 0, 0, &fluxes),
-        Ok(1)
+        World::load(GRID, vec![0; 6], TRACERS),
+        Err(Refusal::AirRange)
     );
-    assert_eq!(puldeho::total(GRID, &air, &tracers, 0), Ok(400));
-    assert_eq!(puldeho::cell(GRID, &air, &tracers, 0, 3), Ok(262));
+}
+
+#[test]
+fn every_method_makes_its_call() {
+    let mut world = World::load(GRID, AIR, TRACERS).unwrap();
+    assert_eq!(world.emission(0, 5, 7), Ok(()));
+    assert_eq!(world.withdrawal(0, 3, 200), Ok(()));
+    assert_eq!(world.withdrawal(0, 3, 1), Err(Refusal::Withdrawal));
+    assert_eq!(world.tracers(), [0, 0, 100, 0, 100, 7]);
+    assert_eq!(world.meridional(0, &[1, 0, 0, 0, 0, 0, 0, -10]), Ok(1));
+    assert_eq!(world.air(), [99, 101, 100, 100, 110, 90]);
+    assert_eq!(world.remap(&[0, 0, 0, 65_536]), Ok(6));
+}
+
+#[test]
+fn lengths_and_cell_numbers() {
+    let grid = Grid {
+        w: 6,
+        r: 3,
+        k: 2,
+        n: 5,
+    };
+    assert_eq!(grid.cells_in_layer(), 20);
+    assert_eq!(grid.air_length(), 40);
+    assert_eq!(grid.tracers_length(), 200);
+    assert_eq!(grid.zonal_fluxes_length(), 6);
+    assert_eq!(grid.meridional_fluxes_length(), 24);
+    assert_eq!(grid.remap_table_length(), 6);
+    assert_eq!(grid.cell_number(1, 2, 5), Some(38));
+    assert_eq!((grid.south_cap(1), grid.north_cap(1)), (Some(20), Some(39)));
+    assert_eq!(grid.cell_number(2, 0, 0), None);
+    assert_eq!(grid.cell_number(0, 3, 0), None);
+    assert_eq!(grid.cell_number(0, 0, 6), None);
+    assert_eq!((grid.south_cap(2), grid.north_cap(2)), (None, None));
 }
 
 #[test]
@@ -30,7 +70,7 @@ fn m1() {
     let (mut air, mut tracers) = (AIR, TRACERS);
     let fluxes = [0, 50, 0, 0];
     assert_eq!(
-        puldeho::zonal(GRID, &mut air, &mut tracers, 0, 0, &fluxes),
+        raw::zonal(GRID, &mut air, &mut tracers, 0, 0, &fluxes),
         Ok(1)
     );
     assert_eq!(air[1..5], [100, 50, 150, 100]);
@@ -40,21 +80,18 @@ fn m1() {
 #[test]
 fn emission_withdrawal_meridional_and_remap() {
     let (mut air, mut tracers) = (AIR, TRACERS);
-    assert_eq!(puldeho::emission(GRID, &air, &mut tracers, 0, 5, 7), Ok(0));
+    assert_eq!(raw::emission(GRID, &air, &mut tracers, 0, 5, 7), Ok(0));
     assert_eq!(tracers, [0, 0, 100, 200, 100, 7]);
-    assert_eq!(
-        puldeho::withdrawal(GRID, &air, &mut tracers, 0, 3, 200),
-        Ok(0)
-    );
+    assert_eq!(raw::withdrawal(GRID, &air, &mut tracers, 0, 3, 200), Ok(0));
     assert_eq!(tracers, [0, 0, 100, 0, 100, 7]);
     let fluxes = [1, 0, 0, 0, 0, 0, 0, -10];
     assert_eq!(
-        puldeho::meridional(GRID, &mut air, &mut tracers, 0, &fluxes),
+        raw::meridional(GRID, &mut air, &mut tracers, 0, &fluxes),
         Ok(1)
     );
     assert_eq!(air, [99, 101, 100, 100, 110, 90]);
     assert_eq!(
-        puldeho::remap(GRID, &mut air, &mut tracers, &[0, 0, 0, 65_536]),
+        raw::remap(GRID, &mut air, &mut tracers, &[0, 0, 0, 65_536]),
         Ok(6)
     );
 }
@@ -78,43 +115,38 @@ fn refusals_1_to_4() {
     refused(
         &AIR,
         &TRACERS,
-        |a, t| puldeho::load(narrow, a, t),
+        |a, t| raw::load(narrow, a, t),
         Refusal::GridRange,
     );
     refused(
         &AIR,
         &TRACERS[1..],
-        |a, t| puldeho::load(GRID, a, t),
+        |a, t| raw::load(GRID, a, t),
         Refusal::Lengths,
     );
-    refused(&[], &[], |a, t| puldeho::load(GRID, a, t), Refusal::Lengths);
+    refused(&[], &[], |a, t| raw::load(GRID, a, t), Refusal::Lengths);
     let thin = [100, 100, 0, 100, 100, 100];
     refused(
         &thin,
         &TRACERS,
-        |a, t| puldeho::load(GRID, a, t),
+        |a, t| raw::load(GRID, a, t),
         Refusal::AirRange,
     );
     let full = [MOST, 1, 0, 0, 0, 0];
-    refused(
-        &AIR,
-        &full,
-        |a, t| puldeho::load(GRID, a, t),
-        Refusal::Totals,
-    );
+    refused(&AIR, &full, |a, t| raw::load(GRID, a, t), Refusal::Totals);
 }
 
 #[test]
 fn refusals_5_to_7() {
     let emission = |cell, amount| {
-        move |a: &mut [u32], t: &mut [u32]| puldeho::emission(GRID, a, t, 0, cell, amount)
+        move |a: &mut [u32], t: &mut [u32]| raw::emission(GRID, a, t, 0, cell, amount)
     };
     refused(&AIR, &TRACERS, emission(6, 0), Refusal::Index);
     refused(&AIR, &TRACERS, emission(5, MOST), Refusal::Emission);
     refused(
         &AIR,
         &TRACERS,
-        |a, t| puldeho::withdrawal(GRID, a, t, 0, 3, 201),
+        |a, t| raw::withdrawal(GRID, a, t, 0, 3, 201),
         Refusal::Withdrawal,
     );
 }
@@ -122,7 +154,7 @@ fn refusals_5_to_7() {
 #[test]
 fn refusals_8_to_10() {
     let zonal = |flux: i32| {
-        move |a: &mut [u32], t: &mut [u32]| puldeho::zonal(GRID, a, t, 0, 0, &[0, flux, 0, 0])
+        move |a: &mut [u32], t: &mut [u32]| raw::zonal(GRID, a, t, 0, 0, &[0, flux, 0, 0])
     };
     refused(&AIR, &TRACERS, zonal(1_048_561), Refusal::Fluxes);
     refused(&AIR, &TRACERS, zonal(i32::MIN), Refusal::Fluxes);
@@ -130,7 +162,7 @@ fn refusals_8_to_10() {
     refused(
         &AIR,
         &TRACERS,
-        |a, t| puldeho::meridional(GRID, a, t, 0, &[100, 0, 0, 0, 0, 0, 0, 0]),
+        |a, t| raw::meridional(GRID, a, t, 0, &[100, 0, 0, 0, 0, 0, 0, 0]),
         Refusal::Meridional,
     );
 }
@@ -139,7 +171,7 @@ fn refusals_8_to_10() {
 fn refusals_11_and_12() {
     let two = Grid { k: 2, ..GRID };
     let remap = |a, b| {
-        move |air: &mut [u32], t: &mut [u32]| puldeho::remap(two, air, t, &[0, 0, a, b, 0, 65_536])
+        move |air: &mut [u32], t: &mut [u32]| raw::remap(two, air, t, &[0, 0, a, b, 0, 65_536])
     };
     refused(&[1; 12], &[0; 12], remap(0, 65_537), Refusal::Table);
     refused(&[1; 12], &[0; 12], remap(0, 16_384), Refusal::Remap);
@@ -148,10 +180,10 @@ fn refusals_11_and_12() {
 #[test]
 fn a_refusal_says_its_number_and_condition() {
     let narrow = Grid { w: 3, ..GRID };
-    let refusal = puldeho::load(narrow, &AIR, &TRACERS).unwrap_err();
+    let refusal = raw::load(narrow, &AIR, &TRACERS).unwrap_err();
     assert_eq!(
         refusal.to_string(),
-        "refusal 1: W, R, K or N is outside its range"
+        "refusal 1: W, R, K or N is outside its range; give W from 4 to 72, R from 1 to 44, K from 1 to 32 and N from 1 to 8"
     );
     assert_eq!(
         Refusal::ALL.map(|r| r as u32),
@@ -172,23 +204,20 @@ fn every_call_runs_on_256_kib_of_stack() {
     let calls = move || {
         let (mut air, mut tracers) = (vec![100; cells], vec![1; 8 * cells]);
         let table: Vec<u32> = (0..=32).flat_map(|j| [0, 2048 * j]).collect();
-        assert_eq!(puldeho::load(grid, &air, &tracers), Ok(0));
-        assert_eq!(puldeho::emission(grid, &air, &mut tracers, 7, 9, 1), Ok(0));
+        assert_eq!(raw::load(grid, &air, &tracers), Ok(0));
+        assert_eq!(raw::emission(grid, &air, &mut tracers, 7, 9, 1), Ok(0));
+        assert_eq!(raw::withdrawal(grid, &air, &mut tracers, 7, 9, 1), Ok(0));
         assert_eq!(
-            puldeho::withdrawal(grid, &air, &mut tracers, 7, 9, 1),
-            Ok(0)
-        );
-        assert_eq!(
-            puldeho::zonal(grid, &mut air, &mut tracers, 31, 43, &[1600; 72]),
+            raw::zonal(grid, &mut air, &mut tracers, 31, 43, &[1600; 72]),
             Ok(16)
         );
         assert_eq!(
-            puldeho::meridional(grid, &mut air, &mut tracers, 31, &[1; 72 * 45]),
+            raw::meridional(grid, &mut air, &mut tracers, 31, &[1; 72 * 45]),
             Ok(1)
         );
-        assert_eq!(puldeho::total(grid, &air, &tracers, 7), Ok(cells as u32));
-        assert_eq!(puldeho::cell(grid, &air, &tracers, 7, 9), Ok(1));
-        puldeho::remap(grid, &mut air, &mut tracers, &table).unwrap();
+        assert_eq!(raw::total(grid, &air, &tracers, 7), Ok(cells as u32));
+        assert_eq!(raw::cell(grid, &air, &tracers, 7, 9), Ok(1));
+        raw::remap(grid, &mut air, &mut tracers, &table).unwrap();
     };
     let thread = std::thread::Builder::new().stack_size(256 * 1024);
     thread.spawn(calls).unwrap().join().unwrap();

@@ -16,14 +16,21 @@ fn packed(a: Answer) -> u64
 }
 
 #[no_mangle]
-pub extern "C" fn puldeho_load(w: u32, r: u32, k: u32, n: u32, air: &[u32], tracers: &[u32]) -> u64
+pub extern "C" fn puldeho_raw_load(
+    w: u32,
+    r: u32,
+    k: u32,
+    n: u32,
+    air: &[u32],
+    tracers: &[u32],
+) -> u64
     ensures { λ x. ⌜ Returns (lentWorld w r k n (now (air .entry)) (now (tracers .entry))) load x (lentWorld w r k n (now (air .entry)) (now (tracers .entry))) ⌝ }
 {
     packed(amounts::load(Grid { w, r, k, n }, air, tracers))
 }
 
 #[no_mangle]
-pub extern "C" fn puldeho_emission(
+pub extern "C" fn puldeho_raw_emission(
     w: u32,
     r: u32,
     k: u32,
@@ -40,7 +47,7 @@ pub extern "C" fn puldeho_emission(
 }
 
 #[no_mangle]
-pub extern "C" fn puldeho_withdrawal(
+pub extern "C" fn puldeho_raw_withdrawal(
     w: u32,
     r: u32,
     k: u32,
@@ -57,7 +64,7 @@ pub extern "C" fn puldeho_withdrawal(
 }
 
 #[no_mangle]
-pub extern "C" fn puldeho_total(
+pub extern "C" fn puldeho_raw_total(
     w: u32,
     r: u32,
     k: u32,
@@ -72,7 +79,7 @@ pub extern "C" fn puldeho_total(
 }
 
 #[no_mangle]
-pub extern "C" fn puldeho_cell(
+pub extern "C" fn puldeho_raw_cell(
     w: u32,
     r: u32,
     k: u32,
@@ -88,7 +95,7 @@ pub extern "C" fn puldeho_cell(
 }
 
 #[no_mangle]
-pub extern "C" fn puldeho_zonal(
+pub extern "C" fn puldeho_raw_zonal(
     w: u32,
     r: u32,
     k: u32,
@@ -105,7 +112,7 @@ pub extern "C" fn puldeho_zonal(
 }
 
 #[no_mangle]
-pub extern "C" fn puldeho_meridional(
+pub extern "C" fn puldeho_raw_meridional(
     w: u32,
     r: u32,
     k: u32,
@@ -121,7 +128,7 @@ pub extern "C" fn puldeho_meridional(
 }
 
 #[no_mangle]
-pub extern "C" fn puldeho_remap(
+pub extern "C" fn puldeho_raw_remap(
     w: u32,
     r: u32,
     k: u32,

@@ -1,0 +1,1 @@
+#include "puldeho.h"

@@ -1,0 +1,534 @@
+! Puldeho, the transport core of the tracer console, for Fortran 2003 and later: version 0.1.0.
+! Made by tools/bindings from the tables of bindings/: not to be edited.
+!
+! To compile and link: gfortran puldeho.f90 program.f90 -lpuldeho
+!
+!     use puldeho
+!     type(puldeho_world) :: world
+!     integer :: refusal, substeps
+!     call world%load(puldeho_grid(4, 1, 1, 1), [100, 100, 100, 100, 100, 100], [0, 0, 100, 200, 100, 0], refusal)
+!     if (refusal /= puldeho_accepted) error stop puldeho_refusal_text(refusal)
+!     call world%zonal(0, 0, [0, 50, 0, 0], refusal, substeps)
+!     if (refusal /= puldeho_accepted) error stop puldeho_refusal_text(refusal)
+!
+! Layers, rows, columns, tracers and cells are counted from 0, and world%air(0) is the first cell's air.
+! Each call sets refusal: 0 (puldeho_accepted) or the number of the first refusal that applies. A refused call
+! changes nothing. Numbers are 32-bit without a sign in the library, so a negative one is far above every limit
+! and is refused. docs/GUIDE.md explains grid, units, fluxes and refusals.
+module puldeho
+  use, intrinsic :: iso_c_binding, only: c_int32_t, c_int64_t, c_size_t
+  implicit none
+  private
+
+  character(len=*), parameter, public :: puldeho_version = "0.1.0"
+
+  integer(c_int32_t), parameter, public :: puldeho_accepted = 0
+  ! W, R, K or N is outside its range
+  integer(c_int32_t), parameter, public :: puldeho_refusal_grid_range = 1
+  ! a lent length is not the grid's
+  integer(c_int32_t), parameter, public :: puldeho_refusal_lengths = 2
+  ! a cell's air is 0 or above 65,535
+  integer(c_int32_t), parameter, public :: puldeho_refusal_air_range = 3
+  ! a tracer's total is above 268,435,455
+  integer(c_int32_t), parameter, public :: puldeho_refusal_totals = 4
+  ! the tracer, cell, layer or row is absent
+  integer(c_int32_t), parameter, public :: puldeho_refusal_index = 5
+  ! the total would pass 268,435,455
+  integer(c_int32_t), parameter, public :: puldeho_refusal_emission = 6
+  ! the cell has less than the amount
+  integer(c_int32_t), parameter, public :: puldeho_refusal_withdrawal = 7
+  ! a flux's size is above 1,048,560 (zonal) or 65,535 (meridional)
+  integer(c_int32_t), parameter, public :: puldeho_refusal_fluxes = 8
+  ! no count from 1 to 16 serves
+  integer(c_int32_t), parameter, public :: puldeho_refusal_zonal = 9
+  ! the substep is not allowed
+  integer(c_int32_t), parameter, public :: puldeho_refusal_meridional = 10
+  ! the first pair is not (0, 0), the last is not (0, 65,536), an a is above 2,097,120, or a b is above 65,536
+  integer(c_int32_t), parameter, public :: puldeho_refusal_table = 11
+  ! in some column the edges do not rise strictly, or a new layer exceeds 65,535
+  integer(c_int32_t), parameter, public :: puldeho_refusal_remap = 12
+
+  ! What cell numbers are for a place that the grid has not; every call refuses it, with 5.
+  integer(c_int32_t), parameter, public :: puldeho_no_cell = -1
+
+  public :: puldeho_cells_in_layer, puldeho_cell_number, puldeho_south_cap, puldeho_north_cap
+  public :: puldeho_refusal_text, puldeho_refusal_remedy
+  public :: puldeho_air_length
+  public :: puldeho_tracers_length
+  public :: puldeho_zonal_fluxes_length
+  public :: puldeho_meridional_fluxes_length
+  public :: puldeho_remap_table_length
+
+  ! The grid: W columns round the globe (4 to 72), R rows from south to north (1 to 44), K layers from the top
+  ! down (1 to 32), N tracers (1 to 8).
+  type, public :: puldeho_grid
+    integer(c_int32_t) :: w = 0, r = 0, k = 0, n = 0
+  end type puldeho_grid
+
+  ! The world. It owns its lists; an accepted load makes it, and before that every call is refused, with 1.
+  type, public :: puldeho_world
+    type(puldeho_grid) :: grid
+    ! the air of every cell; layer k starts at k*C: K*C numbers, the first has the index 0
+    integer(c_int32_t), allocatable :: air(:)
+    ! the amounts of every tracer; tracer t starts at t*K*C: N*K*C numbers, the first has the index 0
+    integer(c_int32_t), allocatable :: tracers(:)
+  contains
+    procedure :: load => world_load
+    procedure :: emission => world_emission
+    procedure :: withdrawal => world_withdrawal
+    procedure :: zonal => world_zonal
+    procedure :: meridional => world_meridional
+    procedure :: remap => world_remap
+    procedure :: total => world_total
+    procedure :: cell => world_cell
+  end type puldeho_world
+
+  ! The proved functions. Each returns refusal * 2**32 + count.
+  interface
+    function puldeho_raw_load( &
+        w, r, k, n, air, air_length, tracers, tracers_length) &
+        bind(c) result(returned)
+      import :: c_int32_t, c_int64_t, c_size_t
+      integer(c_int32_t), value :: w, r, k, n
+      integer(c_int32_t), intent(in) :: air(*)
+      integer(c_size_t), value :: air_length
+      integer(c_int32_t), intent(in) :: tracers(*)
+      integer(c_size_t), value :: tracers_length
+      integer(c_int64_t) :: returned
+    end function puldeho_raw_load
+
+    function puldeho_raw_emission( &
+        w, r, k, n, air, air_length, tracers, tracers_length, tracer, cell, amount) &
+        bind(c) result(returned)
+      import :: c_int32_t, c_int64_t, c_size_t
+      integer(c_int32_t), value :: w, r, k, n
+      integer(c_int32_t), intent(in) :: air(*)
+      integer(c_size_t), value :: air_length
+      integer(c_int32_t), intent(inout) :: tracers(*)
+      integer(c_size_t), value :: tracers_length
+      integer(c_int32_t), value :: tracer
+      integer(c_int32_t), value :: cell
+      integer(c_int32_t), value :: amount
+      integer(c_int64_t) :: returned
+    end function puldeho_raw_emission
+
+    function puldeho_raw_withdrawal( &
+        w, r, k, n, air, air_length, tracers, tracers_length, tracer, cell, amount) &
+        bind(c) result(returned)
+      import :: c_int32_t, c_int64_t, c_size_t
+      integer(c_int32_t), value :: w, r, k, n
+      integer(c_int32_t), intent(in) :: air(*)
+      integer(c_size_t), value :: air_length
+      integer(c_int32_t), intent(inout) :: tracers(*)
+      integer(c_size_t), value :: tracers_length
+      integer(c_int32_t), value :: tracer
+      integer(c_int32_t), value :: cell
+      integer(c_int32_t), value :: amount
+      integer(c_int64_t) :: returned
+    end function puldeho_raw_withdrawal
+
+    function puldeho_raw_zonal( &
+        w, r, k, n, air, air_length, tracers, tracers_length, layer, row, fluxes, fluxes_length) &
+        bind(c) result(returned)
+      import :: c_int32_t, c_int64_t, c_size_t
+      integer(c_int32_t), value :: w, r, k, n
+      integer(c_int32_t), intent(inout) :: air(*)
+      integer(c_size_t), value :: air_length
+      integer(c_int32_t), intent(inout) :: tracers(*)
+      integer(c_size_t), value :: tracers_length
+      integer(c_int32_t), value :: layer
+      integer(c_int32_t), value :: row
+      integer(c_int32_t), intent(in) :: fluxes(*)
+      integer(c_size_t), value :: fluxes_length
+      integer(c_int64_t) :: returned
+    end function puldeho_raw_zonal
+
+    function puldeho_raw_meridional( &
+        w, r, k, n, air, air_length, tracers, tracers_length, layer, fluxes, fluxes_length) &
+        bind(c) result(returned)
+      import :: c_int32_t, c_int64_t, c_size_t
+      integer(c_int32_t), value :: w, r, k, n
+      integer(c_int32_t), intent(inout) :: air(*)
+      integer(c_size_t), value :: air_length
+      integer(c_int32_t), intent(inout) :: tracers(*)
+      integer(c_size_t), value :: tracers_length
+      integer(c_int32_t), value :: layer
+      integer(c_int32_t), intent(in) :: fluxes(*)
+      integer(c_size_t), value :: fluxes_length
+      integer(c_int64_t) :: returned
+    end function puldeho_raw_meridional
+
+    function puldeho_raw_remap( &
+        w, r, k, n, air, air_length, tracers, tracers_length, table, table_length) &
+        bind(c) result(returned)
+      import :: c_int32_t, c_int64_t, c_size_t
+      integer(c_int32_t), value :: w, r, k, n
+      integer(c_int32_t), intent(inout) :: air(*)
+      integer(c_size_t), value :: air_length
+      integer(c_int32_t), intent(inout) :: tracers(*)
+      integer(c_size_t), value :: tracers_length
+      integer(c_int32_t), intent(in) :: table(*)
+      integer(c_size_t), value :: table_length
+      integer(c_int64_t) :: returned
+    end function puldeho_raw_remap
+
+    function puldeho_raw_total( &
+        w, r, k, n, air, air_length, tracers, tracers_length, tracer) &
+        bind(c) result(returned)
+      import :: c_int32_t, c_int64_t, c_size_t
+      integer(c_int32_t), value :: w, r, k, n
+      integer(c_int32_t), intent(in) :: air(*)
+      integer(c_size_t), value :: air_length
+      integer(c_int32_t), intent(in) :: tracers(*)
+      integer(c_size_t), value :: tracers_length
+      integer(c_int32_t), value :: tracer
+      integer(c_int64_t) :: returned
+    end function puldeho_raw_total
+
+    function puldeho_raw_cell( &
+        w, r, k, n, air, air_length, tracers, tracers_length, tracer, cell) &
+        bind(c) result(returned)
+      import :: c_int32_t, c_int64_t, c_size_t
+      integer(c_int32_t), value :: w, r, k, n
+      integer(c_int32_t), intent(in) :: air(*)
+      integer(c_size_t), value :: air_length
+      integer(c_int32_t), intent(in) :: tracers(*)
+      integer(c_size_t), value :: tracers_length
+      integer(c_int32_t), value :: tracer
+      integer(c_int32_t), value :: cell
+      integer(c_int64_t) :: returned
+    end function puldeho_raw_cell
+  end interface
+
+contains
+
+  ! Takes copies of the lists as the world from now on, if the load is accepted; else the world stays as it was.
+  ! Refusals, in order: 1 2 3 4.
+  subroutine world_load(world, grid, air, tracers, refusal)
+    class(puldeho_world), intent(inout) :: world
+    type(puldeho_grid), intent(in) :: grid
+    integer(c_int32_t), intent(in) :: air(:)
+    integer(c_int32_t), intent(in) :: tracers(:)
+    integer(c_int32_t), intent(out) :: refusal
+
+    refusal = refusal_of(puldeho_raw_load( &
+        grid%w, grid%r, grid%k, grid%n, air, size(air, kind=c_size_t), tracers, size(tracers, kind=c_size_t)))
+    if (refusal /= puldeho_accepted) return
+    world%grid = grid
+    if (allocated(world%air)) deallocate (world%air)
+    allocate (world%air(0:size(air) - 1))
+    world%air(:) = air
+    if (allocated(world%tracers)) deallocate (world%tracers)
+    allocate (world%tracers(0:size(tracers) - 1))
+    world%tracers(:) = tracers
+  end subroutine world_load
+
+  ! Adds amount to one cell of one tracer. Cells are numbered over all layers. Refusals, in order: 1 2 3 4 5
+  ! 6.
+  subroutine world_emission(world, tracer, cell, amount, refusal)
+    class(puldeho_world), intent(inout) :: world
+    integer(c_int32_t), intent(out) :: refusal
+    integer(c_int32_t), intent(in) :: tracer
+    integer(c_int32_t), intent(in) :: cell
+    integer(c_int32_t), intent(in) :: amount
+    integer(c_int64_t) :: returned
+
+    call with_lists(world)
+    returned = puldeho_raw_emission( &
+        world%grid%w, world%grid%r, world%grid%k, world%grid%n, world%air, size(world%air, kind=c_size_t), &
+        world%tracers, size(world%tracers, kind=c_size_t), tracer, cell, amount)
+    refusal = refusal_of(returned)
+  end subroutine world_emission
+
+  ! Takes amount from one cell of one tracer. Cells are numbered over all layers. Refusals, in order: 1 2 3 4
+  ! 5 7.
+  subroutine world_withdrawal(world, tracer, cell, amount, refusal)
+    class(puldeho_world), intent(inout) :: world
+    integer(c_int32_t), intent(out) :: refusal
+    integer(c_int32_t), intent(in) :: tracer
+    integer(c_int32_t), intent(in) :: cell
+    integer(c_int32_t), intent(in) :: amount
+    integer(c_int64_t) :: returned
+
+    call with_lists(world)
+    returned = puldeho_raw_withdrawal( &
+        world%grid%w, world%grid%r, world%grid%k, world%grid%n, world%air, size(world%air, kind=c_size_t), &
+        world%tracers, size(world%tracers, kind=c_size_t), tracer, cell, amount)
+    refusal = refusal_of(returned)
+  end subroutine world_withdrawal
+
+  ! Sweeps one row of one layer by W fluxes, positive eastward. Refusals, in order: 1 2 3 4 5 8 9.
+  ! substeps: the number of substeps, 1 to 16.
+  subroutine world_zonal(world, layer, row, fluxes, refusal, substeps)
+    class(puldeho_world), intent(inout) :: world
+    integer(c_int32_t), intent(out) :: refusal
+    integer(c_int32_t), intent(in) :: layer
+    integer(c_int32_t), intent(in) :: row
+    integer(c_int32_t), intent(in) :: fluxes(:)
+    integer(c_int32_t), intent(out), optional :: substeps
+    integer(c_int64_t) :: returned
+
+    call with_lists(world)
+    returned = puldeho_raw_zonal( &
+        world%grid%w, world%grid%r, world%grid%k, world%grid%n, world%air, size(world%air, kind=c_size_t), &
+        world%tracers, size(world%tracers, kind=c_size_t), layer, row, fluxes, size(fluxes, kind=c_size_t))
+    refusal = refusal_of(returned)
+    if (present(substeps)) substeps = count_of(returned)
+  end subroutine world_zonal
+
+  ! Sweeps one layer by W*(R + 1) fluxes, positive northward. Refusals, in order: 1 2 3 4 5 8 10.
+  ! substeps: the number of substeps, 1.
+  subroutine world_meridional(world, layer, fluxes, refusal, substeps)
+    class(puldeho_world), intent(inout) :: world
+    integer(c_int32_t), intent(out) :: refusal
+    integer(c_int32_t), intent(in) :: layer
+    integer(c_int32_t), intent(in) :: fluxes(:)
+    integer(c_int32_t), intent(out), optional :: substeps
+    integer(c_int64_t) :: returned
+
+    call with_lists(world)
+    returned = puldeho_raw_meridional( &
+        world%grid%w, world%grid%r, world%grid%k, world%grid%n, world%air, size(world%air, kind=c_size_t), &
+        world%tracers, size(world%tracers, kind=c_size_t), layer, fluxes, size(fluxes, kind=c_size_t))
+    refusal = refusal_of(returned)
+    if (present(substeps)) substeps = count_of(returned)
+  end subroutine world_meridional
+
+  ! Remaps all columns to the edges of a table of K + 1 pairs a, b, lent as 2*(K + 1) numbers. Refusals, in
+  ! order: 1 2 3 4 11 12.
+  ! pairs: the pairs of an old and a new layer that share air, over all columns.
+  subroutine world_remap(world, table, refusal, pairs)
+    class(puldeho_world), intent(inout) :: world
+    integer(c_int32_t), intent(out) :: refusal
+    integer(c_int32_t), intent(in) :: table(:)
+    integer(c_int32_t), intent(out), optional :: pairs
+    integer(c_int64_t) :: returned
+
+    call with_lists(world)
+    returned = puldeho_raw_remap( &
+        world%grid%w, world%grid%r, world%grid%k, world%grid%n, world%air, size(world%air, kind=c_size_t), &
+        world%tracers, size(world%tracers, kind=c_size_t), table, size(table, kind=c_size_t))
+    refusal = refusal_of(returned)
+    if (present(pairs)) pairs = count_of(returned)
+  end subroutine world_remap
+
+  ! Reads the total of one tracer. Refusals, in order: 1 2 3 4 5.
+  ! units: the total of the tracer.
+  subroutine world_total(world, tracer, refusal, units)
+    class(puldeho_world), intent(inout) :: world
+    integer(c_int32_t), intent(out) :: refusal
+    integer(c_int32_t), intent(in) :: tracer
+    integer(c_int32_t), intent(out), optional :: units
+    integer(c_int64_t) :: returned
+
+    call with_lists(world)
+    returned = puldeho_raw_total( &
+        world%grid%w, world%grid%r, world%grid%k, world%grid%n, world%air, size(world%air, kind=c_size_t), &
+        world%tracers, size(world%tracers, kind=c_size_t), tracer)
+    refusal = refusal_of(returned)
+    if (present(units)) units = count_of(returned)
+  end subroutine world_total
+
+  ! Reads one cell of one tracer. Cells are numbered over all layers. Refusals, in order: 1 2 3 4 5.
+  ! units: the amount in the cell.
+  subroutine world_cell(world, tracer, cell, refusal, units)
+    class(puldeho_world), intent(inout) :: world
+    integer(c_int32_t), intent(out) :: refusal
+    integer(c_int32_t), intent(in) :: tracer
+    integer(c_int32_t), intent(in) :: cell
+    integer(c_int32_t), intent(out), optional :: units
+    integer(c_int64_t) :: returned
+
+    call with_lists(world)
+    returned = puldeho_raw_cell( &
+        world%grid%w, world%grid%r, world%grid%k, world%grid%n, world%air, size(world%air, kind=c_size_t), &
+        world%tracers, size(world%tracers, kind=c_size_t), tracer, cell)
+    refusal = refusal_of(returned)
+    if (present(units)) units = count_of(returned)
+  end subroutine world_cell
+
+  ! A world that was never loaded gets empty lists, so that a call can be refused.
+  subroutine with_lists(world)
+    class(puldeho_world), intent(inout) :: world
+
+    if (.not. allocated(world%air)) allocate (world%air(0))
+    if (.not. allocated(world%tracers)) allocate (world%tracers(0))
+  end subroutine with_lists
+
+  pure function refusal_of(returned) result(refusal)
+    integer(c_int64_t), intent(in) :: returned
+    integer(c_int32_t) :: refusal
+
+    refusal = int(ishft(returned, -32), c_int32_t)
+  end function refusal_of
+
+  pure function count_of(returned) result(count)
+    integer(c_int64_t), intent(in) :: returned
+    integer(c_int32_t) :: count
+
+    count = int(ibits(returned, 0, 32), c_int32_t)
+  end function count_of
+
+  ! C, the cells of a layer: its R*W cells and the two caps.
+  pure function puldeho_cells_in_layer(grid) result(cells)
+    type(puldeho_grid), intent(in) :: grid
+    integer(c_int32_t) :: cells
+
+    cells = 2 + grid%r*grid%w
+  end function puldeho_cells_in_layer
+
+  ! The number of a cell over all layers: layer*C + 1 + row*W + column.
+  pure function puldeho_cell_number(grid, layer, row, column) result(cell)
+    type(puldeho_grid), intent(in) :: grid
+    integer(c_int32_t), intent(in) :: layer, row, column
+    integer(c_int32_t) :: cell
+
+    cell = puldeho_no_cell
+    if (layer < 0 .or. layer >= grid%k .or. row < 0 .or. row >= grid%r .or. column < 0 .or. column >= grid%w) return
+    cell = layer*puldeho_cells_in_layer(grid) + 1 + row*grid%w + column
+  end function puldeho_cell_number
+
+  ! The number of a layer's south cap: layer*C.
+  pure function puldeho_south_cap(grid, layer) result(cell)
+    type(puldeho_grid), intent(in) :: grid
+    integer(c_int32_t), intent(in) :: layer
+    integer(c_int32_t) :: cell
+
+    cell = puldeho_no_cell
+    if (layer >= 0 .and. layer < grid%k) cell = layer*puldeho_cells_in_layer(grid)
+  end function puldeho_south_cap
+
+  ! The number of a layer's north cap: layer*C + C - 1.
+  pure function puldeho_north_cap(grid, layer) result(cell)
+    type(puldeho_grid), intent(in) :: grid
+    integer(c_int32_t), intent(in) :: layer
+    integer(c_int32_t) :: cell
+
+    cell = puldeho_no_cell
+    if (layer >= 0 .and. layer < grid%k) cell = (layer + 1)*puldeho_cells_in_layer(grid) - 1
+  end function puldeho_north_cap
+
+  ! The length of air: K*C. In it: the air of every cell; layer k starts at k*C.
+  pure function puldeho_air_length(grid) result(length)
+    type(puldeho_grid), intent(in) :: grid
+    integer(c_int32_t) :: length
+
+    length = grid%k*puldeho_cells_in_layer(grid)
+  end function puldeho_air_length
+
+  ! The length of tracers: N*K*C. In it: the amounts of every tracer; tracer t starts at t*K*C.
+  pure function puldeho_tracers_length(grid) result(length)
+    type(puldeho_grid), intent(in) :: grid
+    integer(c_int32_t) :: length
+
+    length = grid%n*grid%k*puldeho_cells_in_layer(grid)
+  end function puldeho_tracers_length
+
+  ! The length of fluxes of a zonal call: W. In it: flux i crosses the face from column i to column i + 1, the
+  ! last to column 0; positive eastward.
+  pure function puldeho_zonal_fluxes_length(grid) result(length)
+    type(puldeho_grid), intent(in) :: grid
+    integer(c_int32_t) :: length
+
+    length = grid%w
+  end function puldeho_zonal_fluxes_length
+
+  ! The length of fluxes of a meridional call: W*(R + 1). In it: flux g*W + i crosses between rows g - 1 and g
+  ! in column i; row -1 is the south cap, row R the north cap; positive northward.
+  pure function puldeho_meridional_fluxes_length(grid) result(length)
+    type(puldeho_grid), intent(in) :: grid
+    integer(c_int32_t) :: length
+
+    length = grid%w*(grid%r + 1)
+  end function puldeho_meridional_fluxes_length
+
+  ! The length of table of a remap call: 2*(K + 1). In it: pair j is a at 2*j and b at 2*j + 1; edge j = a +
+  ! floor(b*P/65536), P the air of the column.
+  pure function puldeho_remap_table_length(grid) result(length)
+    type(puldeho_grid), intent(in) :: grid
+    integer(c_int32_t) :: length
+
+    length = 2*(grid%k + 1)
+  end function puldeho_remap_table_length
+
+  ! Why a call was refused: the condition of a refusal, in words.
+  pure function puldeho_refusal_text(refusal) result(text)
+    integer(c_int32_t), intent(in) :: refusal
+    character(len=:), allocatable :: text
+
+    select case (refusal)
+    case (puldeho_accepted)
+      text = "accepted"
+    case (puldeho_refusal_grid_range)
+      text = "W, R, K or N is outside its range"
+    case (puldeho_refusal_lengths)
+      text = "a lent length is not the grid's"
+    case (puldeho_refusal_air_range)
+      text = "a cell's air is 0 or above 65,535"
+    case (puldeho_refusal_totals)
+      text = "a tracer's total is above 268,435,455"
+    case (puldeho_refusal_index)
+      text = "the tracer, cell, layer or row is absent"
+    case (puldeho_refusal_emission)
+      text = "the total would pass 268,435,455"
+    case (puldeho_refusal_withdrawal)
+      text = "the cell has less than the amount"
+    case (puldeho_refusal_fluxes)
+      text = "a flux's size is above 1,048,560 (zonal) or 65,535 (meridional)"
+    case (puldeho_refusal_zonal)
+      text = "no count from 1 to 16 serves"
+    case (puldeho_refusal_meridional)
+      text = "the substep is not allowed"
+    case (puldeho_refusal_table)
+      text = "the first pair is not (0, 0), the last is not (0, 65,536), an a is above 2,097,120, or a b" // &
+          " is above 65,536"
+    case (puldeho_refusal_remap)
+      text = "in some column the edges do not rise strictly, or a new layer exceeds 65,535"
+    case default
+      text = "no refusal of this version"
+    end select
+  end function puldeho_refusal_text
+
+  ! What to do about a refusal, in words.
+  pure function puldeho_refusal_remedy(refusal) result(text)
+    integer(c_int32_t), intent(in) :: refusal
+    character(len=:), allocatable :: text
+
+    select case (refusal)
+    case (puldeho_accepted)
+      text = "nothing: the call was made"
+    case (puldeho_refusal_grid_range)
+      text = "give W from 4 to 72, R from 1 to 44, K from 1 to 32 and N from 1 to 8"
+    case (puldeho_refusal_lengths)
+      text = "take the lengths from the functions puldeho_.._length of the grid"
+    case (puldeho_refusal_air_range)
+      text = "choose the unit of air so that every cell has 1 to 65,535, or make layers of more even air"
+    case (puldeho_refusal_totals)
+      text = "choose a larger unit for that gas, so that its total stays below the limit with room for " // &
+          "what is emitted"
+    case (puldeho_refusal_index)
+      text = "count from 0, and take cell numbers from puldeho_cell_number, puldeho_south_cap and " // &
+          "puldeho_north_cap"
+    case (puldeho_refusal_emission)
+      text = "load the gas in a larger unit, or withdraw before emitting"
+    case (puldeho_refusal_withdrawal)
+      text = "read the cell first, and withdraw at most what it has"
+    case (puldeho_refusal_fluxes)
+      text = "give fluxes in units of air moved during this step; a smaller time step makes them smaller"
+    case (puldeho_refusal_zonal)
+      text = "make the step in several smaller ones; where a cell would end empty or too full, correct " // &
+          "the fluxes, since no smaller step helps"
+    case (puldeho_refusal_meridional)
+      text = "make the step in several smaller ones; where a cell would end empty or too full, correct " // &
+          "the fluxes, since no smaller step helps"
+    case (puldeho_refusal_table)
+      text = "give K + 1 pairs from the top down, the first 0, 0 and the last 0, 65,536"
+    case (puldeho_refusal_remap)
+      text = "make neighbouring pairs differ by at least one unit of air in the column with the least " // &
+          "air; with air in proportion to area use a = 0"
+    case default
+      text = "compile the program anew, with the module of the library that it is linked with"
+    end select
+  end function puldeho_refusal_remedy
+
+end module puldeho

@@ -1,0 +1,127 @@
+"""The C header, bindings/puldeho.h, and the calls of the C reader of scripts, bindings/c/calls.c."""
+from tables import GRID, MADE, RAW, WORLD, constant, described, filled, in_terms, is_list, length_name, length_text, own, wrapped
+
+TYPES = {"u32": "uint32_t ", "&[u32]": "const uint32_t *", "&mut [u32]": "uint32_t *", "&[i32]": "const int32_t *"}
+TAKEN = {"u32": "take_u32", "&[u32]": "take_u32s", "&[i32]": "take_i32s"}
+
+
+def declared(parameter):
+    """A parameter as C declares it, a list with its length."""
+    text = TYPES[parameter.type] + parameter.name
+    return text + ", size_t %s_length" % parameter.name if is_list(parameter) else text
+
+
+def world_type(call):
+    return "struct puldeho_world *world" if call.world == "changed" else "const struct puldeho_world *world"
+
+
+def raw(call):
+    """The declaration of the proved function."""
+    first = ", ".join("uint32_t " + letter for letter in GRID)
+    listed = ",\n    ".join([first] + [declared(p) for p in call.parameters])
+    return "PULDEHO_MUST_USE uint64_t %s%s(\n    %s);\n" % (RAW, call.name, listed)
+
+
+def given(call):
+    """The arguments of the proved function, from the world and the call's own."""
+    lines = [", ".join("world->grid." + letter for letter in GRID)]
+    for p in call.parameters:
+        if p.name in WORLD:
+            lines.append("world->{0}, world->{0}_length".format(p.name))
+        else:
+            lines.append("{0}, {0}_length".format(p.name) if is_list(p) else p.name)
+    return ",\n        ".join(lines)
+
+
+def function(call):
+    """The call that users make."""
+    comment = wrapped(described(call), 96, " * ")
+    listed = [world_type(call)] + [declared(p) for p in own(call)]
+    count = "NULL"
+    if call.count:
+        count = call.count.name
+        listed.append("uint32_t *" + count)
+    return (
+        "\n/*\n%s\n */\nPULDEHO_MUST_USE static inline enum puldeho_refusal puldeho_%s(\n    %s)\n{\n"
+        "    return puldeho_refusal_and_count(%s%s(\n        %s), %s);\n}\n"
+    ) % (comment, call.name, ",\n    ".join(listed), RAW, call.name, given(call), count)
+
+
+def why(call):
+    """The declaration of the function that says why a call is refused."""
+    listed = ["const struct puldeho_world *world"] + [declared(p) for p in own(call)] + ["char *text, size_t size"]
+    return "enum puldeho_refusal puldeho_why_%s(\n    %s);\n" % (call.name, ",\n    ".join(listed))
+
+
+def length(lent):
+    """The function that gives the length of a list."""
+    comment = wrapped("/* %s */" % length_text(lent), 96, " * ")[3:]
+    terms = in_terms(lent.length, "(size_t)grid.%s", "puldeho_cells_in_layer(grid)").replace("*", " * ")
+    return "\n%s\nstatic inline size_t puldeho_%s(struct puldeho_grid grid)\n{\n    return %s;\n}\n" % (
+        comment, length_name(lent), terms)
+
+
+def texts(refusals, field):
+    """The cases of a switch that gives a text for each refusal."""
+    return "\n".join('    case PULDEHO_%s:\n        return "%s";' % (constant(r.name), getattr(r, field)) for r in refusals)
+
+
+def stack(tables):
+    """The stack of each call as lines of the header's comment."""
+    names = [RAW + call.name for call in tables.calls]
+    return "\n".join(" *   %-24s %9s" % (name, format(tables.stack[name], ",")) for name in names)
+
+
+def header(tables):
+    """bindings/puldeho.h."""
+    major, minor, patch = tables.version.split(".")
+    lists = [lent for lent in tables.lists if lent.owner == "world"]
+    return filled("puldeho.h", {
+        "MADE": MADE,
+        "VERSION": tables.version,
+        "MAJOR": major,
+        "MINOR": minor,
+        "PATCH": patch,
+        "STACK": stack(tables),
+        "DEEPEST": str(max(tables.stack.values())),
+        "REFUSALS": ",\n".join("    /* %s */\n    PULDEHO_%s = %d" % (r.condition, constant(r.name), r.number) for r in tables.refusals),
+        "CONDITIONS": texts(tables.refusals, "condition"),
+        "REMEDIES": texts(tables.refusals, "remedy"),
+        "FIELDS": "\n".join("    /* %s: %s numbers */\n    uint32_t *%s;\n    size_t %s_length;" % (l.what, l.length.upper(), l.name, l.name) for l in lists),
+        "LISTS": ",\n    ".join("uint32_t *{0}, size_t {0}_length".format(l.name) for l in lists),
+        "SETS": "\n".join("    world.{0} = {0};\n    world.{0}_length = {0}_length;".format(l.name) for l in lists),
+        "LENGTHS": "".join(map(length, tables.lists)),
+        "RAWS": "\n".join(map(raw, tables.calls)),
+        "CALLS": "".join(map(function, tables.calls)),
+        "WHYS": "\n".join(map(why, tables.calls)),
+    })
+
+
+# The reader of scripts.
+
+
+def made(call):
+    """The function that takes the call's own arguments from a line of a script and makes the call."""
+    mine = own(call)
+    declarations = ["    %s%s;\n" % ("struct list " if is_list(p) else "uint32_t ", p.name) for p in mine]
+    taken = ["!%s(&rest, &%s)" % (TAKEN[p.type], p.name) for p in mine] + ["!at_end(rest)"]
+    freed = ["    free(%s.numbers);\n" % p.name for p in mine if is_list(p)]
+    arguments = "".join(
+        ", ({1}){0}.numbers, {0}.length".format(p.name, TYPES[p.type]) if is_list(p) else ", " + p.name for p in mine
+    )
+    count = ", &outcome->count" if call.count else ""
+    return (
+        "\nstatic bool make_{0}(struct puldeho_world *world, char *rest, struct outcome *outcome)\n{{\n{1}"
+        "    if ({2})\n        return false;\n"
+        "    outcome->why = puldeho_why_{0}(world{3}, outcome->text, sizeof outcome->text);\n"
+        "    outcome->refusal = puldeho_{0}(world{3}{4});\n{5}    return true;\n}}\n"
+    ).format(call.name, "".join(declarations), "\n        || ".join(taken), arguments, count, "".join(freed))
+
+
+def scripts(tables):
+    """bindings/c/calls.c."""
+    entries = "".join('    {"%s", make_%s},\n' % (call.name, call.name) for call in tables.calls)
+    return (
+        "/* %s */\n#include <stdlib.h>\n\n#include \"script.h\"\n%s\n"
+        "const struct call calls[] = {\n%s    {NULL, NULL},\n};\n"
+    ) % (MADE, "".join(map(made, tables.calls)), entries)

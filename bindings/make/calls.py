@@ -1,0 +1,42 @@
+# @MADE@
+"""Refusals, lengths and calls, as the tables have them."""
+import enum
+
+VERSION = "@VERSION@"
+# The shared library of this version. Another version's functions may take other arguments.
+SONAME = "@SONAME@"
+
+
+class Refusal(enum.IntEnum):
+    """Why a call was refused."""
+
+@REFUSALS@
+
+# The condition of each refusal, in words.
+CONDITIONS = {
+@CONDITIONS@}
+
+# What to do about each refusal.
+REMEDIES = {
+@REMEDIES@}
+
+# The world's lists, in the order of the C struct.
+WORLD = (@WORLD@)
+
+# The parameters of each proved function after the grid's four numbers, with their types in the library.
+SIGNATURES = {
+@SIGNATURES@}
+
+
+class Lengths:
+    """How long the lists are that go with a grid."""
+
+    @property
+    def cells_in_layer(self):
+        """C, the cells of a layer: its R*W cells and the two caps."""
+        return 2 + self.r * self.w
+@LENGTHS@
+
+class Calls:
+    """The calls, each over the world's lists."""
+@METHODS@

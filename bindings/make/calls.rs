@@ -1,0 +1,39 @@
+// @MADE@
+
+use crate::{outcome, Grid};
+
+/// The version of the library that this wrapper was made for.
+pub const VERSION: &str = "@VERSION@";
+
+@REFUSALS@
+/// How long the lists are that go with a grid.
+impl Grid {@LENGTHS@}
+
+/// A world that owns its lists, made by an accepted load, so that a later call is refused for its own arguments only.
+#[derive(Clone, Debug, PartialEq, Eq)]
+pub struct World {
+    grid: Grid,
+@FIELDS@}
+
+impl World {
+    /// Takes the lists as the world from now on, if the load is accepted.
+    pub fn load(grid: Grid, @GIVEN@) -> Result<World, Refusal> {
+        let world = World { grid, @MADEOF@ };
+        raw::load(grid, @LENT@)?;
+        Ok(world)
+    }
+
+    /// The grid.
+    pub fn grid(&self) -> Grid {
+        self.grid
+    }
+@READ@@METHODS@}
+
+/// The calls over lists that the caller keeps and lends, each with the grid: any numbers and lengths are answered.
+/// A later version may lend further lists; programs over [`World`] do not change then.
+pub mod raw {
+    use super::{outcome, Grid, Refusal};
+
+    extern "C" {
+    @EXTERNS@}
+@RAWS@}

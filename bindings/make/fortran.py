@@ -1,0 +1,116 @@
+"""The Fortran module, bindings/fortran/puldeho.f90."""
+import textwrap
+
+from tables import GRID, MADE, RAW, WORLD, constant, filled, in_terms, is_list, is_written, length_name, length_text, own, wrapped
+
+
+def listed(names, indent):
+    """Names in a bracket, continued over lines of at most 120 characters."""
+    return (" &\n" + indent).join(textwrap.wrap(", ".join(names), 110 - len(indent), break_long_words=False))
+
+
+def quoted(text, indent):
+    """A text as a character expression, continued over lines."""
+    parts = textwrap.wrap(text, 90, drop_whitespace=False, break_on_hyphens=False)
+    return (" // &\n" + indent).join('"%s"' % part for part in parts)
+
+
+def raw(call):
+    """The interface of a proved function."""
+    names = list(GRID)
+    declared = ["integer(c_int32_t), value :: %s" % ", ".join(GRID)]
+    for p in call.parameters:
+        names += [p.name, p.name + "_length"] if is_list(p) else [p.name]
+        if is_list(p):
+            declared.append("integer(c_int32_t), intent(%s) :: %s(*)" % ("inout" if is_written(p) else "in", p.name))
+            declared.append("integer(c_size_t), value :: %s_length" % p.name)
+        else:
+            declared.append("integer(c_int32_t), value :: %s" % p.name)
+    body = "".join("      %s\n" % line for line in declared)
+    return (
+        "    function {0}{1}( &\n        {2}) &\n        bind(c) result(returned)\n"
+        "      import :: c_int32_t, c_int64_t, c_size_t\n{3}      integer(c_int64_t) :: returned\n"
+        "    end function {0}{1}\n"
+    ).format(RAW, call.name, listed(names, "        "), body)
+
+
+def given(call, world):
+    """The arguments of the proved function, with the names of the world's lists."""
+    found = ["%s%%%s" % (world + "%grid" if world else "grid", letter) for letter in GRID]
+    for p in call.parameters:
+        name = "%s%%%s" % (world, p.name) if p.name in WORLD and world else p.name
+        found += [name, "size(%s, kind=c_size_t)" % name] if is_list(p) else [name]
+    return listed(found, "        ")
+
+
+def method(call):
+    """The call as a procedure of the world."""
+    mine = own(call)
+    names = ["world"] + [p.name for p in mine] + ["refusal"] + ([call.count.name] if call.count else [])
+    count = "  ! %s: %s.\n" % call.count if call.count else ""
+    declared = "".join(
+        "    integer(c_int32_t), intent(in) :: %s%s\n" % (p.name, "(:)" if is_list(p) else "") for p in mine
+    )
+    if call.count:
+        declared += "    integer(c_int32_t), intent(out), optional :: %s\n" % call.count.name
+    intent = "inout"
+    comment = wrapped("%s Refusals, in order: %s." % (call.does, call.refusals), 110, "  ! ")
+    return (
+        "\n{0}\n{1}  subroutine world_{2}({3})\n    class(puldeho_world), intent({4}) :: world\n"
+        "    integer(c_int32_t), intent(out) :: refusal\n{5}    integer(c_int64_t) :: returned\n\n"
+        "    call with_lists(world)\n    returned = {6}{2}( &\n        {7})\n"
+        "    refusal = refusal_of(returned)\n{8}  end subroutine world_{2}\n"
+    ).format(
+        comment, count, call.name, ", ".join(names), intent, declared, RAW, given(call, "world"),
+        "    if (present({0})) {0} = count_of(returned)\n".format(call.count.name) if call.count else "",
+    )
+
+
+def length(lent):
+    """The function that gives the length of a list."""
+    terms = in_terms(lent.length, "grid%%%s", "puldeho_cells_in_layer(grid)")
+    name = "puldeho_" + length_name(lent)
+    return (
+        "\n{0}\n  pure function {1}(grid) result(length)\n    type(puldeho_grid), intent(in) :: grid\n"
+        "    integer(c_int32_t) :: length\n\n    length = {2}\n  end function {1}\n"
+    ).format(wrapped(length_text(lent), 110, "  ! "), name, terms)
+
+
+def texts(tables, field):
+    """The cases that give a text for each refusal."""
+    return "".join(
+        "    case (puldeho_refusal_%s)\n      text = %s\n" % (constant(r.name).lower(), quoted(getattr(r, field), "          "))
+        for r in tables.refusals
+    )
+
+
+def module(tables):
+    """bindings/fortran/puldeho.f90."""
+    lists = [lent for lent in tables.lists if lent.owner == "world"]
+    load = next(call for call in tables.calls if call.name == "load")
+    later = [call for call in tables.calls if call.name != "load"]
+    return filled("puldeho.f90", {
+        "MADE": MADE,
+        "VERSION": tables.version,
+        "NAMES": "".join("  public :: puldeho_%s\n" % length_name(lent) for lent in tables.lists),
+        "REFUSALS": "".join(
+            "  ! %s\n  integer(c_int32_t), parameter, public :: puldeho_refusal_%s = %d\n" % (
+                r.condition, constant(r.name).lower(), r.number)
+            for r in tables.refusals
+        ),
+        "FIELDS": "".join("    ! %s: %s numbers, the first has the index 0\n    integer(c_int32_t), allocatable :: %s(:)\n" % (l.what, l.length.upper(), l.name) for l in lists),
+        "METHODS": "".join("    procedure :: %s => world_%s\n" % (call.name, call.name) for call in tables.calls),
+        "RAWS": "\n".join(map(raw, tables.calls)),
+        "LOADED": ", ".join(l.name for l in lists),
+        "GIVEN": given(load, ""),
+        "DECLARED": "".join("    integer(c_int32_t), intent(in) :: %s(:)\n" % l.name for l in lists),
+        "KEPT": "".join(
+            "    if (allocated(world%{0})) deallocate (world%{0})\n    allocate (world%{0}(0:size({0}) - 1))\n    world%{0}(:) = {0}\n".format(l.name)
+            for l in lists
+        ),
+        "EMPTY": "".join("    if (.not. allocated(world%{0})) allocate (world%{0}(0))\n".format(l.name) for l in lists),
+        "CALLS": "".join(map(method, later)),
+        "LENGTHS": "".join(map(length, tables.lists)),
+        "CONDITIONS": texts(tables, "condition"),
+        "REMEDIES": texts(tables, "remedy"),
+    })

@@ -1,0 +1,149 @@
+! Puldeho, the transport core of the tracer console, for Fortran 2003 and later: version @VERSION@.
+! @MADE@
+!
+! To compile and link: gfortran puldeho.f90 program.f90 -lpuldeho
+!
+!     use puldeho
+!     type(puldeho_world) :: world
+!     integer :: refusal, substeps
+!     call world%load(puldeho_grid(4, 1, 1, 1), [100, 100, 100, 100, 100, 100], [0, 0, 100, 200, 100, 0], refusal)
+!     if (refusal /= puldeho_accepted) error stop puldeho_refusal_text(refusal)
+!     call world%zonal(0, 0, [0, 50, 0, 0], refusal, substeps)
+!     if (refusal /= puldeho_accepted) error stop puldeho_refusal_text(refusal)
+!
+! Layers, rows, columns, tracers and cells are counted from 0, and world%air(0) is the first cell's air.
+! Each call sets refusal: 0 (puldeho_accepted) or the number of the first refusal that applies. A refused call
+! changes nothing. Numbers are 32-bit without a sign in the library, so a negative one is far above every limit
+! and is refused. docs/GUIDE.md explains grid, units, fluxes and refusals.
+module puldeho
+  use, intrinsic :: iso_c_binding, only: c_int32_t, c_int64_t, c_size_t
+  implicit none
+  private
+
+  character(len=*), parameter, public :: puldeho_version = "@VERSION@"
+
+  integer(c_int32_t), parameter, public :: puldeho_accepted = 0
+@REFUSALS@
+  ! What cell numbers are for a place that the grid has not; every call refuses it, with 5.
+  integer(c_int32_t), parameter, public :: puldeho_no_cell = -1
+
+  public :: puldeho_cells_in_layer, puldeho_cell_number, puldeho_south_cap, puldeho_north_cap
+  public :: puldeho_refusal_text, puldeho_refusal_remedy
+@NAMES@
+  ! The grid: W columns round the globe (4 to 72), R rows from south to north (1 to 44), K layers from the top
+  ! down (1 to 32), N tracers (1 to 8).
+  type, public :: puldeho_grid
+    integer(c_int32_t) :: w = 0, r = 0, k = 0, n = 0
+  end type puldeho_grid
+
+  ! The world. It owns its lists; an accepted load makes it, and before that every call is refused, with 1.
+  type, public :: puldeho_world
+    type(puldeho_grid) :: grid
+@FIELDS@  contains
+@METHODS@  end type puldeho_world
+
+  ! The proved functions. Each returns refusal * 2**32 + count.
+  interface
+@RAWS@  end interface
+
+contains
+
+  ! Takes copies of the lists as the world from now on, if the load is accepted; else the world stays as it was.
+  ! Refusals, in order: 1 2 3 4.
+  subroutine world_load(world, grid, @LOADED@, refusal)
+    class(puldeho_world), intent(inout) :: world
+    type(puldeho_grid), intent(in) :: grid
+@DECLARED@    integer(c_int32_t), intent(out) :: refusal
+
+    refusal = refusal_of(puldeho_raw_load( &
+        @GIVEN@))
+    if (refusal /= puldeho_accepted) return
+    world%grid = grid
+@KEPT@  end subroutine world_load
+@CALLS@
+  ! A world that was never loaded gets empty lists, so that a call can be refused.
+  subroutine with_lists(world)
+    class(puldeho_world), intent(inout) :: world
+
+@EMPTY@  end subroutine with_lists
+
+  pure function refusal_of(returned) result(refusal)
+    integer(c_int64_t), intent(in) :: returned
+    integer(c_int32_t) :: refusal
+
+    refusal = int(ishft(returned, -32), c_int32_t)
+  end function refusal_of
+
+  pure function count_of(returned) result(count)
+    integer(c_int64_t), intent(in) :: returned
+    integer(c_int32_t) :: count
+
+    count = int(ibits(returned, 0, 32), c_int32_t)
+  end function count_of
+
+  ! C, the cells of a layer: its R*W cells and the two caps.
+  pure function puldeho_cells_in_layer(grid) result(cells)
+    type(puldeho_grid), intent(in) :: grid
+    integer(c_int32_t) :: cells
+
+    cells = 2 + grid%r*grid%w
+  end function puldeho_cells_in_layer
+
+  ! The number of a cell over all layers: layer*C + 1 + row*W + column.
+  pure function puldeho_cell_number(grid, layer, row, column) result(cell)
+    type(puldeho_grid), intent(in) :: grid
+    integer(c_int32_t), intent(in) :: layer, row, column
+    integer(c_int32_t) :: cell
+
+    cell = puldeho_no_cell
+    if (layer < 0 .or. layer >= grid%k .or. row < 0 .or. row >= grid%r .or. column < 0 .or. column >= grid%w) return
+    cell = layer*puldeho_cells_in_layer(grid) + 1 + row*grid%w + column
+  end function puldeho_cell_number
+
+  ! The number of a layer's south cap: layer*C.
+  pure function puldeho_south_cap(grid, layer) result(cell)
+    type(puldeho_grid), intent(in) :: grid
+    integer(c_int32_t), intent(in) :: layer
+    integer(c_int32_t) :: cell
+
+    cell = puldeho_no_cell
+    if (layer >= 0 .and. layer < grid%k) cell = layer*puldeho_cells_in_layer(grid)
+  end function puldeho_south_cap
+
+  ! The number of a layer's north cap: layer*C + C - 1.
+  pure function puldeho_north_cap(grid, layer) result(cell)
+    type(puldeho_grid), intent(in) :: grid
+    integer(c_int32_t), intent(in) :: layer
+    integer(c_int32_t) :: cell
+
+    cell = puldeho_no_cell
+    if (layer >= 0 .and. layer < grid%k) cell = (layer + 1)*puldeho_cells_in_layer(grid) - 1
+  end function puldeho_north_cap
+@LENGTHS@
+  ! Why a call was refused: the condition of a refusal, in words.
+  pure function puldeho_refusal_text(refusal) result(text)
+    integer(c_int32_t), intent(in) :: refusal
+    character(len=:), allocatable :: text
+
+    select case (refusal)
+    case (puldeho_accepted)
+      text = "accepted"
+@CONDITIONS@    case default
+      text = "no refusal of this version"
+    end select
+  end function puldeho_refusal_text
+
+  ! What to do about a refusal, in words.
+  pure function puldeho_refusal_remedy(refusal) result(text)
+    integer(c_int32_t), intent(in) :: refusal
+    character(len=:), allocatable :: text
+
+    select case (refusal)
+    case (puldeho_accepted)
+      text = "nothing: the call was made"
+@REMEDIES@    case default
+      text = "compile the program anew, with the module of the library that it is linked with"
+    end select
+  end function puldeho_refusal_remedy
+
+end module puldeho

@@ -1,0 +1,177 @@
+/*
+ * Puldeho, the transport core of the tracer console, for C and C++: version @VERSION@.
+ * @MADE@
+ *
+ * To compile and link, on x86-64 Linux: cc program.c $(pkg-config --cflags --libs puldeho)
+ * The guide (docs/GUIDE.md, installed as share/doc/puldeho/GUIDE.md) explains grid, units, fluxes, refusals.
+ *
+ *     uint32_t air[6] = {100, 100, 100, 100, 100, 100}, tracers[6] = {0, 0, 100, 200, 100, 0};
+ *     int32_t fluxes[4] = {0, 50, 0, 0};
+ *     struct puldeho_grid grid = {4, 1, 1, 1};
+ *     struct puldeho_world world = puldeho_world_over(grid, air, 6, tracers, 6);
+ *     enum puldeho_refusal refusal = puldeho_load(&world);
+ *     if (refusal == PULDEHO_ACCEPTED)
+ *         refusal = puldeho_zonal(&world, 0, 0, fluxes, 4, NULL);
+ *     if (refusal != PULDEHO_ACCEPTED)
+ *         fprintf(stderr, "refused: %s\n", puldeho_refusal_text(refusal));
+ *
+ * What a call gives: PULDEHO_ACCEPTED, which is 0, or the first refusal that applies. A refused call
+ * changes nothing: neither air nor tracers. A count, where a call has one, is written to the last
+ * argument, 0 if the call is refused; that pointer may be null.
+ *
+ * What is assumed of pointers:
+ * - each goes with the length after it, in numbers, not bytes: so many can be read there, or written;
+ * - it is not null and is aligned to 4 bytes, unless the length is 0;
+ * - a list that is written shares no memory with another list of the same call;
+ * - nobody else writes a lent list during the call, or reads one that is written.
+ * Nothing is assumed of the numbers or of the lengths: any are answered. The library keeps nothing
+ * between calls; several threads may call it, each with a world of its own.
+ *
+ * What is assumed of the stack: that it has room for the call. The deepest stack in bytes, read from
+ * the object code by tools/stack, return address and libc's functions included, arguments not:
+@STACK@
+ */
+#ifndef PULDEHO_H
+#define PULDEHO_H
+
+#include <stddef.h>
+#include <stdint.h>
+#include <string.h>
+
+#define PULDEHO_VERSION "@VERSION@"
+#define PULDEHO_VERSION_MAJOR @MAJOR@
+#define PULDEHO_VERSION_MINOR @MINOR@
+#define PULDEHO_VERSION_PATCH @PATCH@
+
+/* The deepest stack of all calls, in bytes. */
+#define PULDEHO_STACK @DEEPEST@
+
+#if defined(__GNUC__)
+#define PULDEHO_MUST_USE __attribute__((warn_unused_result))
+#else
+#define PULDEHO_MUST_USE
+#endif
+
+#ifdef __cplusplus
+extern "C" {
+#endif
+
+/* What a call gives. Later versions have further refusals. */
+enum puldeho_refusal {
+    /* the call was made */
+    PULDEHO_ACCEPTED = 0,
+@REFUSALS@
+};
+
+/* Why a call was refused: the condition of a refusal, in words. */
+static inline const char *puldeho_refusal_text(enum puldeho_refusal refusal)
+{
+    switch (refusal) {
+    case PULDEHO_ACCEPTED:
+        return "accepted";
+@CONDITIONS@
+    }
+    return "no refusal of this version";
+}
+
+/* What to do about a refusal, in words. puldeho_why_NAME, below, says more of the world at hand. */
+static inline const char *puldeho_refusal_remedy(enum puldeho_refusal refusal)
+{
+    switch (refusal) {
+    case PULDEHO_ACCEPTED:
+        return "nothing: the call was made";
+@REMEDIES@
+    }
+    return "compile the program anew, with the header of the library that it is linked with";
+}
+
+/* The grid: W columns round the globe (4 to 72), R rows from south to north (1 to 44), K layers from
+ * the top down (1 to 32), N tracers (1 to 8). Columns, rows, layers, tracers and cells are counted from 0. */
+struct puldeho_grid {
+    uint32_t w, r, k, n;
+};
+
+/* C, the cells of a layer: its R*W cells and the two caps. */
+static inline size_t puldeho_cells_in_layer(struct puldeho_grid grid)
+{
+    return 2 + (size_t)grid.r * grid.w;
+}
+@LENGTHS@
+/* What the functions below give for a place that the grid has not. Every call refuses it, with 5. */
+#define PULDEHO_NO_CELL UINT32_MAX
+
+/* The number of a cell over all layers: layer*C + 1 + row*W + column. */
+static inline uint32_t puldeho_cell_number(struct puldeho_grid grid, uint32_t layer, uint32_t row, uint32_t column)
+{
+    if (layer >= grid.k || row >= grid.r || column >= grid.w)
+        return PULDEHO_NO_CELL;
+    return (uint32_t)(layer * puldeho_cells_in_layer(grid) + 1 + (size_t)row * grid.w + column);
+}
+
+/* The number of a layer's south cap: layer*C. */
+static inline uint32_t puldeho_south_cap(struct puldeho_grid grid, uint32_t layer)
+{
+    if (layer >= grid.k)
+        return PULDEHO_NO_CELL;
+    return (uint32_t)(layer * puldeho_cells_in_layer(grid));
+}
+
+/* The number of a layer's north cap: layer*C + C - 1. */
+static inline uint32_t puldeho_north_cap(struct puldeho_grid grid, uint32_t layer)
+{
+    if (layer >= grid.k)
+        return PULDEHO_NO_CELL;
+    return (uint32_t)((layer + (size_t)1) * puldeho_cells_in_layer(grid) - 1);
+}
+
+/* The world: the grid, and the lists that the caller keeps and lends to each call, with their lengths
+ * in numbers. Later versions have further fields. Make it with puldeho_world_over, or by naming its
+ * fields, as in {.grid = grid, .air = air, ..}: what is not set is 0 then, and stands for a value of
+ * its own. Start with puldeho_load. */
+struct puldeho_world {
+    struct puldeho_grid grid;
+@FIELDS@
+};
+
+/* The world of a grid and lent lists; each length is how many numbers the list has. */
+static inline struct puldeho_world puldeho_world_over(
+    struct puldeho_grid grid,
+    @LISTS@)
+{
+    struct puldeho_world world;
+    memset(&world, 0, sizeof world);
+    world.grid = grid;
+@SETS@
+    return world;
+}
+
+/*
+ * The proved functions. Users call those further down, which are plain C over these. Each returns one
+ * number, refusal * 2^32 + count: kept in an int, it is 0 for many a refused call.
+ */
+@RAWS@
+/* Takes apart what a proved function returned. */
+static inline enum puldeho_refusal puldeho_refusal_and_count(uint64_t returned, uint32_t *count)
+{
+    if (count != NULL)
+        *count = (uint32_t)returned;
+    return (enum puldeho_refusal)(returned >> 32);
+}
+
+/* The calls. */
+@CALLS@
+/*
+ * Why a call is refused: for each call a function that takes the same arguments, writes into `text`
+ * which cell, row or column is in the way, how much air it has and how much would leave, and whether
+ * a smaller time step can help, and returns the refusal, 0 if the call would be accepted. Ask after the
+ * refusal, before the world changes. `text` gets at most `size` bytes with the final 0;
+ * PULDEHO_WHY_SIZE are enough for any. These functions are plain C and not proved; they only read.
+ */
+#define PULDEHO_WHY_SIZE 1024
+
+@WHYS@
+#ifdef __cplusplus
+}
+#endif
+
+#endif

@@ -1,0 +1,48 @@
+"""The Python package's made part, bindings/python/puldeho/calls.py."""
+from tables import MADE, WORLD, constant, filled, in_terms, length_name, length_text, own, wrapped
+
+
+def table(tables, field):
+    """A dictionary from each refusal to one of its texts."""
+    return "".join('    Refusal.%s: "%s",\n' % (constant(r.name), getattr(r, field)) for r in tables.refusals)
+
+
+def length(lent):
+    """The property that gives the length of a list."""
+    terms = in_terms(lent.length, "self.%s", "self.cells_in_layer").replace("*", " * ")
+    return "\n    @property\n    def %s(self):\n%s\n        return %s\n" % (
+        length_name(lent), wrapped('"""%s"""' % length_text(lent), 110, "        "), terms)
+
+
+def signature(call):
+    """The call's parameters, each with its type."""
+    listed = ", ".join('("%s", "%s")' % p for p in call.parameters)
+    return '    "%s": (%s%s),\n' % (call.name, listed, "," if len(call.parameters) == 1 else "")
+
+
+def method(call):
+    """The call as a method of the world."""
+    mine = [p.name for p in own(call)]
+    count = "" if call.count is None else " Returns %s." % call.count.text
+    text = "%s%s Refusals, in order: %s." % (call.does, count, call.refusals)
+    made = "self._make(%s)" % ", ".join(['"%s"' % call.name] + mine)
+    return '\n    def %s(%s):\n%s\n        %s\n' % (
+        call.name, ", ".join(["self"] + mine), wrapped('"""%s"""' % text, 110, "        "),
+        "return " + made if call.count else made)
+
+
+def calls(tables):
+    """bindings/python/puldeho/calls.py."""
+    major, minor, _ = tables.version.split(".")
+    return filled("calls.py", {
+        "MADE": MADE,
+        "VERSION": tables.version,
+        "SONAME": "libpuldeho.so.%s.%s" % (major, minor),
+        "REFUSALS": "".join("    %s = %d\n" % (constant(r.name), r.number) for r in tables.refusals),
+        "CONDITIONS": table(tables, "condition"),
+        "REMEDIES": table(tables, "remedy"),
+        "WORLD": ", ".join('"%s"' % name for name in WORLD),
+        "SIGNATURES": "".join(map(signature, tables.calls)),
+        "LENGTHS": "".join(map(length, tables.lists)),
+        "METHODS": "".join(method(call) for call in tables.calls if call.name != "load"),
+    })

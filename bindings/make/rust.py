@@ -1,0 +1,120 @@
+"""The Rust wrapper's made part, bindings/rust/src/calls.rs, and the comparison's calls, compare/src/library.rs."""
+from tables import GRID, MADE, RAW, WORLD, filled, in_terms, is_list, is_written, length_name, length_text, own
+
+POINTERS = {"&[u32]": ("*const u32", "as_ptr"), "&mut [u32]": ("*mut u32", "as_mut_ptr"), "&[i32]": ("*const i32", "as_ptr")}
+
+
+def refusals(tables):
+    """The enum of the refusals."""
+    cases = "".join("    /// %s\n    %s = %d,\n" % (r.condition, r.name, r.number) for r in tables.refusals)
+    names = "".join("        Refusal::%s,\n" % r.name for r in tables.refusals)
+
+    def texts(field):
+        return "".join('            Refusal::%s => "%s",\n' % (r.name, getattr(r, field)) for r in tables.refusals)
+
+    return (
+        "/// Why a call was refused. It then changed nothing. `refusal as u32` is its number.\n"
+        "#[derive(Clone, Copy, Debug, PartialEq, Eq)]\n#[non_exhaustive]\npub enum Refusal {\n%s}\n\n"
+        "impl Refusal {\n    /// Every refusal, in the order of their numbers.\n"
+        "    pub const ALL: [Refusal; %d] = [\n%s    ];\n\n"
+        "    /// The refusal's condition, in words.\n    pub fn condition(self) -> &'static str {\n"
+        "        match self {\n%s        }\n    }\n\n"
+        "    /// What to do about it, in words.\n    pub fn remedy(self) -> &'static str {\n"
+        "        match self {\n%s        }\n    }\n}\n"
+    ) % (cases, len(tables.refusals), names, texts("condition"), texts("remedy"))
+
+
+def length(lent):
+    """The method that gives the length of a list."""
+    terms = in_terms(lent.length, "self.%s as usize", "self.cells_in_layer()").replace("*", " * ")
+    return "\n    /// %s\n    pub fn %s(self) -> usize {\n        %s\n    }\n" % (length_text(lent), length_name(lent), terms)
+
+
+def extern(call):
+    """The proved function as C has it."""
+    lines = [", ".join(letter + ": u32" for letter in GRID)]
+    for p in call.parameters:
+        lines.append("%s: %s, %s_length: usize" % (p.name, POINTERS[p.type][0], p.name) if is_list(p) else p.name + ": u32")
+    return "    fn %s%s(\n        %s,\n    ) -> u64;\n" % (RAW, call.name, ",\n        ".join(lines))
+
+
+def raw(call):
+    """The safe function over lent lists."""
+    lines = [", ".join("grid." + letter for letter in GRID)]
+    for p in call.parameters:
+        lines.append("%s.%s(), %s.len()" % (p.name, POINTERS[p.type][1], p.name) if is_list(p) else p.name)
+    signature = "".join("        %s: %s,\n" % p for p in call.parameters)
+    return (
+        "\n    /// %s\n    ///\n    /// Count: %s. Refusals, in order: %s.\n"
+        "    pub fn %s(\n        grid: Grid,\n%s    ) -> Result<u32, Refusal> {\n"
+        "        // SAFETY: each pointer goes with its slice's length, and the borrows keep all others from what is written.\n"
+        "        outcome(unsafe {\n            %s%s(\n                %s,\n            )\n        })\n    }\n"
+    ) % (
+        call.does, call.count.text if call.count else "0", call.refusals, call.name, signature,
+        RAW, call.name, ",\n                ".join(lines),
+    )
+
+
+def method(call):
+    """The call as a method of the world."""
+    signature = "".join(", %s: %s" % p for p in own(call))
+    lent = [("&mut self.%s" if is_written(p) else "&self.%s") % p.name if p.name in WORLD else p.name for p in call.parameters]
+    given = "raw::%s(self.grid, %s)" % (call.name, ", ".join(lent))
+    count = "\n    ///\n    /// It gives %s." % call.count.text if call.count else ""
+    return (
+        "\n    /// %s%s\n    ///\n    /// Refusals, in order: %s.\n"
+        "    pub fn %s(&%sself%s) -> Result<%s, Refusal> {\n        %s\n    }\n"
+    ) % (
+        call.does, count, call.refusals, call.name, "mut " if call.world == "changed" else "", signature,
+        "u32" if call.count else "()", given if call.count else given + "?;\n        Ok(())",
+    )
+
+
+def wrapper(tables):
+    """bindings/rust/src/calls.rs."""
+    lists = [lent for lent in tables.lists if lent.owner == "world"]
+    return filled("calls.rs", {
+        "MADE": MADE,
+        "VERSION": tables.version,
+        "REFUSALS": refusals(tables),
+        "LENGTHS": "".join(map(length, tables.lists)),
+        "FIELDS": "".join("    %s: Vec<u32>,\n" % l.name for l in lists),
+        "GIVEN": ", ".join("%s: impl Into<Vec<u32>>" % l.name for l in lists),
+        "MADEOF": ", ".join("%s: %s.into()" % (l.name, l.name) for l in lists),
+        "LENT": ", ".join("&world." + l.name for l in lists),
+        "READ": "".join(
+            "\n    /// %s.\n    pub fn %s(&self) -> &[u32] {\n        &self.%s\n    }\n" % (l.what[0].upper() + l.what[1:], l.name, l.name)
+            for l in lists
+        ),
+        "METHODS": "".join(method(call) for call in tables.calls if call.name != "load"),
+        "EXTERNS": "".join(map(extern, tables.calls)).replace("\n", "\n    ").rstrip(" "),
+        "RAWS": "".join(map(raw, tables.calls)),
+    })
+
+
+# The comparison with the second implementation.
+
+
+def case(call):
+    """The case of the second implementation's Call."""
+    return "Call::" + "".join(part.capitalize() for part in call.name.split("_"))
+
+
+def pattern(call):
+    """The same with its fields."""
+    fields = ", ".join(p.name for p in own(call))
+    return case(call) + (" { %s }" % fields if fields else "")
+
+
+def compared(tables):
+    """compare/src/library.rs."""
+    made, names, named, lines = "", "", "", ""
+    for call in tables.calls:
+        given = [p.name if is_list(p) else "*" + p.name for p in call.parameters]
+        made += "        %s => {\n            raw::%s(grid, %s)\n        }\n" % (pattern(call), call.name, ", ".join(given))
+        names += '        %s { .. } => "%s",\n' % (case(call), call.name)
+        named += "        %s { .. } => &[%s],\n" % (case(call), ", ".join(call.refusals.split()))
+        words = "".join("{}" if is_list(p) else " {%s}" % p.name for p in own(call))
+        lists = "".join(", numbers(%s)" % p.name for p in own(call) if is_list(p))
+        lines += '        %s => format!("%s%s"%s),\n' % (pattern(call), call.name, words, lists)
+    return filled("library.rs", {"MADE": MADE, "CALLS": made, "NAMES": names, "NAMED": named, "LINES": lines})

@@ -1,0 +1,178 @@
+"""The tables of bindings/: calls, lists, refusals, stacks, version. Each is read, and held to the crates that it speaks of."""
+import re
+import sys
+import textwrap
+from collections import namedtuple
+
+Parameter = namedtuple("Parameter", "name type")
+Count = namedtuple("Count", "name text")
+Call = namedtuple("Call", "name parameters world refusals count does")
+Lent = namedtuple("Lent", "owner name length what")
+Refusal = namedtuple("Refusal", "number name condition cause remedy")
+Tables = namedtuple("Tables", "calls lists refusals programs stack version")
+
+GRID = ("w", "r", "k", "n")
+WORLD = ("air", "tracers")
+TYPES = ("u32", "&[u32]", "&mut [u32]", "&[i32]")
+MADE = "Made by tools/bindings from the tables of bindings/: not to be edited."
+RAW = "puldeho_raw_"
+
+
+def rows(path, fields):
+    """The lines of a table, comments left out, each as its fields."""
+    for line in open(path, encoding="utf-8"):
+        if line.strip() and not line.startswith("#"):
+            row = line.rstrip("\n").split(" | ")
+            if len(row) != fields:
+                sys.exit("%s: not %d fields: %s" % (path, fields, line.rstrip()))
+            yield row
+
+
+def parameters(text):
+    """The parameters of a list such as `air: &[u32], tracer: u32`."""
+    found = [Parameter(*part.strip().split(": ")) for part in text.split(",") if part.strip()]
+    for parameter in found:
+        if parameter.type not in TYPES:
+            sys.exit("%s: no such type of a parameter: %s" % parameter)
+    return found
+
+
+def is_list(parameter):
+    return parameter.type != "u32"
+
+
+def is_written(parameter):
+    return parameter.type.startswith("&mut")
+
+
+def own(call):
+    """The call's parameters without the world's lists."""
+    return [p for p in call.parameters if p.name not in WORLD]
+
+
+def read_calls():
+    """The table of the calls."""
+    calls = []
+    for name, listed, world, refusals, count, does in rows("bindings/calls.txt", 6):
+        given = None if count == "-" else Count(*count.split(": ", 1))
+        call = Call(name, parameters(listed), world, refusals, given, does)
+        mine = own(call)
+        if any(is_written(p) for p in mine) or any(is_list(p) for p in mine[:-1]):
+            sys.exit("bindings/calls.txt: %s: only the world's lists are written, and a list of its own stands last" % name)
+        if world not in ("read", "changed") or (world == "read" and any(map(is_written, call.parameters))):
+            sys.exit("bindings/calls.txt: %s: the world is read or changed, and changed if a list is written" % name)
+        calls.append(call)
+    return calls
+
+
+def read_lists(calls):
+    """The table of the lists: the world's, and each call's own."""
+    lists = [Lent(*row) for row in rows("bindings/lists.txt", 4)]
+    wanted = [("world", name) for name in WORLD]
+    wanted += [(call.name, p.name) for call in calls for p in own(call) if is_list(p)]
+    if [(lent.owner, lent.name) for lent in lists] != wanted:
+        sys.exit("bindings/lists.txt: not the lists of bindings/calls.txt, in their order")
+    return lists
+
+
+def length_name(lent):
+    """The name of a list's length: air_length, zonal_fluxes_length."""
+    return "%s_length" % lent.name if lent.owner == "world" else "%s_%s_length" % (lent.owner, lent.name)
+
+
+def read_refusals():
+    """The table of the refusals, those of the calls apart from those of the runner program."""
+    found = [Refusal(int(number), *rest) for number, *rest in rows("bindings/refusals.txt", 5)]
+    return [r for r in found if r.name != "-"], [r for r in found if r.name == "-"]
+
+
+def read_stack(calls):
+    """The deepest stack of each call, as tools/stack wrote it; programs are left out."""
+    stack = {}
+    for line in open("bindings/stack.txt", encoding="utf-8"):
+        name, number = line.split()[:2]
+        if name.startswith(RAW):
+            stack[name] = int(number)
+    if set(stack) != {RAW + call.name for call in calls}:
+        sys.exit("bindings/stack.txt: not the calls of bindings/calls.txt; tools/stack --write writes it")
+    return stack
+
+
+def check_boundary(calls):
+    """Fails unless the table and the exported functions of crates/boundary have the same names and parameters."""
+    source = open("crates/boundary/src/lib.rt", encoding="utf-8").read()
+    shape = r'#\[no_mangle\]\s*pub extern "C" fn puldeho_raw_(\w+)\((.*?)\) -> u64\n'
+    exported = {name: parameters(text) for name, text in re.findall(shape, source, re.S)}
+    if len(exported) != source.count("#[no_mangle]"):
+        sys.exit("crates/boundary/src/lib.rt: an exported function does not have the form that tools/bindings reads")
+    grid = [Parameter(letter, "u32") for letter in GRID]
+    table = {call.name: grid + call.parameters for call in calls}
+    for name in sorted(exported.keys() | table.keys()):
+        if exported.get(name) != table.get(name):
+            sys.exit("bindings/calls.txt: %s%s is not as in crates/boundary/src/lib.rt" % (RAW, name))
+
+
+def check_refusals(calls, refusals):
+    """Fails unless the refusals are those of crates/units, and each call names only such."""
+    source = open("crates/units/src/lib.rt", encoding="utf-8").read()
+    numbered = [(int(number), name) for name, number in re.findall(r"Refusal::(\w+) => (\d+),", source)]
+    if numbered != [(r.number, r.name) for r in refusals]:
+        sys.exit("bindings/refusals.txt: not as in crates/units/src/lib.rt")
+    for call in calls:
+        if not {int(number) for number in call.refusals.split()} <= {r.number for r in refusals}:
+            sys.exit("bindings/calls.txt: %s names an absent refusal" % call.name)
+
+
+def read_tables():
+    """All tables, each held to what it speaks of."""
+    calls = read_calls()
+    refusals, programs = read_refusals()
+    check_boundary(calls)
+    check_refusals(calls, refusals)
+    version = open("bindings/version.txt", encoding="utf-8").read().strip()
+    return Tables(calls, read_lists(calls), refusals, programs, read_stack(calls), version)
+
+
+# What the makers of the languages share.
+
+
+def constant(name):
+    """AirRange as AIR_RANGE."""
+    return re.sub(r"(?<=[a-z])(?=[A-Z])", "_", name).upper()
+
+
+def described(call):
+    """What a call does, for its comment: the work, what it writes, refusals, count."""
+    written = [p.name for p in call.parameters if is_written(p)]
+    count = "" if call.count is None else " %s: %s." % call.count
+    return "%s Writes %s. Refusals, in order: %s.%s" % (call.does, " and ".join(written) or "nothing", call.refusals, count)
+
+
+def in_terms(length, letter, cells):
+    """A length with the grid's letters as a language writes them, such as grid.w, and `cells` for c."""
+    written = lambda found: cells if found.group(0) == "c" else letter % found.group(0)
+    return re.sub(r"\b[wrknc]\b", written, length)
+
+
+def length_text(lent):
+    """A list's length and what stands in it, in words."""
+    whose = "" if lent.owner == "world" else " of a %s call" % lent.owner
+    return "The length of %s%s: %s. In it: %s." % (lent.name, whose, lent.length.upper(), lent.what)
+
+
+def wrapped(text, width, before):
+    """The text in lines of some width, each with something before it."""
+    return textwrap.fill(text, width, initial_indent=before, subsequent_indent=before, break_on_hyphens=False)
+
+
+def filled(template, parts):
+    """The text of a template with a part for each of its marks."""
+    text = open("bindings/make/" + template, encoding="utf-8").read()
+    for mark, part in parts.items():
+        if text.count("@%s@" % mark) == 0:
+            sys.exit("bindings/make/%s: no mark @%s@" % (template, mark))
+        text = text.replace("@%s@" % mark, part)
+    left = re.search(r"@[A-Z]+@", text)
+    if left:
+        sys.exit("bindings/make/%s: %s gets nothing" % (template, left.group(0)))
+    return text

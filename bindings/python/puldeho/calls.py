@@ -1,0 +1,149 @@
+# Made by tools/bindings from the tables of bindings/: not to be edited.
+"""Refusals, lengths and calls, as the tables have them."""
+import enum
+
+VERSION = "0.1.0"
+# The shared library of this version. Another version's functions may take other arguments.
+SONAME = "libpuldeho.so.0.1"
+
+
+class Refusal(enum.IntEnum):
+    """Why a call was refused."""
+
+    GRID_RANGE = 1
+    LENGTHS = 2
+    AIR_RANGE = 3
+    TOTALS = 4
+    INDEX = 5
+    EMISSION = 6
+    WITHDRAWAL = 7
+    FLUXES = 8
+    ZONAL = 9
+    MERIDIONAL = 10
+    TABLE = 11
+    REMAP = 12
+
+
+# The condition of each refusal, in words.
+CONDITIONS = {
+    Refusal.GRID_RANGE: "W, R, K or N is outside its range",
+    Refusal.LENGTHS: "a lent length is not the grid's",
+    Refusal.AIR_RANGE: "a cell's air is 0 or above 65,535",
+    Refusal.TOTALS: "a tracer's total is above 268,435,455",
+    Refusal.INDEX: "the tracer, cell, layer or row is absent",
+    Refusal.EMISSION: "the total would pass 268,435,455",
+    Refusal.WITHDRAWAL: "the cell has less than the amount",
+    Refusal.FLUXES: "a flux's size is above 1,048,560 (zonal) or 65,535 (meridional)",
+    Refusal.ZONAL: "no count from 1 to 16 serves",
+    Refusal.MERIDIONAL: "the substep is not allowed",
+    Refusal.TABLE: "the first pair is not (0, 0), the last is not (0, 65,536), an a is above 2,097,120, or a b is above 65,536",
+    Refusal.REMAP: "in some column the edges do not rise strictly, or a new layer exceeds 65,535",
+}
+
+# What to do about each refusal.
+REMEDIES = {
+    Refusal.GRID_RANGE: "give W from 4 to 72, R from 1 to 44, K from 1 to 32 and N from 1 to 8",
+    Refusal.LENGTHS: "take the lengths from the functions puldeho_.._length of the grid",
+    Refusal.AIR_RANGE: "choose the unit of air so that every cell has 1 to 65,535, or make layers of more even air",
+    Refusal.TOTALS: "choose a larger unit for that gas, so that its total stays below the limit with room for what is emitted",
+    Refusal.INDEX: "count from 0, and take cell numbers from puldeho_cell_number, puldeho_south_cap and puldeho_north_cap",
+    Refusal.EMISSION: "load the gas in a larger unit, or withdraw before emitting",
+    Refusal.WITHDRAWAL: "read the cell first, and withdraw at most what it has",
+    Refusal.FLUXES: "give fluxes in units of air moved during this step; a smaller time step makes them smaller",
+    Refusal.ZONAL: "make the step in several smaller ones; where a cell would end empty or too full, correct the fluxes, since no smaller step helps",
+    Refusal.MERIDIONAL: "make the step in several smaller ones; where a cell would end empty or too full, correct the fluxes, since no smaller step helps",
+    Refusal.TABLE: "give K + 1 pairs from the top down, the first 0, 0 and the last 0, 65,536",
+    Refusal.REMAP: "make neighbouring pairs differ by at least one unit of air in the column with the least air; with air in proportion to area use a = 0",
+}
+
+# The world's lists, in the order of the C struct.
+WORLD = ("air", "tracers")
+
+# The parameters of each proved function after the grid's four numbers, with their types in the library.
+SIGNATURES = {
+    "load": (("air", "&[u32]"), ("tracers", "&[u32]")),
+    "emission": (("air", "&[u32]"), ("tracers", "&mut [u32]"), ("tracer", "u32"), ("cell", "u32"), ("amount", "u32")),
+    "withdrawal": (("air", "&[u32]"), ("tracers", "&mut [u32]"), ("tracer", "u32"), ("cell", "u32"), ("amount", "u32")),
+    "zonal": (("air", "&mut [u32]"), ("tracers", "&mut [u32]"), ("layer", "u32"), ("row", "u32"), ("fluxes", "&[i32]")),
+    "meridional": (("air", "&mut [u32]"), ("tracers", "&mut [u32]"), ("layer", "u32"), ("fluxes", "&[i32]")),
+    "remap": (("air", "&mut [u32]"), ("tracers", "&mut [u32]"), ("table", "&[u32]")),
+    "total": (("air", "&[u32]"), ("tracers", "&[u32]"), ("tracer", "u32")),
+    "cell": (("air", "&[u32]"), ("tracers", "&[u32]"), ("tracer", "u32"), ("cell", "u32")),
+}
+
+
+class Lengths:
+    """How long the lists are that go with a grid."""
+
+    @property
+    def cells_in_layer(self):
+        """C, the cells of a layer: its R*W cells and the two caps."""
+        return 2 + self.r * self.w
+
+    @property
+    def air_length(self):
+        """The length of air: K*C. In it: the air of every cell; layer k starts at k*C."""
+        return self.k * self.cells_in_layer
+
+    @property
+    def tracers_length(self):
+        """The length of tracers: N*K*C. In it: the amounts of every tracer; tracer t starts at t*K*C."""
+        return self.n * self.k * self.cells_in_layer
+
+    @property
+    def zonal_fluxes_length(self):
+        """The length of fluxes of a zonal call: W. In it: flux i crosses the face from column i to column i +
+        1, the last to column 0; positive eastward."""
+        return self.w
+
+    @property
+    def meridional_fluxes_length(self):
+        """The length of fluxes of a meridional call: W*(R + 1). In it: flux g*W + i crosses between rows g -
+        1 and g in column i; row -1 is the south cap, row R the north cap; positive northward."""
+        return self.w * (self.r + 1)
+
+    @property
+    def remap_table_length(self):
+        """The length of table of a remap call: 2*(K + 1). In it: pair j is a at 2*j and b at 2*j + 1; edge j
+        = a + floor(b*P/65536), P the air of the column."""
+        return 2 * (self.k + 1)
+
+
+class Calls:
+    """The calls, each over the world's lists."""
+
+    def emission(self, tracer, cell, amount):
+        """Adds amount to one cell of one tracer. Cells are numbered over all layers. Refusals, in order: 1 2
+        3 4 5 6."""
+        self._make("emission", tracer, cell, amount)
+
+    def withdrawal(self, tracer, cell, amount):
+        """Takes amount from one cell of one tracer. Cells are numbered over all layers. Refusals, in order: 1
+        2 3 4 5 7."""
+        self._make("withdrawal", tracer, cell, amount)
+
+    def zonal(self, layer, row, fluxes):
+        """Sweeps one row of one layer by W fluxes, positive eastward. Returns the number of substeps, 1 to
+        16. Refusals, in order: 1 2 3 4 5 8 9."""
+        return self._make("zonal", layer, row, fluxes)
+
+    def meridional(self, layer, fluxes):
+        """Sweeps one layer by W*(R + 1) fluxes, positive northward. Returns the number of substeps, 1.
+        Refusals, in order: 1 2 3 4 5 8 10."""
+        return self._make("meridional", layer, fluxes)
+
+    def remap(self, table):
+        """Remaps all columns to the edges of a table of K + 1 pairs a, b, lent as 2*(K + 1) numbers. Returns
+        the pairs of an old and a new layer that share air, over all columns. Refusals, in order: 1 2 3 4 11
+        12."""
+        return self._make("remap", table)
+
+    def total(self, tracer):
+        """Reads the total of one tracer. Returns the total of the tracer. Refusals, in order: 1 2 3 4 5."""
+        return self._make("total", tracer)
+
+    def cell(self, tracer, cell):
+        """Reads one cell of one tracer. Cells are numbered over all layers. Returns the amount in the cell.
+        Refusals, in order: 1 2 3 4 5."""
+        return self._make("cell", tracer, cell)
+

@@ -1,0 +1,74 @@
+"""Numbers and lists as the library takes them: each number tested for its range, each list with its length."""
+import array
+import ctypes
+import operator
+
+# For each type of a list's numbers: its array code, the formats of a buffer that holds them, its ctypes type.
+NUMBERS = {"u32": ("I", ("I", "=I", "<I"), ctypes.c_uint32), "i32": ("i", ("i", "=i", "<i"), ctypes.c_int32)}
+NUMPY = {"u32": "numpy.uint32", "i32": "numpy.int32"}
+
+
+class Lent:
+    """A list lent to the library: where it is, how many numbers it has, and what must not be freed meanwhile."""
+
+    def __init__(self, block, length):
+        self.block, self.length = block, length
+        self.address = ctypes.addressof(block) if length else 0
+
+    @property
+    def pair(self):
+        """Pointer and length."""
+        return self.address, self.length
+
+
+def u32(name, value):
+    """A whole number from 0 to 4,294,967,295; ctypes would cut off any other without a word."""
+    number = operator.index(value)
+    if not 0 <= number <= 0xFFFFFFFF:
+        raise ValueError("%s: %d is not from 0 to 4294967295" % (name, number))
+    return number
+
+
+def owner(name, value, kind):
+    """The object whose memory is lent: the value itself if it has the buffer protocol, else an array with its numbers."""
+    try:
+        memoryview(value)
+        return value
+    except TypeError:
+        pass
+    try:
+        return array.array(NUMBERS[kind][0], value)
+    except (TypeError, OverflowError) as error:
+        raise type(error)("%s: %s" % (name, error)) from None
+
+
+def lent(name, value, kind):
+    """A list that is lent as it is: the numbers must be of 32 bits and lie side by side."""
+    numbers = kind[-4:-1]
+    view = memoryview(value)
+    _, formats, c_type = NUMBERS[numbers]
+    if view.format not in formats or view.itemsize != 4:
+        wanted = "32-bit %s numbers" % ("unsigned" if numbers == "u32" else "signed")
+        raise TypeError("%s: wants %s, such as a numpy array of %s, and has items of format '%s'" % (
+            name, wanted, NUMPY[numbers], view.format))
+    if not view.c_contiguous:
+        raise ValueError("%s: the numbers do not lie side by side; numpy.ascontiguousarray makes a copy that does" % name)
+    length = view.nbytes // 4
+    if kind.startswith("&mut") and view.readonly:
+        raise ValueError("%s: the calls change it, and it is read-only; give a copy" % name)
+    block = c_type * length
+    if length == 0:
+        return Lent(None, 0)
+    return Lent(block.from_buffer_copy(view) if view.readonly else block.from_buffer(value), length)
+
+
+def argument(name, value, kind):
+    """One of a call's own arguments: a number, or a list."""
+    if kind == "u32":
+        return u32(name, value)
+    return lent(name, owner(name, value, kind[-4:-1]), kind)
+
+
+def parts(one):
+    """An argument as the proved function takes it: a number, or pointer and length."""
+    return one.pair if isinstance(one, Lent) else (one,)

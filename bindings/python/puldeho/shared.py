@@ -1,0 +1,66 @@
+"""The shared library: where it is found, and the types of its functions."""
+import ctypes
+import functools
+import os
+
+from .calls import SIGNATURES, SONAME, WORLD
+
+HERE = os.path.dirname(os.path.abspath(__file__))
+
+
+class World(ctypes.Structure):
+    """struct puldeho_world."""
+
+    _fields_ = [(letter, ctypes.c_uint32) for letter in "wrkn"] + [
+        field for name in WORLD for field in ((name, ctypes.c_void_p), (name + "_length", ctypes.c_size_t))
+    ]
+
+
+def places():
+    """Where the library may be: as PULDEHO_LIBRARY says, installed (PREFIX/share/puldeho/python), in the repository, on the loader's path."""
+    if "PULDEHO_LIBRARY" in os.environ:
+        return [os.environ["PULDEHO_LIBRARY"]]
+    return [
+        os.path.join(HERE, "..", "..", "..", "..", "lib", SONAME),
+        os.path.join(HERE, "..", "..", "..", "target", "lib", SONAME),
+        SONAME,
+    ]
+
+
+@functools.lru_cache(maxsize=None)
+def library():
+    """The library, loaded once."""
+    for place in places():
+        try:
+            return ctypes.CDLL(place)
+        except OSError:
+            pass
+    raise OSError(
+        "%s is not found: tools/library builds it in the repository, tools/install PREFIX puts it under a prefix, "
+        "and PULDEHO_LIBRARY may name the file" % SONAME
+    )
+
+
+def types(parameters):
+    """The ctypes types of parameters: a list is a pointer and a length."""
+    for _, kind in parameters:
+        yield from [ctypes.c_uint32] if kind == "u32" else [ctypes.c_void_p, ctypes.c_size_t]
+
+
+@functools.lru_cache(maxsize=None)
+def raw(call):
+    """The proved function of a call, which returns refusal * 2^32 + count."""
+    function = getattr(library(), "puldeho_raw_" + call)
+    function.restype = ctypes.c_uint64
+    function.argtypes = [ctypes.c_uint32] * 4 + list(types(SIGNATURES[call]))
+    return function
+
+
+@functools.lru_cache(maxsize=None)
+def why(call):
+    """The function that says why a call is refused."""
+    function = getattr(library(), "puldeho_why_" + call)
+    own = [parameter for parameter in SIGNATURES[call] if parameter[0] not in WORLD]
+    function.restype = ctypes.c_int
+    function.argtypes = [ctypes.POINTER(World)] + list(types(own)) + [ctypes.c_char_p, ctypes.c_size_t]
+    return function

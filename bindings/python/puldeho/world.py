@@ -1,0 +1,106 @@
+"""The grid, the world over lent lists, and the exception of a refused call."""
+import collections
+import ctypes
+
+from . import lists, shared
+from .calls import CONDITIONS, REMEDIES, SIGNATURES, WORLD, Calls, Lengths, Refusal
+
+WHY_SIZE = 1024
+
+
+class Grid(Lengths, collections.namedtuple("Grid", "w r k n")):
+    """W columns round the globe (4 to 72), R rows from south to north (1 to 44), K layers from the top down
+    (1 to 32), N tracers (1 to 8). Columns, rows, layers, tracers and cells are counted from 0."""
+
+    __slots__ = ()
+
+    def __new__(cls, w, r, k, n):
+        return super().__new__(cls, *(lists.u32(name, value) for name, value in zip(cls._fields, (w, r, k, n))))
+
+    def _start(self, layer):
+        """The number of the first cell of a layer."""
+        if not 0 <= layer < self.k:
+            raise IndexError("layer %d is not from 0 to %d" % (layer, self.k - 1))
+        return layer * self.cells_in_layer
+
+    def cell_number(self, layer, row, column):
+        """The number of a cell over all layers: layer*C + 1 + row*W + column."""
+        if not 0 <= row < self.r:
+            raise IndexError("row %d is not from 0 to %d" % (row, self.r - 1))
+        if not 0 <= column < self.w:
+            raise IndexError("column %d is not from 0 to %d" % (column, self.w - 1))
+        return self._start(layer) + 1 + row * self.w + column
+
+    def south_cap(self, layer):
+        """The number of a layer's south cap: layer*C."""
+        return self._start(layer)
+
+    def north_cap(self, layer):
+        """The number of a layer's north cap: layer*C + C - 1."""
+        return self._start(layer) + self.cells_in_layer - 1
+
+
+class Refused(Exception):
+    """A call that was refused and changed nothing: its name, the refusal and its number, and why, in words."""
+
+    def __init__(self, call, refusal, why):
+        super().__init__(call, refusal, why)
+        self.call, self.refusal, self.why = call, refusal, why
+        self.number = int(refusal)
+
+    def __str__(self):
+        condition, remedy = CONDITIONS[self.refusal], REMEDIES[self.refusal]
+        return "%s refused with %d (%s). %s. What to do: %s." % (self.call, self.number, condition, self.why, remedy)
+
+
+class World(Calls):
+    """A world over air and tracers, made by a load; a load that is refused raises Refused.
+
+    Each list is anything with the buffer protocol that holds 32-bit unsigned numbers side by side and may be
+    written, such as a numpy array of uint32, and is used without a copy: the calls change it in place. A plain
+    list of numbers is copied; the copy is world.air or world.tracers. Do not write the lists while a call runs.
+    """
+
+    def __init__(self, grid, air, tracers):
+        self.grid = Grid(*grid)
+        given = dict(air=air, tracers=tracers)
+        kept = {name: lists.owner(name, value, "u32") for name, value in given.items()}
+        self._lists = {name: lists.lent(name, value, "&mut [u32]") for name, value in kept.items()}
+        self.air, self.tracers = kept["air"], kept["tracers"]
+        self._apart(self._lists)
+        self._make("load")
+
+    def __repr__(self):
+        return "World(%r)" % (self.grid,)
+
+    @staticmethod
+    def _apart(named):
+        """Fails if two lists share memory."""
+        spans = sorted((one.address, one.address + 4 * one.length, name) for name, one in named.items() if one.length)
+        for (_, end, name), (start, _, other) in zip(spans, spans[1:]):
+            if start < end:
+                raise ValueError("%s and %s share memory; give each an array of its own" % (name, other))
+
+    def _struct(self):
+        """The C struct of this world."""
+        return shared.World(*self.grid, *(part for name in WORLD for part in self._lists[name].pair))
+
+    def _make(self, call, *own):
+        """Makes a call. Gives its count, or raises Refused."""
+        parameters = SIGNATURES[call]
+        mine = [parameter for parameter in parameters if parameter[0] not in WORLD]
+        given = {name: lists.argument(name, value, kind) for (name, kind), value in zip(mine, own)}
+        named = dict(self._lists, **{name: one for name, one in given.items() if isinstance(one, lists.Lent)})
+        self._apart(named)
+        arguments = [part for name, _ in parameters for part in lists.parts(named.get(name, given.get(name)))]
+        returned = shared.raw(call)(*self.grid, *arguments)
+        if returned >> 32:
+            raise Refused(call, Refusal(returned >> 32), self._why(call, given))
+        return returned & 0xFFFFFFFF
+
+    def _why(self, call, given):
+        """Why the library refuses the call in this world, in words."""
+        text, world = ctypes.create_string_buffer(WHY_SIZE), self._struct()
+        own = [part for one in given.values() for part in lists.parts(one)]
+        shared.why(call)(ctypes.byref(world), *own, text, len(text))
+        return text.value.decode()
