@@ -134,29 +134,29 @@ static inline const char *puldeho_refusal_remedy(enum puldeho_refusal refusal)
     case PULDEHO_ACCEPTED:
         return "nothing: the call was made";
     case PULDEHO_GRID_RANGE:
-        return "give W from 4 to 72, R from 1 to 44, K from 1 to 32 and N from 1 to 8";
+        return "give W from 4 to 72, R from 1 to 44, K from 1 to 32 and N from 1 to 8, in this order";
     case PULDEHO_LENGTHS:
-        return "take the lengths from the functions puldeho_.._length of the grid";
+        return "take every length from the grid's length functions, and give lengths in numbers";
     case PULDEHO_AIR_RANGE:
-        return "choose the unit of air so that every cell has 1 to 65,535, or make layers of more even air";
+        return "choose the unit of air so that every cell has 1 to 65,535, with room for the changes within a step";
     case PULDEHO_TOTALS:
-        return "choose a larger unit for that gas, so that its total stays below the limit with room for what is emitted";
+        return "choose a larger unit for that gas, so that its total with all later emissions stays below the limit";
     case PULDEHO_INDEX:
-        return "count from 0, and take cell numbers from puldeho_cell_number, puldeho_south_cap and puldeho_north_cap";
+        return "count from 0, and take cell numbers from the grid's functions for cells and caps";
     case PULDEHO_EMISSION:
-        return "load the gas in a larger unit, or withdraw before emitting";
+        return "load the gas in a larger unit, with room for all emissions of the run";
     case PULDEHO_WITHDRAWAL:
         return "read the cell first, and withdraw at most what it has";
     case PULDEHO_FLUXES:
-        return "give fluxes in units of air moved during this step; a smaller time step makes them smaller";
+        return "give fluxes in units of air for this step, and divide the step if they are still too large";
     case PULDEHO_ZONAL:
-        return "make the step in several smaller ones; where a cell would end empty or too full, correct the fluxes, since no smaller step helps";
+        return "make the sweep as two or more, each with a part of the fluxes; if a cell would end with no air or too much, make the whole step (zonal and meridional) in parts, or make the meridional sweep first";
     case PULDEHO_MERIDIONAL:
-        return "make the step in several smaller ones; where a cell would end empty or too full, correct the fluxes, since no smaller step helps";
+        return "make the sweep as two or more, each with a part of the fluxes; if a cell would end with no air or too much, make the whole step (zonal and meridional) in parts, or make the zonal sweeps first";
     case PULDEHO_TABLE:
-        return "give K + 1 pairs from the top down, the first 0, 0 and the last 0, 65,536";
+        return "give K + 1 pairs a, b from the top down, with b in parts of 65,536, the first 0, 0 and the last 0, 65,536";
     case PULDEHO_REMAP:
-        return "make neighbouring pairs differ by at least one unit of air in the column with the least air; with air in proportion to area use a = 0";
+        return "use a = 0, and choose the b so that every layer gets 1 to 65,535 units in the column with the least air and in the one with the most";
     }
     return "compile the program anew, with the header of the library that it is linked with";
 }
@@ -238,7 +238,7 @@ static inline uint32_t puldeho_north_cap(struct puldeho_grid grid, uint32_t laye
 /* The world: the grid, and the lists that the caller keeps and lends to each call, with their lengths
  * in numbers. Later versions have further fields. Make it with puldeho_world_over, or by naming its
  * fields, as in {.grid = grid, .air = air, ..}: what is not set is 0 then, and stands for a value of
- * its own. Start with puldeho_load. */
+ * its own. Start with puldeho_load, and lend one struct to all calls: a copy of it is no second world. */
 struct puldeho_world {
     struct puldeho_grid grid;
     /* the air of every cell; layer k starts at k*C: K*C numbers */

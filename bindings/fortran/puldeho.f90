@@ -1,7 +1,7 @@
 ! Puldeho, the transport core of the tracer console, for Fortran 2003 and later: version 0.1.0.
 ! Made by tools/bindings from the tables of bindings/: not to be edited.
 !
-! To compile and link: gfortran puldeho.f90 program.f90 -lpuldeho
+! To compile and link: gfortran $(pkg-config --variable=fortran puldeho) program.f90 $(pkg-config --libs puldeho)
 !
 !     use puldeho
 !     type(puldeho_world) :: world
@@ -498,34 +498,37 @@ contains
     case (puldeho_accepted)
       text = "nothing: the call was made"
     case (puldeho_refusal_grid_range)
-      text = "give W from 4 to 72, R from 1 to 44, K from 1 to 32 and N from 1 to 8"
+      text = "give W from 4 to 72, R from 1 to 44, K from 1 to 32 and N from 1 to 8, in this order"
     case (puldeho_refusal_lengths)
-      text = "take the lengths from the functions puldeho_.._length of the grid"
+      text = "take every length from the grid's length functions, and give lengths in numbers"
     case (puldeho_refusal_air_range)
-      text = "choose the unit of air so that every cell has 1 to 65,535, or make layers of more even air"
+      text = "choose the unit of air so that every cell has 1 to 65,535, with room for the changes " // &
+          "within a step"
     case (puldeho_refusal_totals)
-      text = "choose a larger unit for that gas, so that its total stays below the limit with room for " // &
-          "what is emitted"
+      text = "choose a larger unit for that gas, so that its total with all later emissions stays below " // &
+          "the limit"
     case (puldeho_refusal_index)
-      text = "count from 0, and take cell numbers from puldeho_cell_number, puldeho_south_cap and " // &
-          "puldeho_north_cap"
+      text = "count from 0, and take cell numbers from the grid's functions for cells and caps"
     case (puldeho_refusal_emission)
-      text = "load the gas in a larger unit, or withdraw before emitting"
+      text = "load the gas in a larger unit, with room for all emissions of the run"
     case (puldeho_refusal_withdrawal)
       text = "read the cell first, and withdraw at most what it has"
     case (puldeho_refusal_fluxes)
-      text = "give fluxes in units of air moved during this step; a smaller time step makes them smaller"
+      text = "give fluxes in units of air for this step, and divide the step if they are still too large"
     case (puldeho_refusal_zonal)
-      text = "make the step in several smaller ones; where a cell would end empty or too full, correct " // &
-          "the fluxes, since no smaller step helps"
+      text = "make the sweep as two or more, each with a part of the fluxes; if a cell would end with no" // &
+          " air or too much, make the whole step (zonal and meridional) in parts, or make the " // &
+          "meridional sweep first"
     case (puldeho_refusal_meridional)
-      text = "make the step in several smaller ones; where a cell would end empty or too full, correct " // &
-          "the fluxes, since no smaller step helps"
+      text = "make the sweep as two or more, each with a part of the fluxes; if a cell would end with no" // &
+          " air or too much, make the whole step (zonal and meridional) in parts, or make the zonal " // &
+          "sweeps first"
     case (puldeho_refusal_table)
-      text = "give K + 1 pairs from the top down, the first 0, 0 and the last 0, 65,536"
+      text = "give K + 1 pairs a, b from the top down, with b in parts of 65,536, the first 0, 0 and the" // &
+          " last 0, 65,536"
     case (puldeho_refusal_remap)
-      text = "make neighbouring pairs differ by at least one unit of air in the column with the least " // &
-          "air; with air in proportion to area use a = 0"
+      text = "use a = 0, and choose the b so that every layer gets 1 to 65,535 units in the column with " // &
+          "the least air and in the one with the most"
     case default
       text = "compile the program anew, with the module of the library that it is linked with"
     end select

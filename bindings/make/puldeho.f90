@@ -1,7 +1,7 @@
 ! Puldeho, the transport core of the tracer console, for Fortran 2003 and later: version @VERSION@.
 ! @MADE@
 !
-! To compile and link: gfortran puldeho.f90 program.f90 -lpuldeho
+! To compile and link: gfortran $(pkg-config --variable=fortran puldeho) program.f90 $(pkg-config --libs puldeho)
 !
 !     use puldeho
 !     type(puldeho_world) :: world

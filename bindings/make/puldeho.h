@@ -127,7 +127,7 @@ static inline uint32_t puldeho_north_cap(struct puldeho_grid grid, uint32_t laye
 /* The world: the grid, and the lists that the caller keeps and lends to each call, with their lengths
  * in numbers. Later versions have further fields. Make it with puldeho_world_over, or by naming its
  * fields, as in {.grid = grid, .air = air, ..}: what is not set is 0 then, and stands for a value of
- * its own. Start with puldeho_load. */
+ * its own. Start with puldeho_load, and lend one struct to all calls: a copy of it is no second world. */
 struct puldeho_world {
     struct puldeho_grid grid;
 @FIELDS@

@@ -1,0 +1,155 @@
+"""The package over plain buffers: case P, what is taken and what is not, refusals as exceptions."""
+import array
+import copy
+import pickle
+import unittest
+
+import puldeho
+
+AIR = [100] * 6
+TRACERS = [0, 0, 100, 200, 100, 0]
+GRID = puldeho.Grid(w=4, r=1, k=1, n=1)
+
+
+def world():
+    return puldeho.World(GRID, array.array("I", AIR), array.array("I", TRACERS))
+
+
+class CaseP(unittest.TestCase):
+    def test_in_place(self):
+        air, tracers = array.array("I", AIR), array.array("I", TRACERS)
+        one = puldeho.World(GRID, air, tracers)
+        self.assertIs(one.air, air)
+        self.assertEqual(one.zonal(0, 0, [0, 50, 0, 0]), 1)
+        self.assertEqual(one.total(0), 400)
+        self.assertEqual(one.cell(0, 3), 262)
+        self.assertEqual(air.tolist(), [100, 100, 50, 150, 100, 100])
+        self.assertEqual(tracers.tolist(), [0, 0, 38, 262, 100, 0])
+
+    def test_a_list_is_copied(self):
+        air, tracers = list(AIR), list(TRACERS)
+        one = puldeho.World(GRID, air, tracers)
+        one.zonal(0, 0, (0, 50, 0, 0))
+        self.assertEqual(tracers, TRACERS)
+        self.assertEqual(one.tracers.tolist(), [0, 0, 38, 262, 100, 0])
+
+    def test_every_call(self):
+        one = world()
+        self.assertIsNone(one.emission(0, 5, 7))
+        self.assertIsNone(one.withdrawal(0, 3, 200))
+        self.assertEqual(one.meridional(0, array.array("i", [1, 0, 0, 0, 0, 0, 0, -10])), 1)
+        self.assertEqual(one.remap([0, 0, 0, 65536]), 6)
+        self.assertEqual(one.air.tolist(), [99, 101, 100, 100, 110, 90])
+
+    def test_any_buffer(self):
+        one = puldeho.World(GRID, memoryview(array.array("I", AIR)), memoryview(array.array("I", TRACERS)))
+        self.assertEqual(one.total(0), 400)
+        fluxes = memoryview(array.array("i", [0, 50, 0, 0]).tobytes()).cast("i")
+        self.assertTrue(fluxes.readonly)
+        self.assertEqual(one.zonal(0, 0, fluxes), 1)
+
+
+class NotTaken(unittest.TestCase):
+    def test_other_numbers(self):
+        with self.assertRaisesRegex(TypeError, "air: wants 32-bit unsigned numbers.*'Q'"):
+            puldeho.World(GRID, array.array("Q", AIR), array.array("I", TRACERS))
+        with self.assertRaisesRegex(TypeError, "fluxes: wants 32-bit signed numbers.*numpy.int32.*'I'"):
+            world().zonal(0, 0, array.array("I", [0, 50, 0, 0]))
+        with self.assertRaisesRegex(TypeError, "fluxes: "):
+            world().zonal(0, 0, [0, 50.5, 0, 0])
+
+    def test_numbers_out_of_range(self):
+        for cell, amount in ((-1, 1), (2**32, 1), (3, -1), (3, 2**32)):
+            with self.assertRaisesRegex(ValueError, "is not from 0 to 4294967295"):
+                world().emission(0, cell, amount)
+        with self.assertRaises(TypeError):
+            world().emission(0, 3.0, 1)
+        with self.assertRaisesRegex(OverflowError, "fluxes: "):
+            world().zonal(0, 0, [0, 2**31, 0, 0])
+        with self.assertRaisesRegex(OverflowError, "air: "):
+            puldeho.World(GRID, [-1] * 6, TRACERS)
+
+    def test_read_only_world(self):
+        air = memoryview(array.array("I", AIR).tobytes()).cast("I")
+        with self.assertRaisesRegex(ValueError, "air: the calls change it"):
+            puldeho.World(GRID, air, TRACERS)
+
+    def test_not_side_by_side(self):
+        every_other = memoryview(array.array("I", [100] * 12))[::2]
+        with self.assertRaisesRegex(ValueError, "air: the numbers do not lie side by side"):
+            puldeho.World(GRID, every_other, TRACERS)
+
+    def test_shared_memory(self):
+        both = memoryview(array.array("I", [100] * 11))
+        with self.assertRaisesRegex(ValueError, "air and tracers share memory"):
+            puldeho.World(GRID, both[:6], both[5:])
+        one = world()
+        with self.assertRaisesRegex(ValueError, "share memory"):
+            one.zonal(0, 0, memoryview(one.air).cast("B").cast("i")[:4])
+
+
+class Refusals(unittest.TestCase):
+    def refused(self, number, call, *arguments):
+        one = world()
+        with self.assertRaises(puldeho.Refused) as caught:
+            getattr(one, call)(*arguments)
+        self.assertEqual((caught.exception.number, caught.exception.call), (number, call))
+        self.assertEqual(caught.exception.refusal, puldeho.Refusal(number))
+        self.assertEqual((one.air.tolist(), one.tracers.tolist()), (AIR, TRACERS))
+        return caught.exception
+
+    def test_numbers(self):
+        self.refused(2, "zonal", 0, 0, [0, 50, 0])
+        self.refused(5, "emission", 0, 6, 1)
+        self.refused(6, "emission", 0, 0, 2**32 - 1)
+        self.refused(7, "withdrawal", 0, 3, 201)
+        self.refused(8, "zonal", 0, 0, [0, -(2**31), 0, 0])
+        self.refused(9, "zonal", 0, 0, [0, 100, 0, 0])
+        self.refused(10, "meridional", 0, [100, 0, 0, 0, 0, 0, 0, 0])
+        self.refused(11, "remap", [0, 0, 0, 65535])
+
+    def test_words(self):
+        refused = self.refused(9, "zonal", 0, 0, [0, 100, 0, 0])
+        self.assertIn("zonal refused with 9 (no count from 1 to 16 serves)", str(refused))
+        self.assertIn("column 1", refused.why)
+        self.assertIn(refused.why, str(refused))
+
+    def test_copied_and_pickled(self):
+        refused = self.refused(5, "total", 1)
+        for again in (copy.copy(refused), pickle.loads(pickle.dumps(refused))):
+            self.assertEqual((str(again), again.number), (str(refused), 5))
+
+    def test_load(self):
+        for grid, air, tracers, number in (
+            ((3, 1, 1, 1), AIR, TRACERS, 1),
+            (GRID, [], [], 2),
+            (GRID, AIR[1:], TRACERS, 2),
+            (GRID, [0] + AIR[1:], TRACERS, 3),
+            (GRID, AIR, [2**28] + [0] * 5, 4),
+        ):
+            with self.assertRaises(puldeho.Refused) as caught:
+                puldeho.World(puldeho.Grid(*grid), air, tracers)
+            self.assertEqual((caught.exception.number, caught.exception.call), (number, "load"))
+
+
+class Grids(unittest.TestCase):
+    def test_numbers(self):
+        grid = puldeho.Grid(w=6, r=3, k=2, n=5)
+        lengths = (grid.cells_in_layer, grid.air_length, grid.tracers_length)
+        self.assertEqual(lengths, (20, 40, 200))
+        self.assertEqual((grid.zonal_fluxes_length, grid.meridional_fluxes_length, grid.remap_table_length), (6, 24, 6))
+        self.assertEqual((grid.cell_number(1, 2, 5), grid.south_cap(1), grid.north_cap(1)), (38, 20, 39))
+
+    def test_absent_places(self):
+        grid = puldeho.Grid(w=6, r=3, k=2, n=5)
+        for place in ((2, 0, 0), (0, 3, 0), (0, 0, 6), (-1, 0, 0), (0, -1, 0), (0, 0, -1)):
+            with self.assertRaises(IndexError):
+                grid.cell_number(*place)
+        with self.assertRaises(IndexError):
+            grid.north_cap(2)
+        with self.assertRaises(ValueError):
+            puldeho.Grid(w=-4, r=1, k=1, n=1)
+
+
+if __name__ == "__main__":
+    unittest.main()
