@@ -1,1 +1,798 @@
+/*
+ * Why the library refuses a call in a world, in words: the calls puldeho_why_NAME of puldeho.h.
+ * Plain C, not proved. It only reads; what it needs beside the lent lists is on the stack.
+ *
+ * One function stands here for each place of document 01's table of refusals. Each call lists its places in that
+ * order, and the walk stops at the first that refuses. A place relies on the places before it in the list: lists are
+ * read only where their lengths have passed, fluxes are passed on only where their sizes have.
+ * A later refusal is one more place, a later call one more list of places.
+ */
+#include <stdarg.h>
+#include <stdbool.h>
+#include <stdint.h>
+#include <stdio.h>
+#include <string.h>
+
 #include "puldeho.h"
+
+enum {
+    MOST_COLUMNS = 72,
+    MOST_ROWS = 44,
+    MOST_LAYERS = 32,
+    MOST_TRACERS = 8,
+    MOST_CELLS = 2 + MOST_ROWS * MOST_COLUMNS, /* of a layer */
+    MOST_AIR = 65535,
+    MOST_TOTAL = 268435455,
+    MOST_ZONAL_FLUX = 1048560,
+    MOST_MERIDIONAL_FLUX = 65535,
+    MOST_SUBSTEPS = 16,
+    MOST_SWEEPS = 64, /* the most parts of a time step that are tried here */
+    MOST_A = 2097120,
+    SCALE = 65536 /* b of the last pair */
+};
+
+/* The words so far. With size 0 nothing is written; else length is below size and a 0 stands after the words. */
+struct text {
+    char *start;
+    size_t size, length;
+};
+
+/* A call with its own arguments; what it does not have is 0. */
+struct call {
+    const struct puldeho_world *world;
+    uint32_t tracer, cell, amount, layer, row;
+    const int32_t *fluxes;
+    const uint32_t *table;
+    size_t length; /* of fluxes or table */
+};
+
+/* A place gives its refusal and says why, or gives PULDEHO_ACCEPTED and says nothing. */
+typedef enum puldeho_refusal place(const struct call *call, struct text *text);
+
+/* Words. */
+
+#ifdef __GNUC__
+__attribute__((format(printf, 2, 3)))
+#endif
+static void say(struct text *text, const char *format, ...)
+{
+    if (text->size == 0)
+        return;
+    va_list values;
+    va_start(values, format);
+    int words = vsnprintf(text->start + text->length, text->size - text->length, format, values);
+    va_end(values);
+    if (words < 0)
+        return;
+    text->length += (size_t)words;
+    if (text->length > text->size - 1)
+        text->length = text->size - 1;
+}
+
+/* A cell numbered over all layers. */
+static void say_cell(struct text *text, struct puldeho_grid grid, size_t cell)
+{
+    size_t layer = cell / puldeho_cells_in_layer(grid), place = cell % puldeho_cells_in_layer(grid);
+    if (place == 0)
+        say(text, "cell %zu (south cap of layer %zu)", cell, layer);
+    else if (place == puldeho_cells_in_layer(grid) - 1)
+        say(text, "cell %zu (north cap of layer %zu)", cell, layer);
+    else
+        say(text, "cell %zu (layer %zu, row %zu, column %zu)", cell, layer, (place - 1) / grid.w, (place - 1) % grid.w);
+}
+
+/* How far an amount of air is outside 1 to 65535; 0 if it is inside. */
+static long long beyond(long long air)
+{
+    return air < 1 ? 1 - air : air > MOST_AIR ? air - MOST_AIR : 0;
+}
+
+/* 1: the grid. */
+
+static enum puldeho_refusal grid_place(const struct call *call, struct text *text)
+{
+    const struct puldeho_grid grid = call->world->grid;
+    const struct {
+        const char *name;
+        uint32_t value, least, most;
+    } numbers[] = {
+        {"W (columns)", grid.w, 4, MOST_COLUMNS},
+        {"R (rows)", grid.r, 1, MOST_ROWS},
+        {"K (layers)", grid.k, 1, MOST_LAYERS},
+        {"N (tracers)", grid.n, 1, MOST_TRACERS},
+    };
+    size_t wrong = 0;
+    for (size_t i = 0; i < 4; i++)
+        if (numbers[i].value < numbers[i].least || numbers[i].value > numbers[i].most)
+            say(text, "%s%s is %lld, it must be %lld to %lld", wrong++ == 0 ? "" : "; ", numbers[i].name,
+                (long long)numbers[i].value, (long long)numbers[i].least, (long long)numbers[i].most);
+    return wrong == 0 ? PULDEHO_ACCEPTED : PULDEHO_GRID_RANGE;
+}
+
+/* 2: the lengths. */
+
+static enum puldeho_refusal length(struct text *text, const char *list, size_t has, size_t wants, const char *formula)
+{
+    if (has == wants)
+        return PULDEHO_ACCEPTED;
+    say(text, "%s has length %zu, the grid wants %zu (%s)%s", list, has, wants, formula,
+        has == 4 * wants ? "; a length counts numbers, not bytes" : "");
+    return PULDEHO_LENGTHS;
+}
+
+static enum puldeho_refusal air_length_place(const struct call *call, struct text *text)
+{
+    const struct puldeho_world *world = call->world;
+    return length(text, "air", world->air_length, puldeho_air_length(world->grid), "K*C, where C = 2 + R*W");
+}
+
+static enum puldeho_refusal tracers_length_place(const struct call *call, struct text *text)
+{
+    const struct puldeho_world *world = call->world;
+    return length(text, "tracers", world->tracers_length, puldeho_tracers_length(world->grid),
+                  "N*K*C, where C = 2 + R*W");
+}
+
+static enum puldeho_refusal zonal_length_place(const struct call *call, struct text *text)
+{
+    return length(text, "fluxes", call->length, puldeho_zonal_fluxes_length(call->world->grid), "W");
+}
+
+static enum puldeho_refusal meridional_length_place(const struct call *call, struct text *text)
+{
+    return length(text, "fluxes", call->length, puldeho_meridional_fluxes_length(call->world->grid), "W*(R + 1)");
+}
+
+static enum puldeho_refusal table_length_place(const struct call *call, struct text *text)
+{
+    return length(text, "table", call->length, puldeho_remap_table_length(call->world->grid),
+                  "2*(K + 1), an a and a b for each edge");
+}
+
+/* 3: air. */
+
+static enum puldeho_refusal air_place(const struct call *call, struct text *text)
+{
+    const struct puldeho_world *world = call->world;
+    size_t wrong = 0, first = 0;
+    for (size_t cell = 0; cell < world->air_length; cell++)
+        if (beyond(world->air[cell]) > 0 && wrong++ == 0)
+            first = cell;
+    if (wrong == 0)
+        return PULDEHO_ACCEPTED;
+    say_cell(text, world->grid, first);
+    say(text, " has air %lld, it must be 1 to 65535; cells outside: %zu of %zu", (long long)world->air[first],
+        wrong, world->air_length);
+    return PULDEHO_AIR_RANGE;
+}
+
+/* 4: the totals. */
+
+/* At most 101,440 amounts of 32 bits. */
+static long long total_of(const struct puldeho_world *world, size_t tracer)
+{
+    size_t cells = world->air_length;
+    long long total = 0;
+    for (size_t cell = 0; cell < cells; cell++)
+        total += world->tracers[tracer * cells + cell];
+    return total;
+}
+
+static enum puldeho_refusal totals_place(const struct call *call, struct text *text)
+{
+    for (size_t tracer = 0; tracer < call->world->grid.n; tracer++) {
+        long long total = total_of(call->world, tracer);
+        if (total > MOST_TOTAL) {
+            say(text, "tracer %zu has the total %lld, the limit is %d", tracer, total, MOST_TOTAL);
+            return PULDEHO_TOTALS;
+        }
+    }
+    return PULDEHO_ACCEPTED;
+}
+
+/* 5: the indices. */
+
+static enum puldeho_refusal index_of(
+    struct text *text, const char *name, uint32_t value, size_t count, const char *order)
+{
+    if (value < count)
+        return PULDEHO_ACCEPTED;
+    say(text, "there is no %s %lld, it may ", name, (long long)value);
+    if (count == 1)
+        say(text, "only be 0");
+    else
+        say(text, "be 0 to %zu%s", count - 1, order);
+    return PULDEHO_INDEX;
+}
+
+static enum puldeho_refusal tracer_place(const struct call *call, struct text *text)
+{
+    return index_of(text, "tracer", call->tracer, call->world->grid.n, "");
+}
+
+static enum puldeho_refusal cell_place(const struct call *call, struct text *text)
+{
+    enum puldeho_refusal refusal = index_of(text, "cell", call->cell, call->world->air_length, " over all layers");
+    if (refusal != PULDEHO_ACCEPTED && call->cell == PULDEHO_NO_CELL)
+        say(text, "; this number stands for an absent layer, row or column (PULDEHO_NO_CELL)");
+    return refusal;
+}
+
+static enum puldeho_refusal layer_place(const struct call *call, struct text *text)
+{
+    return index_of(text, "layer", call->layer, call->world->grid.k, " from the top down");
+}
+
+static enum puldeho_refusal row_place(const struct call *call, struct text *text)
+{
+    return index_of(text, "row", call->row, call->world->grid.r, " from south to north");
+}
+
+/* 6 and 7: emission and withdrawal. */
+
+static enum puldeho_refusal emission_place(const struct call *call, struct text *text)
+{
+    long long total = total_of(call->world, call->tracer);
+    if (total + call->amount <= MOST_TOTAL)
+        return PULDEHO_ACCEPTED;
+    say(text, "tracer %lld has the total %lld and the amount is %lld; the limit is %d, so at most %lld can be emitted",
+        (long long)call->tracer, total, (long long)call->amount, MOST_TOTAL, MOST_TOTAL - total);
+    return PULDEHO_EMISSION;
+}
+
+static enum puldeho_refusal withdrawal_place(const struct call *call, struct text *text)
+{
+    const struct puldeho_world *world = call->world;
+    uint32_t has = world->tracers[call->tracer * world->air_length + call->cell];
+    if (call->amount <= has)
+        return PULDEHO_ACCEPTED;
+    say_cell(text, world->grid, call->cell);
+    say(text, " has %lld of tracer %lld, the amount is %lld", (long long)has, (long long)call->tracer,
+        (long long)call->amount);
+    return PULDEHO_WITHDRAWAL;
+}
+
+/* The cells and faces of a sweep: a row closed round the globe (zonal), or a layer with its caps (meridional). */
+struct mesh {
+    const struct puldeho_world *world;
+    const int32_t *fluxes;
+    bool caps;
+    const char *name;
+    size_t columns, faces, cells;
+    size_t first; /* its first cell, numbered over all layers */
+    long long most_flux;
+    int most_substeps;
+};
+
+static struct mesh row_of(const struct call *call)
+{
+    struct puldeho_grid grid = call->world->grid;
+    size_t first = call->layer * puldeho_cells_in_layer(grid) + 1 + (size_t)call->row * grid.w;
+    struct mesh row = {call->world, call->fluxes, false, "row", grid.w, grid.w, grid.w, first,
+                       MOST_ZONAL_FLUX, MOST_SUBSTEPS};
+    return row;
+}
+
+static struct mesh layer_of(const struct call *call)
+{
+    struct puldeho_grid grid = call->world->grid;
+    size_t first = call->layer * puldeho_cells_in_layer(grid);
+    struct mesh layer = {call->world, call->fluxes, true, "layer", grid.w, puldeho_meridional_fluxes_length(grid),
+                         puldeho_cells_in_layer(grid), first, MOST_MERIDIONAL_FLUX, 1};
+    return layer;
+}
+
+/* The cell west or south of a face. */
+static size_t low_side(const struct mesh *mesh, size_t face)
+{
+    if (!mesh->caps)
+        return face;
+    return face < mesh->columns ? 0 : 1 + face - mesh->columns;
+}
+
+/* The cell east or north of a face. */
+static size_t high_side(const struct mesh *mesh, size_t face)
+{
+    if (!mesh->caps)
+        return face + 1 == mesh->columns ? 0 : face + 1;
+    return 1 + face < mesh->cells ? 1 + face : mesh->cells - 1;
+}
+
+static bool is_cap(const struct mesh *mesh, size_t cell)
+{
+    return mesh->caps && (cell == 0 || cell == mesh->cells - 1);
+}
+
+/* 8: the fluxes. */
+
+static void say_face(struct text *text, const struct mesh *mesh, size_t face)
+{
+    size_t g = face / mesh->columns, column = face % mesh->columns;
+    if (!mesh->caps)
+        say(text, "flux %zu (between columns %zu and %zu)", face, face, high_side(mesh, face));
+    else if (g == 0)
+        say(text, "flux %zu (column %zu, between the south cap and row 0)", face, column);
+    else if (g == mesh->world->grid.r)
+        say(text, "flux %zu (column %zu, between row %zu and the north cap)", face, column, g - 1);
+    else
+        say(text, "flux %zu (column %zu, between rows %zu and %zu)", face, column, g - 1, g);
+}
+
+/* -2^31 has the size 2^31. */
+static long long size_of(int32_t flux)
+{
+    return flux < 0 ? -(long long)flux : flux;
+}
+
+static enum puldeho_refusal fluxes_of(const struct mesh *mesh, struct text *text)
+{
+    size_t wrong = 0, first = 0;
+    for (size_t face = 0; face < mesh->faces; face++)
+        if (size_of(mesh->fluxes[face]) > mesh->most_flux && wrong++ == 0)
+            first = face;
+    if (wrong == 0)
+        return PULDEHO_ACCEPTED;
+    say_face(text, mesh, first);
+    say(text, " is %lld, its size must be at most %lld; fluxes above: %zu of %zu", (long long)mesh->fluxes[first],
+        mesh->most_flux, wrong, mesh->faces);
+    return PULDEHO_FLUXES;
+}
+
+static enum puldeho_refusal zonal_fluxes_place(const struct call *call, struct text *text)
+{
+    struct mesh row = row_of(call);
+    return fluxes_of(&row, text);
+}
+
+static enum puldeho_refusal meridional_fluxes_place(const struct call *call, struct text *text)
+{
+    struct mesh layer = layer_of(call);
+    return fluxes_of(&layer, text);
+}
+
+/* 9 and 10: substeps and sweeps, in air alone. Air and outflow are below 5,000,000 in size: 72 faces of 65,535. */
+
+/* One substep: each cell's air before it, its outflow, its air afterwards. */
+struct substep {
+    int32_t air[MOST_CELLS], outflow[MOST_CELLS], after[MOST_CELLS];
+};
+
+/* Part s of count of a flux. */
+static int32_t part_of(int32_t flux, int s, int count)
+{
+    int32_t size = flux < 0 ? -flux : flux;
+    int32_t part = s * size / count - (s - 1) * size / count;
+    return flux < 0 ? -part : part;
+}
+
+static void world_air(const struct mesh *mesh, int32_t *air)
+{
+    for (size_t cell = 0; cell < mesh->cells; cell++)
+        air[cell] = (int32_t)mesh->world->air[mesh->first + cell];
+}
+
+/* Outflow and air afterwards, by part s of count of the fluxes. */
+static void make_substep(const struct mesh *mesh, int s, int count, struct substep *step)
+{
+    memset(step->outflow, 0, mesh->cells * sizeof step->outflow[0]);
+    memcpy(step->after, step->air, mesh->cells * sizeof step->air[0]);
+    for (size_t face = 0; face < mesh->faces; face++) {
+        size_t low = low_side(mesh, face), high = high_side(mesh, face);
+        int32_t flux = part_of(mesh->fluxes[face], s, count);
+        step->after[low] -= flux;
+        step->after[high] += flux;
+        if (flux > 0)
+            step->outflow[low] += flux;
+        else
+            step->outflow[high] -= flux;
+    }
+}
+
+static bool refuses(const struct substep *step, size_t cell)
+{
+    return step->outflow[cell] > step->air[cell] || beyond(step->after[cell]) > 0;
+}
+
+static bool allowed(const struct mesh *mesh, const struct substep *step)
+{
+    for (size_t cell = 0; cell < mesh->cells; cell++)
+        if (refuses(step, cell))
+            return false;
+    return true;
+}
+
+/* Makes substeps from step->air: the number of the first that is not allowed, or 0 if the count serves. */
+static int refused_substep(const struct mesh *mesh, int count, struct substep *step)
+{
+    for (int s = 1; s <= count; s++) {
+        make_substep(mesh, s, count, step);
+        if (!allowed(mesh, step))
+            return s;
+        memcpy(step->air, step->after, mesh->cells * sizeof step->air[0]);
+    }
+    return 0;
+}
+
+/* One sweep of `air` with the smallest count that serves; false if none does. `step` is room for its substeps. */
+static bool sweep(const struct mesh *mesh, int32_t *air, struct substep *step)
+{
+    for (int count = 1; count <= mesh->most_substeps; count++) {
+        memcpy(step->air, air, mesh->cells * sizeof air[0]);
+        if (refused_substep(mesh, count, step) == 0) {
+            memcpy(air, step->air, mesh->cells * sizeof air[0]);
+            return true;
+        }
+    }
+    return false;
+}
+
+static void cut_fluxes(const struct mesh *mesh, int s, int sweeps, int32_t *parts)
+{
+    for (size_t face = 0; face < mesh->faces; face++)
+        parts[face] = part_of(mesh->fluxes[face], s, sweeps);
+}
+
+/* Whether the fluxes are accepted as so many sweeps of their parts, one after another. One sweep is the call. */
+static bool accepted_as(const struct mesh *mesh, int sweeps, struct substep *step)
+{
+    int32_t air[MOST_CELLS], parts[MOST_COLUMNS * (MOST_ROWS + 1)];
+    struct mesh cut = *mesh;
+    cut.fluxes = parts;
+    world_air(mesh, air);
+    for (int s = 1; s <= sweeps; s++) {
+        cut_fluxes(mesh, s, sweeps, parts);
+        if (!sweep(&cut, air, step))
+            return false;
+    }
+    return true;
+}
+
+/* The smallest number of sweeps from 2 on that serves, or 0 if none up to 64 does. */
+static int smallest_cut(const struct mesh *mesh, struct substep *step)
+{
+    for (int sweeps = 2; sweeps <= MOST_SWEEPS; sweeps++)
+        if (accepted_as(mesh, sweeps, step))
+            return sweeps;
+    return 0;
+}
+
+/* All of the fluxes at once. */
+static void whole_sweep(const struct mesh *mesh, struct substep *whole)
+{
+    world_air(mesh, whole->air);
+    make_substep(mesh, 1, 1, whole);
+}
+
+/* What a substep or the whole sweep does in the cells. */
+struct tally {
+    size_t refusing, low, high; /* cells that refuse; that end with 0 or less; that end above 65535 */
+    size_t worst_end;           /* the cell that ends farthest outside 1 to 65535 */
+    size_t worst_outflow;       /* the cell with the greatest outflow for its air */
+};
+
+static struct tally tally_of(const struct mesh *mesh, const struct substep *step)
+{
+    struct tally tally = {0, 0, 0, 0, 0};
+    for (size_t cell = 0; cell < mesh->cells; cell++) {
+        size_t out = tally.worst_outflow;
+        tally.refusing += refuses(step, cell);
+        tally.low += step->after[cell] < 1;
+        tally.high += step->after[cell] > MOST_AIR;
+        if (beyond(step->after[cell]) > beyond(step->after[tally.worst_end]))
+            tally.worst_end = cell;
+        if ((long long)step->outflow[cell] * step->air[out] > (long long)step->outflow[out] * step->air[cell])
+            tally.worst_outflow = cell;
+    }
+    return tally;
+}
+
+/* A cell in the whole sweep, with its Courant number cut to hundredths. */
+static void say_courant(struct text *text, const struct mesh *mesh, const struct substep *whole, size_t cell)
+{
+    long long air = whole->air[cell], outflow = whole->outflow[cell], hundredths = 100 * outflow / air;
+    say_cell(text, mesh->world->grid, mesh->first + cell);
+    say(text, " has air %lld, its outflow %lld", air, outflow);
+    if (is_cap(mesh, cell))
+        say(text, ", the sum through its %zu faces,", mesh->columns);
+    say(text, " is %lld.%02lld times its air, and it would end with air %lld", hundredths / 100, hundredths % 100,
+        (long long)whole->after[cell]);
+}
+
+/* Some cell would end outside 1 to 65535. Parts of the fluxes sum to the fluxes, so that they end there too. */
+static void say_end(struct text *text, const struct mesh *mesh, const struct substep *whole, struct tally tally)
+{
+    say_courant(text, mesh, whole, tally.worst_end);
+    say(text, "; of the %s's %zu cells", mesh->name, mesh->cells);
+    if (mesh->most_substeps == 1)
+        say(text, " %zu would be refused,", tally.refusing);
+    say(text, " %zu would end with 0 or less and %zu above 65535", tally.low, tally.high);
+    say(text, "; no %ssmaller time step helps, as parts of the same fluxes end at the same air "
+        "(unless other sweeps between them bring the air back): the fluxes themselves must %s less at this cell",
+        mesh->most_substeps == 1 ? "" : "count and no ", whole->after[tally.worst_end] < 1 ? "diverge" : "converge");
+}
+
+/* Whether a smaller time step helps. Only asked if every cell ends in 1 to 65535. */
+static void say_cut(struct text *text, const struct mesh *mesh, struct substep *step)
+{
+    int m = smallest_cut(mesh, step);
+    say(text, "; every cell of the %s would end within 1 to 65535, ", mesh->name);
+    if (m == 0)
+        say(text, "but cut into any number of sweeps from 2 to %d the fluxes are refused too "
+            "(more were not tried): smaller fluxes or more air are needed", MOST_SWEEPS);
+    else
+        say(text, "so a smaller time step helps: cut into %d sweeps, all are accepted "
+            "(part s of %d of a flux F is floor(s*|F|/%d) - floor((s - 1)*|F|/%d), with the sign of F)", m, m, m, m);
+}
+
+/*
+ * Every cell would end inside. Then in each refused substep it is an outflow that exceeds the air: a cell of two faces,
+ * whose parts are rounded alike, has air between start and end after every substep, and a layer has one substep.
+ */
+static void say_outflow(struct text *text, const struct mesh *mesh, struct substep *step)
+{
+    world_air(mesh, step->air);
+    int s = refused_substep(mesh, mesh->most_substeps, step);
+    struct tally tally = tally_of(mesh, step);
+    size_t cell = tally.worst_outflow;
+    long long outflow = step->outflow[cell], air = step->air[cell];
+    whole_sweep(mesh, step);
+    say_courant(text, mesh, step, cell);
+    if (mesh->most_substeps == 1)
+        say(text, "; of the layer's %zu cells %zu would be refused, with more outflow than air", mesh->cells,
+            tally.refusing);
+    else
+        say(text, "; with %d substeps it refuses first in substep %d, where its outflow is %lld and its air %lld",
+            mesh->most_substeps, s, outflow, air);
+}
+
+/* The place of a sweep. */
+static enum puldeho_refusal sweep_of(const struct mesh *mesh, enum puldeho_refusal refusal, struct text *text)
+{
+    struct substep step;
+    if (accepted_as(mesh, 1, &step))
+        return PULDEHO_ACCEPTED;
+    whole_sweep(mesh, &step);
+    struct tally tally = tally_of(mesh, &step);
+    if (tally.low + tally.high > 0) {
+        say_end(text, mesh, &step, tally);
+    } else {
+        say_outflow(text, mesh, &step);
+        say_cut(text, mesh, &step);
+    }
+    return refusal;
+}
+
+static enum puldeho_refusal zonal_place(const struct call *call, struct text *text)
+{
+    struct mesh row = row_of(call);
+    return sweep_of(&row, PULDEHO_ZONAL, text);
+}
+
+static enum puldeho_refusal meridional_place(const struct call *call, struct text *text)
+{
+    struct mesh layer = layer_of(call);
+    return sweep_of(&layer, PULDEHO_MERIDIONAL, text);
+}
+
+/* 11: the table. */
+
+/* What is wrong with pair j of K + 1, or null. */
+static const char *wrong_pair(const uint32_t *pair, size_t j, size_t k)
+{
+    if (j == 0 && (pair[0] != 0 || pair[1] != 0))
+        return "the first pair must be (0, 0)";
+    if (j == k && (pair[0] != 0 || pair[1] != SCALE))
+        return "the last pair must be (0, 65536)";
+    if (pair[0] > MOST_A)
+        return "an a may be 0 to 2097120";
+    if (pair[1] > SCALE)
+        return "a b may be 0 to 65536";
+    return NULL;
+}
+
+static enum puldeho_refusal table_place(const struct call *call, struct text *text)
+{
+    size_t k = call->world->grid.k;
+    for (size_t j = 0; j <= k; j++) {
+        const uint32_t *pair = call->table + 2 * j;
+        const char *wrong = wrong_pair(pair, j, k);
+        if (wrong != NULL) {
+            say(text, "pair %zu of 0 to %zu is (%lld, %lld), %s", j, k, (long long)pair[0], (long long)pair[1], wrong);
+            return PULDEHO_TABLE;
+        }
+    }
+    return PULDEHO_ACCEPTED;
+}
+
+/* 12: the remap. */
+
+/* New layer j of the column over a cell of a layer: the air between edge j and edge j + 1. */
+struct new_layer {
+    size_t column, j;
+    long long p, upper, lower;
+};
+
+static long long new_air(struct new_layer layer)
+{
+    return layer.lower - layer.upper;
+}
+
+static long long column_air(const struct puldeho_world *world, size_t column)
+{
+    long long p = 0;
+    for (size_t layer = 0; layer < world->grid.k; layer++)
+        p += world->air[layer * puldeho_cells_in_layer(world->grid) + column];
+    return p;
+}
+
+static long long edge_of(const uint32_t *table, size_t j, long long p)
+{
+    return table[2 * j] + table[2 * j + 1] * p / SCALE;
+}
+
+/* The new layer of a column that is farthest outside 1 to 65535, or any if none is. */
+static struct new_layer worst_layer(const struct call *call, size_t column)
+{
+    long long p = column_air(call->world, column);
+    struct new_layer worst = {column, 0, p, edge_of(call->table, 0, p), edge_of(call->table, 1, p)};
+    for (size_t j = 1; j < call->world->grid.k; j++) {
+        struct new_layer layer = {column, j, p, edge_of(call->table, j, p), edge_of(call->table, j + 1, p)};
+        if (beyond(new_air(layer)) > beyond(new_air(worst)))
+            worst = layer;
+    }
+    return worst;
+}
+
+/* Farther outside, or as far in a column of less air. */
+static bool is_worse(struct new_layer layer, struct new_layer than)
+{
+    long long one = beyond(new_air(layer)), other = beyond(new_air(than));
+    return one > other || (one == other && layer.p < than.p);
+}
+
+static void say_column(struct text *text, struct puldeho_grid grid, size_t column)
+{
+    if (column == 0)
+        say(text, "in the column of the south cap");
+    else if (column == puldeho_cells_in_layer(grid) - 1)
+        say(text, "in the column of the north cap");
+    else
+        say(text, "in the column at row %zu, column %zu", (column - 1) / grid.w, (column - 1) % grid.w);
+}
+
+/* The least change of b that is sure to give a layer one unit of air: (1 - change of a)*65536/P, rounded up. */
+static long long sure_change(long long change_of_a, long long p)
+{
+    long long wanted = (1 - change_of_a) * SCALE;
+    return wanted > 0 ? (wanted + p - 1) / p : -(-wanted / p);
+}
+
+static void say_remedy(struct text *text, const uint32_t *table, struct new_layer layer)
+{
+    const uint32_t *pair = table + 2 * layer.j;
+    long long a = (long long)pair[2] - pair[0], b = (long long)pair[3] - pair[1], sure = sure_change(a, layer.p);
+    say(text, "; from pair %zu to pair %zu a changes by %lld and b by %lld", layer.j, layer.j + 1, a, b);
+    if (new_air(layer) > MOST_AIR)
+        say(text, ": a layer above 65535 needs smaller changes here, more layers or less air");
+    else if (sure > SCALE)
+        say(text, ": an a is an amount of air, the same in every column; here it falls by P or more, so no b serves");
+    else
+        say(text, ": a change of b by %lld or more is sure to give one unit of air "
+            "(65536/P of b for each unit; an a is an amount of air, the same in every column)", sure);
+}
+
+static enum puldeho_refusal remap_place(const struct call *call, struct text *text)
+{
+    struct puldeho_grid grid = call->world->grid;
+    struct new_layer worst = worst_layer(call, 0);
+    size_t wrong = 0;
+    for (size_t column = 0; column < puldeho_cells_in_layer(grid); column++) {
+        struct new_layer layer = worst_layer(call, column);
+        wrong += beyond(new_air(layer)) > 0;
+        if (is_worse(layer, worst))
+            worst = layer;
+    }
+    if (wrong == 0)
+        return PULDEHO_ACCEPTED;
+    say_column(text, grid, worst.column);
+    say(text, " (air sum P = %lld) edge %zu is %lld and edge %zu is %lld, so new layer %zu would have air %lld, "
+        "it must be 1 to 65535; columns refused: %zu of %zu", worst.p, worst.j, worst.upper, worst.j + 1,
+        worst.lower, worst.j, new_air(worst), wrong, puldeho_cells_in_layer(grid));
+    say_remedy(text, call->table, worst);
+    return PULDEHO_REMAP;
+}
+
+/* The places of each call, in order. */
+
+static place *const load_places[] = {
+    grid_place, air_length_place, tracers_length_place, air_place, totals_place, NULL};
+static place *const emission_places[] = {
+    grid_place, air_length_place, tracers_length_place, air_place, totals_place,
+    tracer_place, cell_place, emission_place, NULL};
+static place *const withdrawal_places[] = {
+    grid_place, air_length_place, tracers_length_place, air_place, totals_place,
+    tracer_place, cell_place, withdrawal_place, NULL};
+static place *const zonal_places[] = {
+    grid_place, air_length_place, tracers_length_place, zonal_length_place, air_place, totals_place,
+    layer_place, row_place, zonal_fluxes_place, zonal_place, NULL};
+static place *const meridional_places[] = {
+    grid_place, air_length_place, tracers_length_place, meridional_length_place, air_place, totals_place,
+    layer_place, meridional_fluxes_place, meridional_place, NULL};
+static place *const remap_places[] = {
+    grid_place, air_length_place, tracers_length_place, table_length_place, air_place, totals_place,
+    table_place, remap_place, NULL};
+static place *const total_places[] = {
+    grid_place, air_length_place, tracers_length_place, air_place, totals_place, tracer_place, NULL};
+static place *const cell_places[] = {
+    grid_place, air_length_place, tracers_length_place, air_place, totals_place, tracer_place, cell_place, NULL};
+
+/* Every text fits in PULDEHO_WHY_SIZE, so that no more is asked of vsnprintf. */
+static enum puldeho_refusal first_refusal(const struct call *call, place *const *places, char *start, size_t size)
+{
+    struct text text = {start, start == NULL ? 0 : size < PULDEHO_WHY_SIZE ? size : PULDEHO_WHY_SIZE, 0};
+    for (; *places != NULL; places++) {
+        enum puldeho_refusal refusal = (*places)(call, &text);
+        if (refusal != PULDEHO_ACCEPTED)
+            return refusal;
+    }
+    say(&text, "the call would be accepted");
+    return PULDEHO_ACCEPTED;
+}
+
+/* The calls. */
+
+enum puldeho_refusal puldeho_why_load(const struct puldeho_world *world, char *text, size_t size)
+{
+    struct call call = {.world = world};
+    return first_refusal(&call, load_places, text, size);
+}
+
+enum puldeho_refusal puldeho_why_emission(
+    const struct puldeho_world *world, uint32_t tracer, uint32_t cell, uint32_t amount, char *text, size_t size)
+{
+    struct call call = {.world = world, .tracer = tracer, .cell = cell, .amount = amount};
+    return first_refusal(&call, emission_places, text, size);
+}
+
+enum puldeho_refusal puldeho_why_withdrawal(
+    const struct puldeho_world *world, uint32_t tracer, uint32_t cell, uint32_t amount, char *text, size_t size)
+{
+    struct call call = {.world = world, .tracer = tracer, .cell = cell, .amount = amount};
+    return first_refusal(&call, withdrawal_places, text, size);
+}
+
+enum puldeho_refusal puldeho_why_zonal(
+    const struct puldeho_world *world, uint32_t layer, uint32_t row, const int32_t *fluxes, size_t fluxes_length,
+    char *text, size_t size)
+{
+    struct call call = {.world = world, .layer = layer, .row = row, .fluxes = fluxes, .length = fluxes_length};
+    return first_refusal(&call, zonal_places, text, size);
+}
+
+enum puldeho_refusal puldeho_why_meridional(
+    const struct puldeho_world *world, uint32_t layer, const int32_t *fluxes, size_t fluxes_length,
+    char *text, size_t size)
+{
+    struct call call = {.world = world, .layer = layer, .fluxes = fluxes, .length = fluxes_length};
+    return first_refusal(&call, meridional_places, text, size);
+}
+
+enum puldeho_refusal puldeho_why_remap(
+    const struct puldeho_world *world, const uint32_t *table, size_t table_length, char *text, size_t size)
+{
+    struct call call = {.world = world, .table = table, .length = table_length};
+    return first_refusal(&call, remap_places, text, size);
+}
+
+enum puldeho_refusal puldeho_why_total(const struct puldeho_world *world, uint32_t tracer, char *text, size_t size)
+{
+    struct call call = {.world = world, .tracer = tracer};
+    return first_refusal(&call, total_places, text, size);
+}
+
+enum puldeho_refusal puldeho_why_cell(
+    const struct puldeho_world *world, uint32_t tracer, uint32_t cell, char *text, size_t size)
+{
+    struct call call = {.world = world, .tracer = tracer, .cell = cell};
+    return first_refusal(&call, cell_places, text, size);
+}

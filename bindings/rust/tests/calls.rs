@@ -183,7 +183,7 @@ fn a_refusal_says_its_number_and_condition() {
     let refusal = raw::load(narrow, &AIR, &TRACERS).unwrap_err();
     assert_eq!(
         refusal.to_string(),
-        "refusal 1: W, R, K or N is outside its range; give W from 4 to 72, R from 1 to 44, K from 1 to 32 and N from 1 to 8"
+        "refusal 1: W, R, K or N is outside its range; give W from 4 to 72, R from 1 to 44, K from 1 to 32 and N from 1 to 8, in this order"
     );
     assert_eq!(
         Refusal::ALL.map(|r| r as u32),

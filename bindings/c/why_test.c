@@ -1,0 +1,658 @@
+/*
+ * Tests why.c beside the library: exact texts for every refusal, then seeded calls in small worlds.
+ * Prints one line; the exit status is 1 if anything differs.
+ */
+#include <stdbool.h>
+#include <stdio.h>
+#include <stdlib.h>
+#include <string.h>
+
+#include "puldeho.h"
+
+enum { CALLS = 12000, MOST_LIST = 256, MOST_REFUSAL = 12 };
+
+enum name { LOAD, EMISSION, WITHDRAWAL, ZONAL, MERIDIONAL, REMAP, TOTAL, CELL, NAMES };
+
+/* A call with its own arguments. */
+struct request {
+    enum name name;
+    uint32_t tracer, cell, amount, layer, row;
+    int32_t fluxes[MOST_LIST];
+    uint32_t table[MOST_LIST];
+    size_t length;
+};
+
+static int differences = 0;
+static unsigned long reached[MOST_REFUSAL + 1];
+static unsigned long ends[2], cuts[2], uncut[2]; /* texts of zonal and of meridional sweeps */
+
+static void differs(const char *what, const char *text)
+{
+    if (differences++ < 20)
+        printf("%s: \"%s\"\n", what, text);
+}
+
+/* Calls of why.c and of the library. A list is lent in memory of its own length, so that a read beyond it is seen. */
+
+static void *lend(const void *list, size_t bytes)
+{
+    void *lent = bytes == 0 ? NULL : malloc(bytes);
+    if (bytes != 0 && lent == NULL)
+        abort();
+    if (bytes != 0)
+        memcpy(lent, list, bytes);
+    return lent;
+}
+
+static enum puldeho_refusal why(const struct puldeho_world *world, const struct request *r, char *text, size_t size)
+{
+    int32_t *fluxes = lend(r->fluxes, r->length * sizeof *fluxes);
+    uint32_t *table = lend(r->table, r->length * sizeof *table);
+    enum puldeho_refusal refusal = PULDEHO_ACCEPTED;
+    switch (r->name) {
+    case LOAD: refusal = puldeho_why_load(world, text, size); break;
+    case EMISSION: refusal = puldeho_why_emission(world, r->tracer, r->cell, r->amount, text, size); break;
+    case WITHDRAWAL: refusal = puldeho_why_withdrawal(world, r->tracer, r->cell, r->amount, text, size); break;
+    case ZONAL: refusal = puldeho_why_zonal(world, r->layer, r->row, fluxes, r->length, text, size); break;
+    case MERIDIONAL: refusal = puldeho_why_meridional(world, r->layer, fluxes, r->length, text, size); break;
+    case REMAP: refusal = puldeho_why_remap(world, table, r->length, text, size); break;
+    case TOTAL: refusal = puldeho_why_total(world, r->tracer, text, size); break;
+    default: refusal = puldeho_why_cell(world, r->tracer, r->cell, text, size); break;
+    }
+    free(fluxes);
+    free(table);
+    return refusal;
+}
+
+static enum puldeho_refusal library(struct puldeho_world *world, const struct request *r)
+{
+    switch (r->name) {
+    case LOAD: return puldeho_load(world);
+    case EMISSION: return puldeho_emission(world, r->tracer, r->cell, r->amount);
+    case WITHDRAWAL: return puldeho_withdrawal(world, r->tracer, r->cell, r->amount);
+    case ZONAL: return puldeho_zonal(world, r->layer, r->row, r->fluxes, r->length, NULL);
+    case MERIDIONAL: return puldeho_meridional(world, r->layer, r->fluxes, r->length, NULL);
+    case REMAP: return puldeho_remap(world, r->table, r->length, NULL);
+    case TOTAL: return puldeho_total(world, r->tracer, NULL);
+    default: return puldeho_cell(world, r->tracer, r->cell, NULL);
+    }
+}
+
+static struct puldeho_world copy_of(const struct puldeho_world *world)
+{
+    struct puldeho_world copy = *world;
+    copy.air = lend(world->air, world->air_length * sizeof *world->air);
+    copy.tracers = lend(world->tracers, world->tracers_length * sizeof *world->tracers);
+    return copy;
+}
+
+static void drop(struct puldeho_world *world)
+{
+    free(world->air);
+    free(world->tracers);
+}
+
+static bool same(const struct puldeho_world *one, const struct puldeho_world *other)
+{
+    return (one->air_length == 0 || memcmp(one->air, other->air, one->air_length * sizeof *one->air) == 0)
+        && (one->tracers_length == 0
+            || memcmp(one->tracers, other->tracers, one->tracers_length * sizeof *one->tracers) == 0);
+}
+
+/* What the text of a refused sweep says, held to the library. */
+
+/* Whether the library accepts the fluxes as m sweeps of their parts, one after another. */
+static bool accepted_as(const struct puldeho_world *world, const struct request *whole, long long m)
+{
+    struct puldeho_world copy = copy_of(world);
+    struct request part = *whole;
+    bool accepted = true;
+    for (long long s = 1; s <= m && accepted; s++) {
+        for (size_t i = 0; i < whole->length; i++) {
+            long long flux = whole->fluxes[i], size = flux < 0 ? -flux : flux;
+            long long cut = s * size / m - (s - 1) * size / m;
+            part.fluxes[i] = (int32_t)(flux < 0 ? -cut : cut);
+        }
+        accepted = library(&copy, &part) == PULDEHO_ACCEPTED;
+    }
+    drop(&copy);
+    return accepted;
+}
+
+/* The air with which a cell of the world ends, written cell by cell and not face by face. */
+static long long end_of(const struct puldeho_world *world, const struct request *r, size_t cell)
+{
+    size_t w = world->grid.w, c = 2 + world->grid.r * w, place = cell % c;
+    long long air = world->air[cell];
+    if (r->name == ZONAL) {
+        size_t i = (place - 1) % w;
+        return air + r->fluxes[(i + w - 1) % w] - r->fluxes[i];
+    }
+    if (place != 0 && place != c - 1)
+        return air + r->fluxes[place - 1] - r->fluxes[place - 1 + w];
+    for (size_t i = 0; i < w; i++)
+        air += place == 0 ? -(long long)r->fluxes[i] : r->fluxes[world->grid.r * w + i];
+    return air;
+}
+
+/* How many cells of the sweep end with 0 or less, and above 65535. */
+static void count_ends(const struct puldeho_world *world, const struct request *r, size_t *low, size_t *high)
+{
+    size_t w = world->grid.w, c = 2 + world->grid.r * w;
+    size_t first = r->layer * c + (r->name == ZONAL ? 1 + r->row * w : 0);
+    size_t cells = r->name == ZONAL ? w : c;
+    *low = *high = 0;
+    for (size_t cell = first; cell < first + cells; cell++) {
+        *low += end_of(world, r, cell) < 1;
+        *high += end_of(world, r, cell) > 65535;
+    }
+}
+
+/* The number after some words of the text, or -1. */
+static long long number_after(const char *text, const char *words)
+{
+    const char *found = strstr(text, words);
+    return found == NULL ? -1 : strtoll(found + strlen(words), NULL, 10);
+}
+
+static void check_end(const struct puldeho_world *world, const struct request *r, const char *text)
+{
+    size_t low, high;
+    char counts[100];
+    count_ends(world, r, &low, &high);
+    snprintf(counts, sizeof counts, " %zu would end with 0 or less and %zu above 65535;", low, high);
+    if (low + high == 0 || strstr(text, counts) == NULL)
+        differs("cells that end outside", text);
+    for (long long m = 1; m <= 64; m += m < 8 ? 1 : 7)
+        if (accepted_as(world, r, m))
+            differs("accepted although a cell ends outside", text);
+}
+
+static void check_cut(const struct puldeho_world *world, const struct request *r, const char *text)
+{
+    size_t low, high;
+    long long m = number_after(text, "helps: cut into ");
+    count_ends(world, r, &low, &high);
+    if (low + high > 0 || strstr(text, "; every cell of the ") == NULL)
+        differs("a cell ends outside", text);
+    if (r->name == ZONAL && number_after(text, "where its outflow is ") <= number_after(text, " and its air "))
+        differs("the substep's outflow", text);
+    if (m >= 0) {
+        if (m < 2 || m > 64 || !accepted_as(world, r, m) || accepted_as(world, r, m - 1))
+            differs("number of sweeps", text);
+        cuts[r->name == MERIDIONAL]++;
+        return;
+    }
+    for (m = 2; m <= 64; m++)
+        if (accepted_as(world, r, m))
+            differs("some number of sweeps serves", text);
+    uncut[r->name == MERIDIONAL]++;
+}
+
+static void check_sweep(const struct puldeho_world *world, const struct request *r, const char *text)
+{
+    size_t cell = (size_t)number_after(text, "cell ");
+    if (number_after(text, " has air ") != world->air[cell]
+        || number_after(text, "would end with air ") != end_of(world, r, cell))
+        differs("the cell of a sweep", text);
+    if (strstr(text, "smaller time step helps, as") == NULL) {
+        check_cut(world, r, text);
+    } else {
+        check_end(world, r, text);
+        ends[r->name == MERIDIONAL]++;
+    }
+}
+
+/* With the change of b that the text calls sure, the new layer has air. */
+static void check_remap(const struct puldeho_world *world, const struct request *r, const char *text)
+{
+    long long j = number_after(text, "from pair "), sure = number_after(text, "a change of b by ");
+    long long p = number_after(text, "P = "), c = 2 + (long long)world->grid.r * world->grid.w, columns = 0;
+    if (strstr(text, "a change of b by ") != NULL) {
+        const uint32_t *pair = r->table + 2 * j;
+        long long upper = pair[0] + pair[1] * p / 65536, lower = pair[2] + (pair[1] + sure) * p / 65536;
+        if (lower <= upper || (long long)pair[3] - pair[1] >= sure)
+            differs("a sure change of b", text);
+    }
+    for (long long column = 0; column < c; column++) {
+        long long sum = 0, wrong = 0;
+        for (long long k = 0; k < world->grid.k; k++)
+            sum += world->air[k * c + column];
+        for (long long k = 0; k < world->grid.k; k++) {
+            long long air = r->table[2 * k + 2] + r->table[2 * k + 3] * sum / 65536;
+            air -= r->table[2 * k] + r->table[2 * k + 1] * sum / 65536;
+            wrong += air < 1 || air > 65535;
+        }
+        columns += wrong > 0;
+    }
+    char counts[100];
+    snprintf(counts, sizeof counts, "columns refused: %lld of %lld;", columns, c);
+    if (strstr(text, counts) == NULL)
+        differs("columns that are refused", text);
+}
+
+/* One call: why.c beside the library, and the text in a small size. */
+
+static void check_size(const struct puldeho_world *world, const struct request *r, const char *text, size_t size)
+{
+    char small[PULDEHO_WHY_SIZE + 8];
+    size_t length = strlen(text), cut = size == 0 ? 0 : size - 1 < length ? size - 1 : length;
+    memset(small, '#', sizeof small);
+    why(world, r, small, size);
+    if (memcmp(small, text, cut) != 0 || (size != 0 && small[cut] != 0))
+        differs("text in a small size", text);
+    for (size_t i = size; i < sizeof small; i++)
+        if (small[i] != '#')
+            differs("written beyond the size", text);
+    if (length >= PULDEHO_WHY_SIZE - 1)
+        differs("too long a text", text);
+}
+
+static void check_call(const struct puldeho_world *world, const struct request *r, size_t size)
+{
+    char text[PULDEHO_WHY_SIZE];
+    struct puldeho_world before = copy_of(world), copy = copy_of(world);
+    enum puldeho_refusal refusal = why(world, r, text, sizeof text);
+    reached[refusal]++;
+    if (refusal != library(&copy, r))
+        differs("another refusal", text);
+    if (refusal != why(world, r, NULL, size))
+        differs("another refusal without a text", text);
+    if ((refusal == PULDEHO_ACCEPTED) != (strcmp(text, "the call would be accepted") == 0))
+        differs("accepted or not", text);
+    if (refusal == PULDEHO_ZONAL || refusal == PULDEHO_MERIDIONAL)
+        check_sweep(world, r, text);
+    if (refusal == PULDEHO_REMAP)
+        check_remap(world, r, text);
+    check_size(world, r, text, size);
+    if (!same(world, &before))
+        differs("the world was changed", text);
+    drop(&before);
+    drop(&copy);
+}
+
+/* Seeded numbers. */
+
+static uint64_t seed = 20240611;
+
+static uint32_t any(void)
+{
+    seed ^= seed << 13;
+    seed ^= seed >> 7;
+    seed ^= seed << 17;
+    return (uint32_t)(seed >> 32);
+}
+
+static uint32_t from_to(uint32_t least, uint32_t most)
+{
+    return least + any() % (most - least + 1);
+}
+
+static bool one_in(uint32_t times)
+{
+    return any() % times == 0;
+}
+
+static int32_t about(uint32_t size)
+{
+    return (int32_t)from_to(0, 2 * size) - (int32_t)size;
+}
+
+static uint32_t wild(void)
+{
+    static const uint32_t numbers[] = {0, 1, 65535, 65536, 268435455, 268435456, 2147483648u, 4294967295u};
+    return one_in(2) ? any() : numbers[any() % 8];
+}
+
+static struct puldeho_grid any_grid(void)
+{
+    static const uint32_t outside[] = {0, 3, 73, 45, 33, 9, 65536, 4294967295u};
+    struct puldeho_grid grid;
+    uint32_t *const numbers[] = {&grid.w, &grid.r, &grid.k, &grid.n};
+    grid.w = from_to(4, 7);
+    grid.r = from_to(1, 3);
+    grid.k = from_to(1, 4);
+    grid.n = from_to(1, 3);
+    if (one_in(25))
+        *numbers[any() % 4] = outside[any() % 8];
+    return grid;
+}
+
+/* The length that the grid wants, now and then another; never more than fits here. */
+static size_t any_length(size_t wanted, size_t most)
+{
+    size_t length = wanted;
+    if (one_in(40))
+        length = one_in(2) ? 0 : one_in(2) ? wanted + 1 : wanted - 1;
+    return length < most ? length : most;
+}
+
+static void fill_air(struct puldeho_world *world, uint32_t *scale)
+{
+    static const uint32_t scales[] = {3, 20, 100, 3000, 65535};
+    uint32_t most = scales[any() % 5], least = one_in(2) ? 1 : 1 + most / 2;
+    for (size_t i = 0; i < world->air_length; i++)
+        world->air[i] = from_to(least, most);
+    if (world->air_length > 0 && one_in(25))
+        world->air[any() % world->air_length] = wild();
+    *scale = most;
+}
+
+static void fill_tracers(struct puldeho_world *world)
+{
+    size_t cells = world->air_length + 1;
+    for (size_t i = 0; i < world->tracers_length; i++)
+        world->tracers[i] = from_to(0, (uint32_t)(268435455 / cells));
+    if (world->tracers_length > 0 && one_in(12))
+        world->tracers[any() % world->tracers_length] = wild();
+}
+
+/* An index below the count, now and then another. */
+static uint32_t any_index(uint32_t count)
+{
+    if (one_in(25))
+        return one_in(2) ? count : wild();
+    return count == 0 ? 0 : any() % count;
+}
+
+/* What is on the edge of a refusal, or anything. */
+static uint32_t any_amount(const struct puldeho_world *world, const struct request *r)
+{
+    size_t cells = world->air_length, cell = r->tracer * cells + r->cell;
+    uint64_t total = 0;
+    if (one_in(4) || r->tracer >= 8 || r->cell >= cells || cell >= world->tracers_length)
+        return wild();
+    for (size_t i = 0; i < cells && r->tracer * cells + i < world->tracers_length; i++)
+        total += world->tracers[r->tracer * cells + i];
+    return (uint32_t)(r->name == EMISSION ? 268435455 - total : world->tracers[cell]) + from_to(0, 2) - 1;
+}
+
+/* A flow through the whole row or column of about so many times the air, and small differences. */
+static void fill_fluxes(struct request *r, uint32_t w, uint32_t scale)
+{
+    uint32_t times = one_in(2) ? from_to(1, 60) : one_in(2) ? from_to(1, 2000) : 1;
+    uint32_t most = r->name == ZONAL ? 1048560 : 65535;
+    uint32_t flow = scale * times / (r->name == ZONAL ? 1 : 20) % (most + 1), small = one_in(3) ? 0 : scale / 3;
+    bool round = one_in(3);
+    for (size_t i = 0; i < r->length; i++) {
+        int32_t along = (int32_t)(i % w % 2 == 0 || r->name == ZONAL ? flow : -(int64_t)flow);
+        r->fluxes[i] = along + about(round ? 0 : small);
+        if (one_in(600))
+            r->fluxes[i] = one_in(2) ? (int32_t)(any() - 2147483647 - 1) : -(int32_t)most - about(1);
+    }
+}
+
+static void fill_table(struct request *r, uint32_t k, uint32_t scale)
+{
+    bool hybrid = one_in(3), wide = one_in(3);
+    for (size_t j = 0; j < r->length / 2; j++) {
+        int64_t b = 65536 * (int64_t)j / (k == 0 ? 1 : k) + (one_in(2) ? 0 : about(wide ? 60000 : 9000));
+        bool end = j == 0 || j == k;
+        r->table[2 * j] = end || !hybrid ? 0 : from_to(0, 2 * scale);
+        r->table[2 * j + 1] = (uint32_t)(j == 0 ? 0 : j >= k || b > 65536 ? 65536 : b < 0 ? 0 : b);
+    }
+    if (r->length > 0 && one_in(12))
+        r->table[any() % r->length] = one_in(2) ? 2097121 : wild();
+}
+
+static void any_request(const struct puldeho_world *world, uint32_t scale, struct request *r)
+{
+    struct puldeho_grid grid = world->grid;
+    size_t wanted = 0;
+    r->name = (enum name)(any() % NAMES);
+    if (one_in(2))
+        r->name = one_in(2) ? ZONAL : one_in(2) ? MERIDIONAL : REMAP;
+    if (r->name == ZONAL)
+        wanted = puldeho_zonal_fluxes_length(grid);
+    if (r->name == MERIDIONAL)
+        wanted = puldeho_meridional_fluxes_length(grid);
+    if (r->name == REMAP)
+        wanted = puldeho_remap_table_length(grid);
+    r->length = any_length(wanted, MOST_LIST);
+    r->tracer = any_index(grid.n);
+    r->cell = any_index((uint32_t)world->air_length);
+    r->layer = any_index(grid.k);
+    r->row = any_index(grid.r);
+    r->amount = any_amount(world, r);
+    if (r->name == REMAP)
+        fill_table(r, grid.k, scale);
+    else
+        fill_fluxes(r, grid.w == 0 ? 1 : grid.w, scale);
+}
+
+static void seeded_call(void)
+{
+    uint32_t air[MOST_LIST], tracers[3 * MOST_LIST], scale;
+    struct puldeho_grid grid = any_grid();
+    size_t air_length = any_length(puldeho_air_length(grid), MOST_LIST);
+    size_t tracers_length = any_length(puldeho_tracers_length(grid), 3 * MOST_LIST);
+    struct puldeho_world world = puldeho_world_over(grid, air, air_length, tracers, tracers_length);
+    static struct request r;
+    fill_air(&world, &scale);
+    fill_tracers(&world);
+    any_request(&world, scale, &r);
+    struct puldeho_world lent = copy_of(&world);
+    check_call(&lent, &r, one_in(2) ? from_to(0, 60) : from_to(0, PULDEHO_WHY_SIZE));
+    drop(&lent);
+}
+
+/* Exact texts. The lists have the grid's lengths unless a case gives others. */
+
+struct fixed {
+    struct puldeho_grid grid;
+    uint32_t air[16], tracers[16];
+    size_t air_length, tracers_length;
+    struct request r;
+    enum puldeho_refusal refusal;
+    const char *text;
+};
+
+#define SMALL .grid = {4, 1, 1, 1}
+#define TWO_LAYERS .grid = {4, 1, 2, 1}
+#define TWO_ROWS .grid = {4, 2, 1, 1}
+#define AIR_9 .air = {9, 9, 9, 9, 9, 9, 9, 9, 9, 9, 9, 9}
+#define AIR_100 .air = {100, 100, 100, 100, 100, 100}
+#define CASE_P SMALL, AIR_100, .tracers = {0, 0, 100, 200, 100, 0}
+#define LISTED(...) {__VA_ARGS__}
+#define SWEEP_ROW(...) .r = {.name = ZONAL, .length = 4, .fluxes = LISTED(__VA_ARGS__)}
+#define SWEEP_LAYER(...) .r = {.name = MERIDIONAL, .length = 8, .fluxes = LISTED(__VA_ARGS__)}
+#define REMAP_TWO(...) .r = {.name = REMAP, .length = 6, .table = LISTED(__VA_ARGS__)}
+
+static const struct fixed fixed[] = {
+    {CASE_P, SWEEP_ROW(0, 50, 0, 0), .refusal = PULDEHO_ACCEPTED, .text = "the call would be accepted"},
+    {.grid = {3, 1, 1, 9}, .r = {.name = LOAD}, .refusal = PULDEHO_GRID_RANGE,
+     .text = "W (columns) is 3, it must be 4 to 72; N (tracers) is 9, it must be 1 to 8"},
+    {CASE_P, .air_length = 7, .r = {.name = LOAD}, .refusal = PULDEHO_LENGTHS,
+     .text = "air has length 7, the grid wants 6 (K*C, where C = 2 + R*W)"},
+    {CASE_P, .tracers_length = 5, .r = {.name = LOAD}, .refusal = PULDEHO_LENGTHS,
+     .text = "tracers has length 5, the grid wants 6 (N*K*C, where C = 2 + R*W)"},
+    {CASE_P, .r = {.name = ZONAL, .length = 16}, .refusal = PULDEHO_LENGTHS,
+     .text = "fluxes has length 16, the grid wants 4 (W); a length counts numbers, not bytes"},
+    {CASE_P, .r = {.name = MERIDIONAL, .length = 4}, .refusal = PULDEHO_LENGTHS,
+     .text = "fluxes has length 4, the grid wants 8 (W*(R + 1))"},
+    {CASE_P, .r = {.name = REMAP, .length = 2}, .refusal = PULDEHO_LENGTHS,
+     .text = "table has length 2, the grid wants 4 (2*(K + 1), an a and a b for each edge)"},
+    {SMALL, .air = {100, 100, 0, 100, 100, 70000}, .r = {.name = TOTAL}, .refusal = PULDEHO_AIR_RANGE,
+     .text = "cell 2 (layer 0, row 0, column 1) has air 0, it must be 1 to 65535; cells outside: 2 of 6"},
+    {SMALL, .air = {100, 100, 100, 100, 100, 65536}, .r = {.name = LOAD}, .refusal = PULDEHO_AIR_RANGE,
+     .text = "cell 5 (north cap of layer 0) has air 65536, it must be 1 to 65535; cells outside: 1 of 6"},
+    {SMALL, AIR_100, .tracers = {268435455, 1}, .r = {.name = LOAD}, .refusal = PULDEHO_TOTALS,
+     .text = "tracer 0 has the total 268435456, the limit is 268435455"},
+    {CASE_P, .r = {.name = TOTAL, .tracer = 1}, .refusal = PULDEHO_INDEX,
+     .text = "there is no tracer 1, it may only be 0"},
+    {CASE_P, .r = {.name = CELL, .cell = 6}, .refusal = PULDEHO_INDEX,
+     .text = "there is no cell 6, it may be 0 to 5 over all layers"},
+    {CASE_P, .r = {.name = EMISSION, .cell = PULDEHO_NO_CELL}, .refusal = PULDEHO_INDEX,
+     .text = "there is no cell 4294967295, it may be 0 to 5 over all layers; this number stands for an absent "
+             "layer, row or column (PULDEHO_NO_CELL)"},
+    {TWO_ROWS, AIR_9, .r = {.name = ZONAL, .row = 2, .length = 4},
+     .refusal = PULDEHO_INDEX, .text = "there is no row 2, it may be 0 to 1 from south to north"},
+    {TWO_LAYERS, AIR_9, .r = {.name = MERIDIONAL, .layer = 2, .length = 8},
+     .refusal = PULDEHO_INDEX, .text = "there is no layer 2, it may be 0 to 1 from the top down"},
+    {SMALL, AIR_100, .tracers = {268435455}, .r = {.name = EMISSION, .amount = 1}, .refusal = PULDEHO_EMISSION,
+     .text = "tracer 0 has the total 268435455 and the amount is 1; the limit is 268435455, so at most 0 can be "
+             "emitted"},
+    {CASE_P, .r = {.name = EMISSION, .cell = 2, .amount = 4294967295u}, .refusal = PULDEHO_EMISSION,
+     .text = "tracer 0 has the total 400 and the amount is 4294967295; the limit is 268435455, so at most 268435055 "
+             "can be emitted"},
+    {CASE_P, .r = {.name = WITHDRAWAL, .cell = 3, .amount = 201}, .refusal = PULDEHO_WITHDRAWAL,
+     .text = "cell 3 (layer 0, row 0, column 2) has 200 of tracer 0, the amount is 201"},
+    {CASE_P, SWEEP_ROW(0, 0, 1048561, -2147483647 - 1), .refusal = PULDEHO_FLUXES,
+     .text = "flux 2 (between columns 2 and 3) is 1048561, its size must be at most 1048560; fluxes above: 2 of 4"},
+    {CASE_P, SWEEP_ROW(0, 0, 0, -2147483647 - 1), .refusal = PULDEHO_FLUXES,
+     .text = "flux 3 (between columns 3 and 0) is -2147483648, its size must be at most 1048560; fluxes above: 1 of 4"},
+    {CASE_P, SWEEP_LAYER(0, 65536, 0, 0, 0, 0, 0, 0), .refusal = PULDEHO_FLUXES,
+     .text = "flux 1 (column 1, between the south cap and row 0) is 65536, its size must be at most 65535; fluxes "
+             "above: 1 of 8"},
+    {CASE_P, SWEEP_LAYER(0, 0, 0, 0, 0, 0, -65536, 0), .refusal = PULDEHO_FLUXES,
+     .text = "flux 6 (column 2, between row 0 and the north cap) is -65536, its size must be at most 65535; fluxes "
+             "above: 1 of 8"},
+    {TWO_ROWS, AIR_9, .r = {.name = MERIDIONAL, .length = 12, .fluxes = {0, 0, 0, 0, 0, 65536, 0, 65536}},
+     .refusal = PULDEHO_FLUXES,
+     .text = "flux 5 (column 1, between rows 0 and 1) is 65536, its size must be at most 65535; fluxes above: 2 of "
+             "12"},
+    {CASE_P, SWEEP_ROW(0, 100, 0, 0), .refusal = PULDEHO_ZONAL,
+     .text = "cell 2 (layer 0, row 0, column 1) has air 100, its outflow 100 is 1.00 times its air, and it would "
+             "end with air 0; of the row's 4 cells 1 would end with 0 or less and 0 above 65535; no count and no "
+             "smaller time step helps, as parts of the same fluxes end at the same air (unless other sweeps between "
+             "them bring the air back): the fluxes themselves must diverge less at this cell"},
+    {SMALL, .air = {100, 100, 100, 65000, 100, 100}, SWEEP_ROW(0, 1500, 0, 0), .refusal = PULDEHO_ZONAL,
+     .text = "cell 2 (layer 0, row 0, column 1) has air 100, its outflow 1500 is 15.00 times its air, and it would "
+             "end with air -1400; of the row's 4 cells 1 would end with 0 or less and 1 above 65535; no count and "
+             "no smaller time step helps, as parts of the same fluxes end at the same air (unless other sweeps "
+             "between them bring the air back): the fluxes themselves must diverge less at this cell"},
+    {SMALL, .air = {100, 100, 2000, 65000, 100, 100}, SWEEP_ROW(0, 1500, 0, 0), .refusal = PULDEHO_ZONAL,
+     .text = "cell 3 (layer 0, row 0, column 2) has air 65000, its outflow 0 is 0.00 times its air, and it would "
+             "end with air 66500; of the row's 4 cells 0 would end with 0 or less and 1 above 65535; no count and "
+             "no smaller time step helps, as parts of the same fluxes end at the same air (unless other sweeps "
+             "between them bring the air back): the fluxes themselves must converge less at this cell"},
+    {CASE_P, SWEEP_ROW(1601, 1601, 1601, 1601), .refusal = PULDEHO_ZONAL,
+     .text = "cell 1 (layer 0, row 0, column 0) has air 100, its outflow 1601 is 16.01 times its air, and it would "
+             "end with air 100; with 16 substeps it refuses first in substep 16, where its outflow is 101 and its "
+             "air 100; every cell of the row would end within 1 to 65535, so a smaller time step helps: cut into 2 "
+             "sweeps, all are accepted (part s of 2 of a flux F is floor(s*|F|/2) - floor((s - 1)*|F|/2), with the "
+             "sign of F)"},
+    {SMALL, .air = {1, 500, 500, 40, 500, 1}, SWEEP_ROW(2000, 2000, 2010, 2000), .refusal = PULDEHO_ZONAL,
+     .text = "cell 3 (layer 0, row 0, column 2) has air 40, its outflow 2010 is 50.25 times its air, and it would "
+             "end with air 30; with 16 substeps it refuses first in substep 1, where its outflow is 125 and its air "
+             "40; every cell of the row would end within 1 to 65535, so a smaller time step helps: cut into 5 "
+             "sweeps, all are accepted (part s of 5 of a flux F is floor(s*|F|/5) - floor((s - 1)*|F|/5), with the "
+             "sign of F)"},
+    {SMALL, .air = {1, 1, 1, 1, 1, 1}, SWEEP_ROW(1025, 1025, 1025, 1025), .refusal = PULDEHO_ZONAL,
+     .text = "cell 1 (layer 0, row 0, column 0) has air 1, its outflow 1025 is 1025.00 times its air, and it would "
+             "end with air 1; with 16 substeps it refuses first in substep 1, where its outflow is 64 and its air "
+             "1; every cell of the row would end within 1 to 65535, but cut into any number of sweeps from 2 to 64 "
+             "the fluxes are refused too (more were not tried): smaller fluxes or more air are needed"},
+    {CASE_P, SWEEP_LAYER(0, 0, 0, 0, -30, -30, -30, -40), .refusal = PULDEHO_MERIDIONAL,
+     .text = "cell 5 (north cap of layer 0) has air 100, its outflow 130, the sum through its 4 faces, is 1.30 "
+             "times its air, and it would end with air -30; of the layer's 6 cells 1 would be refused, 1 would end "
+             "with 0 or less and 0 above 65535; no smaller time step helps, as parts of the same fluxes end at the "
+             "same air (unless other sweeps between them bring the air back): the fluxes themselves must diverge "
+             "less at this cell"},
+    {CASE_P, SWEEP_LAYER(-40, -40, -40, -40, 0, 0, 120, 0), .refusal = PULDEHO_MERIDIONAL,
+     .text = "cell 3 (layer 0, row 0, column 2) has air 100, its outflow 160 is 1.60 times its air, and it would "
+             "end with air -60; of the layer's 6 cells 1 would be refused, 1 would end with 0 or less and 0 above "
+             "65535; no smaller time step helps, as parts of the same fluxes end at the same air (unless other "
+             "sweeps between them bring the air back): the fluxes themselves must diverge less at this cell"},
+    {CASE_P, SWEEP_LAYER(60, 60, -60, -60, 60, 60, -60, -60), .refusal = PULDEHO_MERIDIONAL,
+     .text = "cell 0 (south cap of layer 0) has air 100, its outflow 120, the sum through its 4 faces, is 1.20 "
+             "times its air, and it would end with air 100; of the layer's 6 cells 2 would be refused, with more "
+             "outflow than air; every cell of the layer would end within 1 to 65535, so a smaller time step helps: "
+             "cut into 2 sweeps, all are accepted (part s of 2 of a flux F is floor(s*|F|/2) - floor((s - "
+             "1)*|F|/2), with the sign of F)"},
+    {CASE_P, SWEEP_LAYER(0, 300, 0, -300, 0, 300, 0, -300), .refusal = PULDEHO_MERIDIONAL,
+     .text = "cell 0 (south cap of layer 0) has air 100, its outflow 300, the sum through its 4 faces, is 3.00 "
+             "times its air, and it would end with air 100; of the layer's 6 cells 4 would be refused, with more "
+             "outflow than air; every cell of the layer would end within 1 to 65535, so a smaller time step helps: "
+             "cut into 3 sweeps, all are accepted (part s of 3 of a flux F is floor(s*|F|/3) - floor((s - "
+             "1)*|F|/3), with the sign of F)"},
+    {SMALL, .air = {1, 9, 9, 9, 9, 9}, SWEEP_LAYER(1, 1, -1, -1, 0, 0, 0, 0), .refusal = PULDEHO_MERIDIONAL,
+     .text = "cell 0 (south cap of layer 0) has air 1, its outflow 2, the sum through its 4 faces, is 2.00 times "
+             "its air, and it would end with air 1; of the layer's 6 cells 1 would be refused, with more outflow "
+             "than air; every cell of the layer would end within 1 to 65535, but cut into any number of sweeps from "
+             "2 to 64 the fluxes are refused too (more were not tried): smaller fluxes or more air are needed"},
+    {TWO_LAYERS, AIR_9, REMAP_TWO(0, 0, 2097121, 5, 0, 65536), .refusal = PULDEHO_TABLE,
+     .text = "pair 1 of 0 to 2 is (2097121, 5), an a may be 0 to 2097120"},
+    {TWO_LAYERS, AIR_9, REMAP_TWO(0, 0, 0, 32768, 0, 65535), .refusal = PULDEHO_TABLE,
+     .text = "pair 2 of 0 to 2 is (0, 65535), the last pair must be (0, 65536)"},
+    {CASE_P, .r = {.name = REMAP, .length = 4, .table = {1, 0, 0, 65536}}, .refusal = PULDEHO_TABLE,
+     .text = "pair 0 of 0 to 1 is (1, 0), the first pair must be (0, 0)"},
+    {TWO_LAYERS, AIR_9, REMAP_TWO(0, 0, 0, 65537, 0, 65536), .refusal = PULDEHO_TABLE,
+     .text = "pair 1 of 0 to 2 is (0, 65537), a b may be 0 to 65536"},
+    {TWO_LAYERS, .air = {9, 2, 1, 9, 9, 9, 9, 1, 1, 9, 9, 9}, REMAP_TWO(0, 0, 0, 16384, 0, 65536),
+     .refusal = PULDEHO_REMAP,
+     .text = "in the column at row 0, column 1 (air sum P = 2) edge 0 is 0 and edge 1 is 0, so new layer 0 would "
+             "have air 0, it must be 1 to 65535; columns refused: 2 of 6; from pair 0 to pair 1 a changes by 0 and "
+             "b by 16384: a change of b by 32768 or more is sure to give one unit of air (65536/P of b for each "
+             "unit; an a is an amount of air, the same in every column)"},
+    {TWO_LAYERS, .air = {65535, 9, 9, 9, 9, 9, 65535, 9, 9, 9, 9, 9}, REMAP_TWO(0, 0, 0, 40000, 0, 65536),
+     .refusal = PULDEHO_REMAP,
+     .text = "in the column of the south cap (air sum P = 131070) edge 0 is 0 and edge 1 is 79998, so new layer 0 "
+             "would have air 79998, it must be 1 to 65535; columns refused: 1 of 6; from pair 0 to pair 1 a changes "
+             "by 0 and b by 40000: a layer above 65535 needs smaller changes here, more layers or less air"},
+    {TWO_LAYERS, .air = {90, 90, 90, 90, 90, 40, 90, 90, 90, 90, 90, 40}, REMAP_TWO(0, 0, 100, 0, 0, 65536),
+     .refusal = PULDEHO_REMAP,
+     .text = "in the column of the north cap (air sum P = 80) edge 1 is 100 and edge 2 is 80, so new layer 1 would "
+             "have air -20, it must be 1 to 65535; columns refused: 1 of 6; from pair 1 to pair 2 a changes by -100 "
+             "and b by 65536: an a is an amount of air, the same in every column; here it falls by P or more, so no "
+             "b serves"},
+};
+
+static void check_fixed(const struct fixed *f)
+{
+    char text[PULDEHO_WHY_SIZE];
+    struct fixed own = *f;
+    bool in_range = f->refusal != PULDEHO_GRID_RANGE;
+    size_t air = in_range ? puldeho_air_length(f->grid) : 0, tracers = in_range ? puldeho_tracers_length(f->grid) : 0;
+    struct puldeho_world world = puldeho_world_over(
+        f->grid, own.air, f->air_length == 0 ? air : f->air_length,
+        own.tracers, f->tracers_length == 0 ? tracers : f->tracers_length);
+    struct puldeho_world lent = copy_of(&world);
+    if (why(&lent, &f->r, text, sizeof text) != f->refusal || strcmp(text, f->text) != 0)
+        differs("another text than in the table", text);
+    check_call(&lent, &f->r, strlen(f->text));
+    drop(&lent);
+}
+
+/* The widest layer, and the longest numbers: the text still fits. */
+static void check_large(void)
+{
+    static uint32_t air[32 * 3170], tracers[8 * 32 * 3170];
+    static int32_t fluxes[72 * 45];
+    char text[PULDEHO_WHY_SIZE];
+    struct puldeho_grid grid = {72, 44, 32, 8};
+    struct puldeho_world world = puldeho_world_over(grid, air, 32 * 3170, tracers, 8 * 32 * 3170);
+    for (size_t i = 0; i < 32 * 3170; i++)
+        air[i] = 65535;
+    for (size_t i = 0; i < 72 * 45; i++)
+        fluxes[i] = i % 2 == 0 ? 65535 : -65535;
+    if (puldeho_why_meridional(&world, 31, fluxes, 72 * 45, text, sizeof text) != PULDEHO_MERIDIONAL
+        || puldeho_meridional(&world, 31, fluxes, 72 * 45, NULL) != PULDEHO_MERIDIONAL
+        || strlen(text) >= PULDEHO_WHY_SIZE - 1)
+        differs("the widest layer", text);
+}
+
+/* Every refusal and every kind of text was met. */
+static bool all_reached(void)
+{
+    bool all = ends[0] && cuts[0] && uncut[0] && ends[1] && cuts[1] && uncut[1];
+    for (size_t i = 0; i <= MOST_REFUSAL; i++)
+        all = all && reached[i] > 0;
+    return all;
+}
+
+int main(void)
+{
+    size_t texts = sizeof fixed / sizeof fixed[0];
+    for (size_t i = 0; i < texts; i++)
+        check_fixed(&fixed[i]);
+    check_large();
+    for (int i = 0; i < CALLS; i++)
+        seeded_call();
+    if (!all_reached())
+        differs("some refusal or kind of text was not reached", "");
+    printf("why: %zu texts and %d seeded calls, %lu refused; sweeps of which a cell ends outside %lu, that serve as "
+           "parts %lu, that do not %lu; %d differences\n", texts, CALLS, CALLS + texts - reached[0], ends[0] + ends[1],
+           cuts[0] + cuts[1], uncut[0] + uncut[1], differences);
+    return differences == 0 ? 0 : 1;
+}
