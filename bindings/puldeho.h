@@ -50,6 +50,29 @@
 #define PULDEHO_VERSION_MINOR 1
 #define PULDEHO_VERSION_PATCH 0
 
+/* the most air of a cell; the least is 1 */
+#define PULDEHO_AIR_LIMIT 65535
+/* the most units of a tracer in all cells together */
+#define PULDEHO_TOTAL_LIMIT 268435455
+/* the largest size of a flux of a zonal sweep */
+#define PULDEHO_ZONAL_LIMIT 1048560
+/* the largest size of a flux of a meridional sweep */
+#define PULDEHO_MERIDIONAL_LIMIT 65535
+/* the most substeps of a zonal sweep */
+#define PULDEHO_MOST_SUBSTEPS 16
+/* the largest a of a remap's table */
+#define PULDEHO_TABLE_LIMIT 2097120
+/* the b of a remap's table that stands for all the air of a column */
+#define PULDEHO_TABLE_SCALE 65536
+/* the largest W; the least is 4 */
+#define PULDEHO_MOST_COLUMNS 72
+/* the largest R */
+#define PULDEHO_MOST_ROWS 44
+/* the largest K */
+#define PULDEHO_MOST_LAYERS 32
+/* the largest N */
+#define PULDEHO_MOST_TRACERS 8
+
 /* The deepest stack of all calls, in bytes. */
 #define PULDEHO_STACK 93952
 

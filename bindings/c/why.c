@@ -16,19 +16,8 @@
 #include "puldeho.h"
 
 enum {
-    MOST_COLUMNS = 72,
-    MOST_ROWS = 44,
-    MOST_LAYERS = 32,
-    MOST_TRACERS = 8,
-    MOST_CELLS = 2 + MOST_ROWS * MOST_COLUMNS, /* of a layer */
-    MOST_AIR = 65535,
-    MOST_TOTAL = 268435455,
-    MOST_ZONAL_FLUX = 1048560,
-    MOST_MERIDIONAL_FLUX = 65535,
-    MOST_SUBSTEPS = 16,
-    MOST_SWEEPS = 64, /* the most parts of a time step that are tried here */
-    MOST_A = 2097120,
-    SCALE = 65536 /* b of the last pair */
+    MOST_CELLS = 2 + PULDEHO_MOST_ROWS * PULDEHO_MOST_COLUMNS, /* of a layer */
+    MOST_SWEEPS = 64 /* the most parts of a time step that are tried here */
 };
 
 /* The words so far. With size 0 nothing is written; else length is below size and a 0 stands after the words. */
@@ -84,7 +73,7 @@ static void say_cell(struct text *text, struct puldeho_grid grid, size_t cell)
 /* How far an amount of air is outside 1 to 65535; 0 if it is inside. */
 static long long beyond(long long air)
 {
-    return air < 1 ? 1 - air : air > MOST_AIR ? air - MOST_AIR : 0;
+    return air < 1 ? 1 - air : air > PULDEHO_AIR_LIMIT ? air - PULDEHO_AIR_LIMIT : 0;
 }
 
 /* 1: the grid. */
@@ -96,10 +85,10 @@ static enum puldeho_refusal grid_place(const struct call *call, struct text *tex
         const char *name;
         uint32_t value, least, most;
     } numbers[] = {
-        {"W (columns)", grid.w, 4, MOST_COLUMNS},
-        {"R (rows)", grid.r, 1, MOST_ROWS},
-        {"K (layers)", grid.k, 1, MOST_LAYERS},
-        {"N (tracers)", grid.n, 1, MOST_TRACERS},
+        {"W (columns)", grid.w, 4, PULDEHO_MOST_COLUMNS},
+        {"R (rows)", grid.r, 1, PULDEHO_MOST_ROWS},
+        {"K (layers)", grid.k, 1, PULDEHO_MOST_LAYERS},
+        {"N (tracers)", grid.n, 1, PULDEHO_MOST_TRACERS},
     };
     size_t wrong = 0;
     for (size_t i = 0; i < 4; i++)
@@ -182,8 +171,8 @@ static enum puldeho_refusal totals_place(const struct call *call, struct text *t
 {
     for (size_t tracer = 0; tracer < call->world->grid.n; tracer++) {
         long long total = total_of(call->world, tracer);
-        if (total > MOST_TOTAL) {
-            say(text, "tracer %zu has the total %lld, the limit is %d", tracer, total, MOST_TOTAL);
+        if (total > PULDEHO_TOTAL_LIMIT) {
+            say(text, "tracer %zu has the total %lld, the limit is %d", tracer, total, PULDEHO_TOTAL_LIMIT);
             return PULDEHO_TOTALS;
         }
     }
@@ -233,10 +222,10 @@ static enum puldeho_refusal row_place(const struct call *call, struct text *text
 static enum puldeho_refusal emission_place(const struct call *call, struct text *text)
 {
     long long total = total_of(call->world, call->tracer);
-    if (total + call->amount <= MOST_TOTAL)
+    if (total + call->amount <= PULDEHO_TOTAL_LIMIT)
         return PULDEHO_ACCEPTED;
     say(text, "tracer %lld has the total %lld and the amount is %lld; the limit is %d, so at most %lld can be emitted",
-        (long long)call->tracer, total, (long long)call->amount, MOST_TOTAL, MOST_TOTAL - total);
+        (long long)call->tracer, total, (long long)call->amount, PULDEHO_TOTAL_LIMIT, PULDEHO_TOTAL_LIMIT - total);
     return PULDEHO_EMISSION;
 }
 
@@ -269,7 +258,7 @@ static struct mesh row_of(const struct call *call)
     struct puldeho_grid grid = call->world->grid;
     size_t first = call->layer * puldeho_cells_in_layer(grid) + 1 + (size_t)call->row * grid.w;
     struct mesh row = {call->world, call->fluxes, false, "row", grid.w, grid.w, grid.w, first,
-                       MOST_ZONAL_FLUX, MOST_SUBSTEPS};
+                       PULDEHO_ZONAL_LIMIT, PULDEHO_MOST_SUBSTEPS};
     return row;
 }
 
@@ -278,7 +267,7 @@ static struct mesh layer_of(const struct call *call)
     struct puldeho_grid grid = call->world->grid;
     size_t first = call->layer * puldeho_cells_in_layer(grid);
     struct mesh layer = {call->world, call->fluxes, true, "layer", grid.w, puldeho_meridional_fluxes_length(grid),
-                         puldeho_cells_in_layer(grid), first, MOST_MERIDIONAL_FLUX, 1};
+                         puldeho_cells_in_layer(grid), first, PULDEHO_MERIDIONAL_LIMIT, 1};
     return layer;
 }
 
@@ -435,7 +424,7 @@ static void cut_fluxes(const struct mesh *mesh, int s, int sweeps, int32_t *part
 /* Whether the fluxes are accepted as so many sweeps of their parts, one after another. One sweep is the call. */
 static bool accepted_as(const struct mesh *mesh, int sweeps, struct substep *step)
 {
-    int32_t air[MOST_CELLS], parts[MOST_COLUMNS * (MOST_ROWS + 1)];
+    int32_t air[MOST_CELLS], parts[PULDEHO_MOST_COLUMNS * (PULDEHO_MOST_ROWS + 1)];
     struct mesh cut = *mesh;
     cut.fluxes = parts;
     world_air(mesh, air);
@@ -477,7 +466,7 @@ static struct tally tally_of(const struct mesh *mesh, const struct substep *step
         size_t out = tally.worst_outflow;
         tally.refusing += refuses(step, cell);
         tally.low += step->after[cell] < 1;
-        tally.high += step->after[cell] > MOST_AIR;
+        tally.high += step->after[cell] > PULDEHO_AIR_LIMIT;
         if (beyond(step->after[cell]) > beyond(step->after[tally.worst_end]))
             tally.worst_end = cell;
         if ((long long)step->outflow[cell] * step->air[out] > (long long)step->outflow[out] * step->air[cell])
@@ -498,17 +487,27 @@ static void say_courant(struct text *text, const struct mesh *mesh, const struct
         (long long)whole->after[cell]);
 }
 
-/* Some cell would end outside 1 to 65535. Parts of the fluxes sum to the fluxes, so that they end there too. */
+/*
+ * Some cell would end outside 1 to 65535. Parts of the fluxes sum to the fluxes, so that they end there too, unless the
+ * sweeps in the other direction bring the air back; they do not reach a cap.
+ */
 static void say_end(struct text *text, const struct mesh *mesh, const struct substep *whole, struct tally tally)
 {
-    say_courant(text, mesh, whole, tally.worst_end);
+    size_t cell = tally.worst_end;
+    const char *change = whole->after[cell] < 1 ? "diverge" : "converge";
+    say_courant(text, mesh, whole, cell);
     say(text, "; of the %s's %zu cells", mesh->name, mesh->cells);
     if (mesh->most_substeps == 1)
         say(text, " %zu would be refused,", tally.refusing);
-    say(text, " %zu would end with 0 or less and %zu above 65535", tally.low, tally.high);
-    say(text, "; no %ssmaller time step helps, as parts of the same fluxes end at the same air "
-        "(unless other sweeps between them bring the air back): the fluxes themselves must %s less at this cell",
-        mesh->most_substeps == 1 ? "" : "count and no ", whole->after[tally.worst_end] < 1 ? "diverge" : "converge");
+    say(text, " %zu would end with 0 or less and %zu above 65535; ", tally.low, tally.high);
+    if (is_cap(mesh, cell))
+        say(text, "no smaller time step helps, as parts of the same fluxes end at the same air: "
+            "the fluxes themselves must %s less at this cap", change);
+    else
+        say(text, "%sparts of this sweep alone end at the same air: if the %s of the step bring%s the air back, make the "
+            "whole step in smaller ones or make %s first; if not, the fluxes themselves must %s less at this cell",
+            mesh->caps ? "" : "no count helps, and ", mesh->caps ? "zonal sweeps" : "meridional sweep",
+            mesh->caps ? "" : "s", mesh->caps ? "those" : "that one", change);
 }
 
 /* Whether a smaller time step helps. Only asked if every cell ends in 1 to 65535. */
@@ -581,11 +580,11 @@ static const char *wrong_pair(const uint32_t *pair, size_t j, size_t k)
 {
     if (j == 0 && (pair[0] != 0 || pair[1] != 0))
         return "the first pair must be (0, 0)";
-    if (j == k && (pair[0] != 0 || pair[1] != SCALE))
+    if (j == k && (pair[0] != 0 || pair[1] != PULDEHO_TABLE_SCALE))
         return "the last pair must be (0, 65536)";
-    if (pair[0] > MOST_A)
+    if (pair[0] > PULDEHO_TABLE_LIMIT)
         return "an a may be 0 to 2097120";
-    if (pair[1] > SCALE)
+    if (pair[1] > PULDEHO_TABLE_SCALE)
         return "a b may be 0 to 65536";
     return NULL;
 }
@@ -627,7 +626,7 @@ static long long column_air(const struct puldeho_world *world, size_t column)
 
 static long long edge_of(const uint32_t *table, size_t j, long long p)
 {
-    return table[2 * j] + table[2 * j + 1] * p / SCALE;
+    return table[2 * j] + table[2 * j + 1] * p / PULDEHO_TABLE_SCALE;
 }
 
 /* The new layer of a column that is farthest outside 1 to 65535, or any if none is. */
@@ -663,7 +662,7 @@ static void say_column(struct text *text, struct puldeho_grid grid, size_t colum
 /* The least change of b that is sure to give a layer one unit of air: (1 - change of a)*65536/P, rounded up. */
 static long long sure_change(long long change_of_a, long long p)
 {
-    long long wanted = (1 - change_of_a) * SCALE;
+    long long wanted = (1 - change_of_a) * PULDEHO_TABLE_SCALE;
     return wanted > 0 ? (wanted + p - 1) / p : -(-wanted / p);
 }
 
@@ -672,9 +671,9 @@ static void say_remedy(struct text *text, const uint32_t *table, struct new_laye
     const uint32_t *pair = table + 2 * layer.j;
     long long a = (long long)pair[2] - pair[0], b = (long long)pair[3] - pair[1], sure = sure_change(a, layer.p);
     say(text, "; from pair %zu to pair %zu a changes by %lld and b by %lld", layer.j, layer.j + 1, a, b);
-    if (new_air(layer) > MOST_AIR)
+    if (new_air(layer) > PULDEHO_AIR_LIMIT)
         say(text, ": a layer above 65535 needs smaller changes here, more layers or less air");
-    else if (sure > SCALE)
+    else if (sure > PULDEHO_TABLE_SCALE)
         say(text, ": an a is an amount of air, the same in every column; here it falls by P or more, so no b serves");
     else
         say(text, ": a change of b by %lld or more is sure to give one unit of air "

@@ -195,7 +195,7 @@ static void check_sweep(const struct puldeho_world *world, const struct request 
     if (number_after(text, " has air ") != world->air[cell]
         || number_after(text, "would end with air ") != end_of(world, r, cell))
         differs("the cell of a sweep", text);
-    if (strstr(text, "smaller time step helps, as") == NULL) {
+    if (strstr(text, "end at the same air: ") == NULL) {
         check_cut(world, r, text);
     } else {
         check_end(world, r, text);
@@ -512,20 +512,23 @@ static const struct fixed fixed[] = {
      .text = "flux 5 (column 1, between rows 0 and 1) is 65536, its size must be at most 65535; fluxes above: 2 of "
              "12"},
     {CASE_P, SWEEP_ROW(0, 100, 0, 0), .refusal = PULDEHO_ZONAL,
-     .text = "cell 2 (layer 0, row 0, column 1) has air 100, its outflow 100 is 1.00 times its air, and it would "
-             "end with air 0; of the row's 4 cells 1 would end with 0 or less and 0 above 65535; no count and no "
-             "smaller time step helps, as parts of the same fluxes end at the same air (unless other sweeps between "
-             "them bring the air back): the fluxes themselves must diverge less at this cell"},
+     .text = "cell 2 (layer 0, row 0, column 1) has air 100, its outflow 100 is 1.00 times its air, and it would end "
+             "with air 0; of the row's 4 cells 1 would end with 0 or less and 0 above 65535; no count helps, and parts"
+             " of this sweep alone end at the same air: if the meridional sweep of the step brings the air back, make "
+             "the whole step in smaller ones or make that one first; if not, the fluxes themselves must diverge less "
+             "at this cell"},
     {SMALL, .air = {100, 100, 100, 65000, 100, 100}, SWEEP_ROW(0, 1500, 0, 0), .refusal = PULDEHO_ZONAL,
-     .text = "cell 2 (layer 0, row 0, column 1) has air 100, its outflow 1500 is 15.00 times its air, and it would "
-             "end with air -1400; of the row's 4 cells 1 would end with 0 or less and 1 above 65535; no count and "
-             "no smaller time step helps, as parts of the same fluxes end at the same air (unless other sweeps "
-             "between them bring the air back): the fluxes themselves must diverge less at this cell"},
+     .text = "cell 2 (layer 0, row 0, column 1) has air 100, its outflow 1500 is 15.00 times its air, and it would end"
+             " with air -1400; of the row's 4 cells 1 would end with 0 or less and 1 above 65535; no count helps, and "
+             "parts of this sweep alone end at the same air: if the meridional sweep of the step brings the air back, "
+             "make the whole step in smaller ones or make that one first; if not, the fluxes themselves must diverge "
+             "less at this cell"},
     {SMALL, .air = {100, 100, 2000, 65000, 100, 100}, SWEEP_ROW(0, 1500, 0, 0), .refusal = PULDEHO_ZONAL,
-     .text = "cell 3 (layer 0, row 0, column 2) has air 65000, its outflow 0 is 0.00 times its air, and it would "
-             "end with air 66500; of the row's 4 cells 0 would end with 0 or less and 1 above 65535; no count and "
-             "no smaller time step helps, as parts of the same fluxes end at the same air (unless other sweeps "
-             "between them bring the air back): the fluxes themselves must converge less at this cell"},
+     .text = "cell 3 (layer 0, row 0, column 2) has air 65000, its outflow 0 is 0.00 times its air, and it would end "
+             "with air 66500; of the row's 4 cells 0 would end with 0 or less and 1 above 65535; no count helps, and "
+             "parts of this sweep alone end at the same air: if the meridional sweep of the step brings the air back, "
+             "make the whole step in smaller ones or make that one first; if not, the fluxes themselves must converge "
+             "less at this cell"},
     {CASE_P, SWEEP_ROW(1601, 1601, 1601, 1601), .refusal = PULDEHO_ZONAL,
      .text = "cell 1 (layer 0, row 0, column 0) has air 100, its outflow 1601 is 16.01 times its air, and it would "
              "end with air 100; with 16 substeps it refuses first in substep 16, where its outflow is 101 and its "
@@ -544,16 +547,16 @@ static const struct fixed fixed[] = {
              "1; every cell of the row would end within 1 to 65535, but cut into any number of sweeps from 2 to 64 "
              "the fluxes are refused too (more were not tried): smaller fluxes or more air are needed"},
     {CASE_P, SWEEP_LAYER(0, 0, 0, 0, -30, -30, -30, -40), .refusal = PULDEHO_MERIDIONAL,
-     .text = "cell 5 (north cap of layer 0) has air 100, its outflow 130, the sum through its 4 faces, is 1.30 "
-             "times its air, and it would end with air -30; of the layer's 6 cells 1 would be refused, 1 would end "
-             "with 0 or less and 0 above 65535; no smaller time step helps, as parts of the same fluxes end at the "
-             "same air (unless other sweeps between them bring the air back): the fluxes themselves must diverge "
-             "less at this cell"},
+     .text = "cell 5 (north cap of layer 0) has air 100, its outflow 130, the sum through its 4 faces, is 1.30 times "
+             "its air, and it would end with air -30; of the layer's 6 cells 1 would be refused, 1 would end with 0 or"
+             " less and 0 above 65535; no smaller time step helps, as parts of the same fluxes end at the same air: "
+             "the fluxes themselves must diverge less at this cap"},
     {CASE_P, SWEEP_LAYER(-40, -40, -40, -40, 0, 0, 120, 0), .refusal = PULDEHO_MERIDIONAL,
-     .text = "cell 3 (layer 0, row 0, column 2) has air 100, its outflow 160 is 1.60 times its air, and it would "
-             "end with air -60; of the layer's 6 cells 1 would be refused, 1 would end with 0 or less and 0 above "
-             "65535; no smaller time step helps, as parts of the same fluxes end at the same air (unless other "
-             "sweeps between them bring the air back): the fluxes themselves must diverge less at this cell"},
+     .text = "cell 3 (layer 0, row 0, column 2) has air 100, its outflow 160 is 1.60 times its air, and it would end "
+             "with air -60; of the layer's 6 cells 1 would be refused, 1 would end with 0 or less and 0 above 65535; "
+             "parts of this sweep alone end at the same air: if the zonal sweeps of the step bring the air back, make "
+             "the whole step in smaller ones or make those first; if not, the fluxes themselves must diverge less at "
+             "this cell"},
     {CASE_P, SWEEP_LAYER(60, 60, -60, -60, 60, 60, -60, -60), .refusal = PULDEHO_MERIDIONAL,
      .text = "cell 0 (south cap of layer 0) has air 100, its outflow 120, the sum through its 4 faces, is 1.20 "
              "times its air, and it would end with air 100; of the layer's 6 cells 2 would be refused, with more "

@@ -22,6 +22,29 @@ module puldeho
 
   character(len=*), parameter, public :: puldeho_version = "0.1.0"
 
+  ! the most air of a cell; the least is 1
+  integer(c_int32_t), parameter, public :: puldeho_air_limit = 65535
+  ! the most units of a tracer in all cells together
+  integer(c_int32_t), parameter, public :: puldeho_total_limit = 268435455
+  ! the largest size of a flux of a zonal sweep
+  integer(c_int32_t), parameter, public :: puldeho_zonal_limit = 1048560
+  ! the largest size of a flux of a meridional sweep
+  integer(c_int32_t), parameter, public :: puldeho_meridional_limit = 65535
+  ! the most substeps of a zonal sweep
+  integer(c_int32_t), parameter, public :: puldeho_most_substeps = 16
+  ! the largest a of a remap's table
+  integer(c_int32_t), parameter, public :: puldeho_table_limit = 2097120
+  ! the b of a remap's table that stands for all the air of a column
+  integer(c_int32_t), parameter, public :: puldeho_table_scale = 65536
+  ! the largest W; the least is 4
+  integer(c_int32_t), parameter, public :: puldeho_most_columns = 72
+  ! the largest R
+  integer(c_int32_t), parameter, public :: puldeho_most_rows = 44
+  ! the largest K
+  integer(c_int32_t), parameter, public :: puldeho_most_layers = 32
+  ! the largest N
+  integer(c_int32_t), parameter, public :: puldeho_most_tracers = 8
+
   integer(c_int32_t), parameter, public :: puldeho_accepted = 0
   ! W, R, K or N is outside its range
   integer(c_int32_t), parameter, public :: puldeho_refusal_grid_range = 1

@@ -84,6 +84,7 @@ def header(tables):
         "PATCH": patch,
         "STACK": stack(tables),
         "DEEPEST": str(max(tables.stack.values())),
+        "LIMITS": "\n".join("/* %s */\n#define PULDEHO_%s %d" % (l.what, l.name, l.number) for l in tables.limits),
         "REFUSALS": ",\n".join("    /* %s */\n    PULDEHO_%s = %d" % (r.condition, constant(r.name), r.number) for r in tables.refusals),
         "CONDITIONS": texts(tables.refusals, "condition"),
         "REMEDIES": texts(tables.refusals, "remedy"),

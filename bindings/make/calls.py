@@ -2,10 +2,13 @@
 """Refusals, lengths and calls, as the tables have them."""
 import enum
 
+__all__ = ["Refusal", @EXPORTED@]
+
 VERSION = "@VERSION@"
 # The shared library of this version. Another version's functions may take other arguments.
 SONAME = "@SONAME@"
 
+@LIMITS@
 
 class Refusal(enum.IntEnum):
     """Why a call was refused."""

@@ -5,6 +5,7 @@ use crate::{outcome, Grid};
 /// The version of the library that this wrapper was made for.
 pub const VERSION: &str = "@VERSION@";
 
+@LIMITS@
 @REFUSALS@
 /// How long the lists are that go with a grid.
 impl Grid {@LENGTHS@}

@@ -92,6 +92,10 @@ def module(tables):
     return filled("puldeho.f90", {
         "MADE": MADE,
         "VERSION": tables.version,
+        "LIMITS": "".join(
+            "  ! %s\n  integer(c_int32_t), parameter, public :: puldeho_%s = %d\n" % (l.what, l.name.lower(), l.number)
+            for l in tables.limits
+        ),
         "NAMES": "".join("  public :: puldeho_%s\n" % length_name(lent) for lent in tables.lists),
         "REFUSALS": "".join(
             "  ! %s\n  integer(c_int32_t), parameter, public :: puldeho_refusal_%s = %d\n" % (

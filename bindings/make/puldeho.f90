@@ -22,6 +22,7 @@ module puldeho
 
   character(len=*), parameter, public :: puldeho_version = "@VERSION@"
 
+@LIMITS@
   integer(c_int32_t), parameter, public :: puldeho_accepted = 0
 @REFUSALS@
   ! What cell numbers are for a place that the grid has not; every call refuses it, with 5.

@@ -43,6 +43,8 @@
 #define PULDEHO_VERSION_MINOR @MINOR@
 #define PULDEHO_VERSION_PATCH @PATCH@
 
+@LIMITS@
+
 /* The deepest stack of all calls, in bytes. */
 #define PULDEHO_STACK @DEEPEST@
 

@@ -38,6 +38,8 @@ def calls(tables):
         "MADE": MADE,
         "VERSION": tables.version,
         "SONAME": "libpuldeho.so.%s.%s" % (major, minor),
+        "LIMITS": "".join("# %s\n%s = %d\n" % (l.what[0].upper() + l.what[1:], l.name, l.number) for l in tables.limits),
+        "EXPORTED": ", ".join('"%s"' % l.name for l in tables.limits),
         "REFUSALS": "".join("    %s = %d\n" % (constant(r.name), r.number) for r in tables.refusals),
         "CONDITIONS": table(tables, "condition"),
         "REMEDIES": table(tables, "remedy"),

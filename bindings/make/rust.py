@@ -76,6 +76,7 @@ def wrapper(tables):
     return filled("calls.rs", {
         "MADE": MADE,
         "VERSION": tables.version,
+        "LIMITS": "".join("/// %s\npub const %s: u32 = %d;\n" % (l.what[0].upper() + l.what[1:], l.name, l.number) for l in tables.limits),
         "REFUSALS": refusals(tables),
         "LENGTHS": "".join(map(length, tables.lists)),
         "FIELDS": "".join("    %s: Vec<u32>,\n" % l.name for l in lists),

@@ -9,7 +9,8 @@ Count = namedtuple("Count", "name text")
 Call = namedtuple("Call", "name parameters world refusals count does")
 Lent = namedtuple("Lent", "owner name length what")
 Refusal = namedtuple("Refusal", "number name condition cause remedy")
-Tables = namedtuple("Tables", "calls lists refusals programs stack version")
+Limit = namedtuple("Limit", "name number what")
+Tables = namedtuple("Tables", "calls lists limits refusals programs stack version")
 
 GRID = ("w", "r", "k", "n")
 WORLD = ("air", "tracers")
@@ -86,6 +87,16 @@ def read_refusals():
     return [r for r in found if r.name != "-"], [r for r in found if r.name == "-"]
 
 
+def read_limits():
+    """The table of the limits, with their numbers from crates/units."""
+    source = open("crates/units/src/lib.rt", encoding="utf-8").read()
+    numbers = dict(re.findall(r"^pub const (\w+): \w+ = (\d+);", source, re.M))
+    for name, what in rows("bindings/limits.txt", 2):
+        if name not in numbers:
+            sys.exit("bindings/limits.txt: %s is no constant of crates/units/src/lib.rt" % name)
+        yield Limit(name, int(numbers[name]), what)
+
+
 def read_stack(calls):
     """The deepest stack of each call, as tools/stack wrote it; programs are left out."""
     stack = {}
@@ -130,7 +141,7 @@ def read_tables():
     check_boundary(calls)
     check_refusals(calls, refusals)
     version = open("bindings/version.txt", encoding="utf-8").read().strip()
-    return Tables(calls, read_lists(calls), refusals, programs, read_stack(calls), version)
+    return Tables(calls, read_lists(calls), list(read_limits()), refusals, programs, read_stack(calls), version)
 
 
 # What the makers of the languages share.

@@ -11,8 +11,9 @@
 A call changes the given arrays in place. A refused call raises Refused and changes nothing.
 docs/GUIDE.md explains grid, units, fluxes and refusals.
 """
-from .calls import VERSION as __version__
-from .calls import Refusal
+from . import calls
+from .calls import *
 from .world import Grid, Refused, World
 
-__all__ = ["Grid", "Refusal", "Refused", "World", "__version__"]
+__version__ = calls.VERSION
+__all__ = calls.__all__ + ["Grid", "Refused", "World", "__version__"]

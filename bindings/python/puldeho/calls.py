@@ -2,9 +2,34 @@
 """Refusals, lengths and calls, as the tables have them."""
 import enum
 
+__all__ = ["Refusal", "AIR_LIMIT", "TOTAL_LIMIT", "ZONAL_LIMIT", "MERIDIONAL_LIMIT", "MOST_SUBSTEPS", "TABLE_LIMIT", "TABLE_SCALE", "MOST_COLUMNS", "MOST_ROWS", "MOST_LAYERS", "MOST_TRACERS"]
+
 VERSION = "0.1.0"
 # The shared library of this version. Another version's functions may take other arguments.
 SONAME = "libpuldeho.so.0.1"
+
+# The most air of a cell; the least is 1
+AIR_LIMIT = 65535
+# The most units of a tracer in all cells together
+TOTAL_LIMIT = 268435455
+# The largest size of a flux of a zonal sweep
+ZONAL_LIMIT = 1048560
+# The largest size of a flux of a meridional sweep
+MERIDIONAL_LIMIT = 65535
+# The most substeps of a zonal sweep
+MOST_SUBSTEPS = 16
+# The largest a of a remap's table
+TABLE_LIMIT = 2097120
+# The b of a remap's table that stands for all the air of a column
+TABLE_SCALE = 65536
+# The largest W; the least is 4
+MOST_COLUMNS = 72
+# The largest R
+MOST_ROWS = 44
+# The largest K
+MOST_LAYERS = 32
+# The largest N
+MOST_TRACERS = 8
 
 
 class Refusal(enum.IntEnum):

@@ -23,10 +23,19 @@ class Lent:
 
 def u32(name, value):
     """A whole number from 0 to 4,294,967,295; ctypes would cut off any other without a word."""
-    number = operator.index(value)
+    try:
+        number = operator.index(value)
+    except TypeError:
+        raise TypeError("%s: %r is not a whole number" % (name, value)) from None
     if not 0 <= number <= 0xFFFFFFFF:
-        raise ValueError("%s: %d is not from 0 to 4294967295" % (name, number))
+        raise ValueError("%s: %d is %s" % (name, number, "below 0" if number < 0 else "above 4294967295"))
     return number
+
+
+def flat(value):
+    """The numbers of a list whose entries may be lists, such as pairs."""
+    for one in value:
+        yield from flat(one) if isinstance(one, (list, tuple)) else [one]
 
 
 def owner(name, value, kind):
@@ -37,7 +46,7 @@ def owner(name, value, kind):
     except TypeError:
         pass
     try:
-        return array.array(NUMBERS[kind][0], value)
+        return array.array(NUMBERS[kind][0], flat(value))
     except (TypeError, OverflowError) as error:
         raise type(error)("%s: %s" % (name, error)) from None
 
@@ -48,9 +57,11 @@ def lent(name, value, kind):
     view = memoryview(value)
     _, formats, c_type = NUMBERS[numbers]
     if view.format not in formats or view.itemsize != 4:
-        wanted = "32-bit %s numbers" % ("unsigned" if numbers == "u32" else "signed")
-        raise TypeError("%s: wants %s, such as a numpy array of %s, and has items of format '%s'" % (
-            name, wanted, NUMPY[numbers], view.format))
+        sort = "unsigned" if numbers == "u32" else "signed"
+        raise TypeError(
+            "%s: wants 32-bit %s numbers, and has items of format '%s'; an array of numpy becomes one by .astype(%s), "
+            "after numpy.rint if it has fractions" % (name, sort, view.format, NUMPY[numbers])
+        )
     if not view.c_contiguous:
         raise ValueError("%s: the numbers do not lie side by side; numpy.ascontiguousarray makes a copy that does" % name)
     length = view.nbytes // 4

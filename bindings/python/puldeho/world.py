@@ -31,6 +31,16 @@ class Grid(Lengths, collections.namedtuple("Grid", "w r k n")):
             raise IndexError("column %d is not from 0 to %d" % (column, self.w - 1))
         return self._start(layer) + 1 + row * self.w + column
 
+    @property
+    def air_shape(self):
+        """The shape of air as an array: layers, cells of a layer."""
+        return self.k, self.cells_in_layer
+
+    @property
+    def tracers_shape(self):
+        """The shape of tracers as an array: tracers, layers, cells of a layer."""
+        return (self.n,) + self.air_shape
+
     def south_cap(self, layer):
         """The number of a layer's south cap: layer*C."""
         return self._start(layer)
@@ -57,8 +67,9 @@ class World(Calls):
     """A world over air and tracers, made by a load; a load that is refused raises Refused.
 
     Each list is anything with the buffer protocol that holds 32-bit unsigned numbers side by side and may be
-    written, such as a numpy array of uint32, and is used without a copy: the calls change it in place. A plain
-    list of numbers is copied; the copy is world.air or world.tracers. Do not write the lists while a call runs.
+    written, such as a numpy array of uint32, and is used without a copy: the calls change it in place. Arrays may
+    have any number of dimensions, such as grid.air_shape. A plain list of numbers is copied; the copy is world.air
+    or world.tracers. Do not write the lists while a call runs.
     """
 
     def __init__(self, grid, air, tracers):
@@ -66,9 +77,19 @@ class World(Calls):
         given = dict(air=air, tracers=tracers)
         kept = {name: lists.owner(name, value, "u32") for name, value in given.items()}
         self._lists = {name: lists.lent(name, value, "&mut [u32]") for name, value in kept.items()}
-        self.air, self.tracers = kept["air"], kept["tracers"]
+        self._kept = kept
         self._apart(self._lists)
         self._make("load")
+
+    @property
+    def air(self):
+        """The air of every cell: what was given, or the copy of a list."""
+        return self._kept["air"]
+
+    @property
+    def tracers(self):
+        """The amounts of every tracer: what was given, or the copy of a list."""
+        return self._kept["tracers"]
 
     def __repr__(self):
         return "World(%r)" % (self.grid,)

@@ -10,8 +10,8 @@ GRID = puldeho.Grid(w=6, r=3, k=2, n=2)
 
 class Arrays(unittest.TestCase):
     def setUp(self):
-        self.air = numpy.full((GRID.k, GRID.cells_in_layer), 1000, dtype=numpy.uint32)
-        self.tracers = numpy.zeros((GRID.n, GRID.k, GRID.cells_in_layer), dtype=numpy.uint32)
+        self.air = numpy.full(GRID.air_shape, 1000, dtype=numpy.uint32)
+        self.tracers = numpy.zeros(GRID.tracers_shape, dtype=numpy.uint32)
         self.tracers[0] = 3 * self.air
         self.world = puldeho.World(GRID, self.air, self.tracers)
 
@@ -31,7 +31,7 @@ class Arrays(unittest.TestCase):
         self.assertEqual((self.air[1, 0], self.air[1, 1 + 2]), (995, 1005))
 
     def test_other_arrays(self):
-        with self.assertRaisesRegex(TypeError, "air: wants 32-bit unsigned.*numpy.uint32"):
+        with self.assertRaisesRegex(TypeError, "air: wants 32-bit unsigned.*astype.numpy.uint32"):
             puldeho.World(GRID, self.air.astype(numpy.int64), self.tracers)
         with self.assertRaisesRegex(TypeError, "fluxes: wants 32-bit signed"):
             self.world.zonal(0, 0, numpy.zeros(GRID.w))

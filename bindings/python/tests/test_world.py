@@ -41,6 +41,13 @@ class CaseP(unittest.TestCase):
         self.assertEqual(one.remap([0, 0, 0, 65536]), 6)
         self.assertEqual(one.air.tolist(), [99, 101, 100, 100, 110, 90])
 
+    def test_pairs(self):
+        self.assertEqual(world().remap([(0, 0), (0, 65536)]), 6)
+
+    def test_lists_stay(self):
+        with self.assertRaises(AttributeError):
+            world().air = array.array("I", AIR)
+
     def test_any_buffer(self):
         one = puldeho.World(GRID, memoryview(array.array("I", AIR)), memoryview(array.array("I", TRACERS)))
         self.assertEqual(one.total(0), 400)
@@ -53,17 +60,17 @@ class NotTaken(unittest.TestCase):
     def test_other_numbers(self):
         with self.assertRaisesRegex(TypeError, "air: wants 32-bit unsigned numbers.*'Q'"):
             puldeho.World(GRID, array.array("Q", AIR), array.array("I", TRACERS))
-        with self.assertRaisesRegex(TypeError, "fluxes: wants 32-bit signed numbers.*numpy.int32.*'I'"):
+        with self.assertRaisesRegex(TypeError, "fluxes: wants 32-bit signed numbers.*'I'.*numpy.int32"):
             world().zonal(0, 0, array.array("I", [0, 50, 0, 0]))
         with self.assertRaisesRegex(TypeError, "fluxes: "):
             world().zonal(0, 0, [0, 50.5, 0, 0])
 
     def test_numbers_out_of_range(self):
         for cell, amount in ((-1, 1), (2**32, 1), (3, -1), (3, 2**32)):
-            with self.assertRaisesRegex(ValueError, "is not from 0 to 4294967295"):
+            with self.assertRaisesRegex(ValueError, "is (below 0|above 4294967295)"):
                 world().emission(0, cell, amount)
-        with self.assertRaises(TypeError):
-            world().emission(0, 3.0, 1)
+        with self.assertRaisesRegex(TypeError, "amount: 1.5 is not a whole number"):
+            world().emission(0, 3, 1.5)
         with self.assertRaisesRegex(OverflowError, "fluxes: "):
             world().zonal(0, 0, [0, 2**31, 0, 0])
         with self.assertRaisesRegex(OverflowError, "air: "):
@@ -132,12 +139,19 @@ class Refusals(unittest.TestCase):
             self.assertEqual((caught.exception.number, caught.exception.call), (number, "load"))
 
 
+class Limits(unittest.TestCase):
+    def test_total(self):
+        full = puldeho.World(GRID, AIR, [puldeho.TOTAL_LIMIT] + [0] * 5)
+        self.assertEqual(full.total(0), 268435455)
+
+
 class Grids(unittest.TestCase):
     def test_numbers(self):
         grid = puldeho.Grid(w=6, r=3, k=2, n=5)
         lengths = (grid.cells_in_layer, grid.air_length, grid.tracers_length)
         self.assertEqual(lengths, (20, 40, 200))
         self.assertEqual((grid.zonal_fluxes_length, grid.meridional_fluxes_length, grid.remap_table_length), (6, 24, 6))
+        self.assertEqual((grid.air_shape, grid.tracers_shape), ((2, 20), (5, 2, 20)))
         self.assertEqual((grid.cell_number(1, 2, 5), grid.south_cap(1), grid.north_cap(1)), (38, 20, 39))
 
     def test_absent_places(self):

@@ -5,6 +5,29 @@ use crate::{outcome, Grid};
 /// The version of the library that this wrapper was made for.
 pub const VERSION: &str = "0.1.0";
 
+/// The most air of a cell; the least is 1
+pub const AIR_LIMIT: u32 = 65535;
+/// The most units of a tracer in all cells together
+pub const TOTAL_LIMIT: u32 = 268435455;
+/// The largest size of a flux of a zonal sweep
+pub const ZONAL_LIMIT: u32 = 1048560;
+/// The largest size of a flux of a meridional sweep
+pub const MERIDIONAL_LIMIT: u32 = 65535;
+/// The most substeps of a zonal sweep
+pub const MOST_SUBSTEPS: u32 = 16;
+/// The largest a of a remap's table
+pub const TABLE_LIMIT: u32 = 2097120;
+/// The b of a remap's table that stands for all the air of a column
+pub const TABLE_SCALE: u32 = 65536;
+/// The largest W; the least is 4
+pub const MOST_COLUMNS: u32 = 72;
+/// The largest R
+pub const MOST_ROWS: u32 = 44;
+/// The largest K
+pub const MOST_LAYERS: u32 = 32;
+/// The largest N
+pub const MOST_TRACERS: u32 = 8;
+
 /// Why a call was refused. It then changed nothing. `refusal as u32` is its number.
 #[derive(Clone, Copy, Debug, PartialEq, Eq)]
 #[non_exhaustive]
