@@ -17,12 +17,12 @@ class World(ctypes.Structure):
 
 
 def places():
-    """Where the library may be: as PULDEHO_LIBRARY says, installed (PREFIX/share/puldeho/python), in the repository, on the loader's path."""
+    """Where the library may be: as PULDEHO_LIBRARY says, in the repository, installed (PREFIX/share/puldeho/python), on the loader's path."""
     if "PULDEHO_LIBRARY" in os.environ:
         return [os.environ["PULDEHO_LIBRARY"]]
     return [
-        os.path.join(HERE, "..", "..", "..", "..", "lib", SONAME),
         os.path.join(HERE, "..", "..", "..", "target", "lib", SONAME),
+        os.path.join(HERE, "..", "..", "..", "..", "lib", SONAME),
         SONAME,
     ]
 
