@@ -1,5 +1,5 @@
 /*
- * Puldeho, the transport core of the tracer console, for C and C++: version 0.1.0.
+ * Puldeho, the transport core of the tracer console, for C (C99 or later) and C++: version 0.1.0.
  * Made by tools/bindings from the tables of bindings/: not to be edited.
  *
  * To compile and link, on x86-64 Linux: cc program.c $(pkg-config --cflags --libs puldeho)
@@ -7,7 +7,7 @@
  *
  *     uint32_t air[6] = {100, 100, 100, 100, 100, 100}, tracers[6] = {0, 0, 100, 200, 100, 0};
  *     int32_t fluxes[4] = {0, 50, 0, 0};
- *     struct puldeho_grid grid = {4, 1, 1, 1};
+ *     struct puldeho_grid grid = {.w = 4, .r = 1, .k = 1, .n = 1};
  *     struct puldeho_world world = puldeho_world_over(grid, air, 6, tracers, 6);
  *     enum puldeho_refusal refusal = puldeho_load(&world);
  *     if (refusal == PULDEHO_ACCEPTED)
@@ -15,9 +15,10 @@
  *     if (refusal != PULDEHO_ACCEPTED)
  *         fprintf(stderr, "refused: %s\n", puldeho_refusal_text(refusal));
  *
- * What a call gives: PULDEHO_ACCEPTED, which is 0, or the first refusal that applies. A refused call
- * changes nothing: neither air nor tracers. A count, where a call has one, is written to the last
- * argument, 0 if the call is refused; that pointer may be null.
+ * What a call gives: PULDEHO_ACCEPTED, which is 0, or the first refusal that applies. (So a true value
+ * is a refusal: do not keep it in a bool called ok.) A refused call changes nothing: neither air nor
+ * tracers. A count, where a call has one, is written to the last argument, 0 if the call is refused;
+ * that pointer may be null.
  *
  * What is assumed of pointers:
  * - each goes with the length after it, in numbers, not bytes: so many can be read there, or written;
@@ -25,7 +26,9 @@
  * - a list that is written shares no memory with another list of the same call;
  * - nobody else writes a lent list during the call, or reads one that is written.
  * Nothing is assumed of the numbers or of the lengths: any are answered. The library keeps nothing
- * between calls; several threads may call it, each with a world of its own.
+ * between calls, and each call tests the whole world before it does anything. Several threads may call
+ * it at once, each with a world of its own; a list that is only read may be shared. Between calls you
+ * may read the lists. If you write into them, load again: what is promised of a run counts from there.
  *
  * What is assumed of the stack: that it has room for the call. The deepest stack in bytes, read from
  * the object code by tools/stack, return address and libc's functions included, arguments not:
@@ -37,6 +40,7 @@
  *   puldeho_raw_remap           17,648
  *   puldeho_raw_total              416
  *   puldeho_raw_cell               384
+ * The functions puldeho_why_NAME, which are compiled by gcc, want at most PULDEHO_WHY_STACK bytes.
  */
 #ifndef PULDEHO_H
 #define PULDEHO_H
@@ -73,13 +77,23 @@
 /* the largest N */
 #define PULDEHO_MOST_TRACERS 8
 
-/* The deepest stack of all calls, in bytes. */
+/* The deepest stack of all calls, in bytes, and room enough for each function that says why one was refused. */
 #define PULDEHO_STACK 93952
+#define PULDEHO_WHY_STACK 131072
 
+/* What a compiler that knows them warns of: a result that nobody looks at, a null pointer, and a list that is shorter
+ * than the length given with it. */
 #if defined(__GNUC__)
 #define PULDEHO_MUST_USE __attribute__((warn_unused_result))
+#define PULDEHO_NOT_NULL(place) __attribute__((nonnull(place)))
 #else
 #define PULDEHO_MUST_USE
+#define PULDEHO_NOT_NULL(place)
+#endif
+#if defined(__GNUC__) && !defined(__clang__) && __GNUC__ >= 10
+#define PULDEHO_LIST(use, pointer, length) __attribute__((access(use, pointer, length)))
+#else
+#define PULDEHO_LIST(use, pointer, length)
 #endif
 
 #ifdef __cplusplus
@@ -91,29 +105,29 @@ enum puldeho_refusal {
     /* the call was made */
     PULDEHO_ACCEPTED = 0,
     /* W, R, K or N is outside its range */
-    PULDEHO_GRID_RANGE = 1,
+    PULDEHO_REFUSAL_GRID_RANGE = 1,
     /* a lent length is not the grid's */
-    PULDEHO_LENGTHS = 2,
+    PULDEHO_REFUSAL_LENGTHS = 2,
     /* a cell's air is 0 or above 65,535 */
-    PULDEHO_AIR_RANGE = 3,
+    PULDEHO_REFUSAL_AIR_RANGE = 3,
     /* a tracer's total is above 268,435,455 */
-    PULDEHO_TOTALS = 4,
+    PULDEHO_REFUSAL_TOTALS = 4,
     /* the tracer, cell, layer or row is absent */
-    PULDEHO_INDEX = 5,
+    PULDEHO_REFUSAL_INDEX = 5,
     /* the total would pass 268,435,455 */
-    PULDEHO_EMISSION = 6,
+    PULDEHO_REFUSAL_EMISSION = 6,
     /* the cell has less than the amount */
-    PULDEHO_WITHDRAWAL = 7,
+    PULDEHO_REFUSAL_WITHDRAWAL = 7,
     /* a flux's size is above 1,048,560 (zonal) or 65,535 (meridional) */
-    PULDEHO_FLUXES = 8,
+    PULDEHO_REFUSAL_FLUXES = 8,
     /* no count from 1 to 16 serves */
-    PULDEHO_ZONAL = 9,
+    PULDEHO_REFUSAL_ZONAL = 9,
     /* the substep is not allowed */
-    PULDEHO_MERIDIONAL = 10,
+    PULDEHO_REFUSAL_MERIDIONAL = 10,
     /* the first pair is not (0, 0), the last is not (0, 65,536), an a is above 2,097,120, or a b is above 65,536 */
-    PULDEHO_TABLE = 11,
+    PULDEHO_REFUSAL_TABLE = 11,
     /* in some column the edges do not rise strictly, or a new layer exceeds 65,535 */
-    PULDEHO_REMAP = 12
+    PULDEHO_REFUSAL_REMAP = 12
 };
 
 /* Why a call was refused: the condition of a refusal, in words. */
@@ -122,29 +136,29 @@ static inline const char *puldeho_refusal_text(enum puldeho_refusal refusal)
     switch (refusal) {
     case PULDEHO_ACCEPTED:
         return "accepted";
-    case PULDEHO_GRID_RANGE:
+    case PULDEHO_REFUSAL_GRID_RANGE:
         return "W, R, K or N is outside its range";
-    case PULDEHO_LENGTHS:
+    case PULDEHO_REFUSAL_LENGTHS:
         return "a lent length is not the grid's";
-    case PULDEHO_AIR_RANGE:
+    case PULDEHO_REFUSAL_AIR_RANGE:
         return "a cell's air is 0 or above 65,535";
-    case PULDEHO_TOTALS:
+    case PULDEHO_REFUSAL_TOTALS:
         return "a tracer's total is above 268,435,455";
-    case PULDEHO_INDEX:
+    case PULDEHO_REFUSAL_INDEX:
         return "the tracer, cell, layer or row is absent";
-    case PULDEHO_EMISSION:
+    case PULDEHO_REFUSAL_EMISSION:
         return "the total would pass 268,435,455";
-    case PULDEHO_WITHDRAWAL:
+    case PULDEHO_REFUSAL_WITHDRAWAL:
         return "the cell has less than the amount";
-    case PULDEHO_FLUXES:
+    case PULDEHO_REFUSAL_FLUXES:
         return "a flux's size is above 1,048,560 (zonal) or 65,535 (meridional)";
-    case PULDEHO_ZONAL:
+    case PULDEHO_REFUSAL_ZONAL:
         return "no count from 1 to 16 serves";
-    case PULDEHO_MERIDIONAL:
+    case PULDEHO_REFUSAL_MERIDIONAL:
         return "the substep is not allowed";
-    case PULDEHO_TABLE:
+    case PULDEHO_REFUSAL_TABLE:
         return "the first pair is not (0, 0), the last is not (0, 65,536), an a is above 2,097,120, or a b is above 65,536";
-    case PULDEHO_REMAP:
+    case PULDEHO_REFUSAL_REMAP:
         return "in some column the edges do not rise strictly, or a new layer exceeds 65,535";
     }
     return "no refusal of this version";
@@ -156,29 +170,29 @@ static inline const char *puldeho_refusal_remedy(enum puldeho_refusal refusal)
     switch (refusal) {
     case PULDEHO_ACCEPTED:
         return "nothing: the call was made";
-    case PULDEHO_GRID_RANGE:
+    case PULDEHO_REFUSAL_GRID_RANGE:
         return "give W from 4 to 72, R from 1 to 44, K from 1 to 32 and N from 1 to 8, in this order";
-    case PULDEHO_LENGTHS:
+    case PULDEHO_REFUSAL_LENGTHS:
         return "take every length from the grid's length functions, and give lengths in numbers";
-    case PULDEHO_AIR_RANGE:
+    case PULDEHO_REFUSAL_AIR_RANGE:
         return "choose the unit of air so that every cell has 1 to 65,535, with room for the changes within a step";
-    case PULDEHO_TOTALS:
+    case PULDEHO_REFUSAL_TOTALS:
         return "choose a larger unit for that gas, so that its total with all later emissions stays below the limit";
-    case PULDEHO_INDEX:
+    case PULDEHO_REFUSAL_INDEX:
         return "count from 0, and take cell numbers from the grid's functions for cells and caps";
-    case PULDEHO_EMISSION:
+    case PULDEHO_REFUSAL_EMISSION:
         return "load the gas in a larger unit, with room for all emissions of the run";
-    case PULDEHO_WITHDRAWAL:
+    case PULDEHO_REFUSAL_WITHDRAWAL:
         return "read the cell first, and withdraw at most what it has";
-    case PULDEHO_FLUXES:
+    case PULDEHO_REFUSAL_FLUXES:
         return "give fluxes in units of air for this step, and divide the step if they are still too large";
-    case PULDEHO_ZONAL:
-        return "make the sweep as two or more, each with a part of the fluxes; if a cell would end with no air or too much, make the whole step (zonal and meridional) in parts, or make the meridional sweep first";
-    case PULDEHO_MERIDIONAL:
-        return "make the sweep as two or more, each with a part of the fluxes; if a cell would end with no air or too much, make the whole step (zonal and meridional) in parts, or make the zonal sweeps first";
-    case PULDEHO_TABLE:
+    case PULDEHO_REFUSAL_ZONAL:
+        return "make the sweep as two or more, each with a part of the fluxes; if a cell would end with no air or too much, make the whole step (zonal, meridional, remap) in parts, or make the meridional sweep first";
+    case PULDEHO_REFUSAL_MERIDIONAL:
+        return "make the sweep as two or more, each with a part of the fluxes; if a cell would end with no air or too much, make the whole step (zonal, meridional, remap) in parts, or make the zonal sweeps or a remap first";
+    case PULDEHO_REFUSAL_TABLE:
         return "give K + 1 pairs a, b from the top down, with b in parts of 65,536, the first 0, 0 and the last 0, 65,536";
-    case PULDEHO_REMAP:
+    case PULDEHO_REFUSAL_REMAP:
         return "use a = 0, and choose the b so that every layer gets 1 to 65,535 units in the column with the least air and in the one with the most";
     }
     return "compile the program anew, with the header of the library that it is linked with";
@@ -216,22 +230,23 @@ static inline size_t puldeho_zonal_fluxes_length(struct puldeho_grid grid)
     return (size_t)grid.w;
 }
 
-/* The length of fluxes of a meridional call: W*(R + 1). In it: flux g*W + i crosses between
+/* The length of fluxes of a meridional call: (R + 1)*W. In it: flux g*W + i crosses between
  * rows g - 1 and g in column i; row -1 is the south cap, row R the north cap; positive
  * northward. */
 static inline size_t puldeho_meridional_fluxes_length(struct puldeho_grid grid)
 {
-    return (size_t)grid.w * ((size_t)grid.r + 1);
+    return ((size_t)grid.r + 1) * (size_t)grid.w;
 }
 
-/* The length of table of a remap call: 2*(K + 1). In it: pair j is a at 2*j and b at 2*j +
+/* The length of table of a remap call: (K + 1)*2. In it: pair j is a at 2*j and b at 2*j +
  * 1; edge j = a + floor(b*P/65536), P the air of the column. */
 static inline size_t puldeho_remap_table_length(struct puldeho_grid grid)
 {
-    return 2 * ((size_t)grid.k + 1);
+    return ((size_t)grid.k + 1) * 2;
 }
 
-/* What the functions below give for a place that the grid has not. Every call refuses it, with 5. */
+/* What the functions below give for a place that the grid has not. Every call refuses it, with 5; test for it
+ * before you use the number as an index. */
 #define PULDEHO_NO_CELL UINT32_MAX
 
 /* The number of a cell over all layers: layer*C + 1 + row*W + column. */
@@ -259,9 +274,9 @@ static inline uint32_t puldeho_north_cap(struct puldeho_grid grid, uint32_t laye
 }
 
 /* The world: the grid, and the lists that the caller keeps and lends to each call, with their lengths
- * in numbers. Later versions have further fields. Make it with puldeho_world_over, or by naming its
- * fields, as in {.grid = grid, .air = air, ..}: what is not set is 0 then, and stands for a value of
- * its own. Start with puldeho_load, and lend one struct to all calls: a copy of it is no second world. */
+ * in numbers. Make it with puldeho_world_over, or by naming all its fields, as in {.grid = grid, ..}.
+ * Later versions have further fields; 0 in them will mean what this version does. Start with
+ * puldeho_load, and lend one struct to all calls: a copy of it is no second world. */
 struct puldeho_world {
     struct puldeho_grid grid;
     /* the air of every cell; layer k starts at k*C: K*C numbers */
@@ -272,7 +287,9 @@ struct puldeho_world {
     size_t tracers_length;
 };
 
-/* The world of a grid and lent lists; each length is how many numbers the list has. */
+/* The world of a grid and lent lists; each length is how many numbers the list has. It reads none of them, so they may
+ * be filled afterwards. */
+PULDEHO_LIST(write_only, 2, 3) PULDEHO_LIST(write_only, 4, 5)
 static inline struct puldeho_world puldeho_world_over(
     struct puldeho_grid grid,
     uint32_t *air, size_t air_length,
@@ -292,12 +309,14 @@ static inline struct puldeho_world puldeho_world_over(
  * The proved functions. Users call those further down, which are plain C over these. Each returns one
  * number, refusal * 2^32 + count: kept in an int, it is 0 for many a refused call.
  */
-PULDEHO_MUST_USE uint64_t puldeho_raw_load(
+PULDEHO_MUST_USE PULDEHO_LIST(read_only, 5, 6) PULDEHO_LIST(read_only, 7, 8)
+uint64_t puldeho_raw_load(
     uint32_t w, uint32_t r, uint32_t k, uint32_t n,
     const uint32_t *air, size_t air_length,
     const uint32_t *tracers, size_t tracers_length);
 
-PULDEHO_MUST_USE uint64_t puldeho_raw_emission(
+PULDEHO_MUST_USE PULDEHO_LIST(read_only, 5, 6) PULDEHO_LIST(read_write, 7, 8)
+uint64_t puldeho_raw_emission(
     uint32_t w, uint32_t r, uint32_t k, uint32_t n,
     const uint32_t *air, size_t air_length,
     uint32_t *tracers, size_t tracers_length,
@@ -305,7 +324,8 @@ PULDEHO_MUST_USE uint64_t puldeho_raw_emission(
     uint32_t cell,
     uint32_t amount);
 
-PULDEHO_MUST_USE uint64_t puldeho_raw_withdrawal(
+PULDEHO_MUST_USE PULDEHO_LIST(read_only, 5, 6) PULDEHO_LIST(read_write, 7, 8)
+uint64_t puldeho_raw_withdrawal(
     uint32_t w, uint32_t r, uint32_t k, uint32_t n,
     const uint32_t *air, size_t air_length,
     uint32_t *tracers, size_t tracers_length,
@@ -313,7 +333,8 @@ PULDEHO_MUST_USE uint64_t puldeho_raw_withdrawal(
     uint32_t cell,
     uint32_t amount);
 
-PULDEHO_MUST_USE uint64_t puldeho_raw_zonal(
+PULDEHO_MUST_USE PULDEHO_LIST(read_write, 5, 6) PULDEHO_LIST(read_write, 7, 8) PULDEHO_LIST(read_only, 11, 12)
+uint64_t puldeho_raw_zonal(
     uint32_t w, uint32_t r, uint32_t k, uint32_t n,
     uint32_t *air, size_t air_length,
     uint32_t *tracers, size_t tracers_length,
@@ -321,26 +342,30 @@ PULDEHO_MUST_USE uint64_t puldeho_raw_zonal(
     uint32_t row,
     const int32_t *fluxes, size_t fluxes_length);
 
-PULDEHO_MUST_USE uint64_t puldeho_raw_meridional(
+PULDEHO_MUST_USE PULDEHO_LIST(read_write, 5, 6) PULDEHO_LIST(read_write, 7, 8) PULDEHO_LIST(read_only, 10, 11)
+uint64_t puldeho_raw_meridional(
     uint32_t w, uint32_t r, uint32_t k, uint32_t n,
     uint32_t *air, size_t air_length,
     uint32_t *tracers, size_t tracers_length,
     uint32_t layer,
     const int32_t *fluxes, size_t fluxes_length);
 
-PULDEHO_MUST_USE uint64_t puldeho_raw_remap(
+PULDEHO_MUST_USE PULDEHO_LIST(read_write, 5, 6) PULDEHO_LIST(read_write, 7, 8) PULDEHO_LIST(read_only, 9, 10)
+uint64_t puldeho_raw_remap(
     uint32_t w, uint32_t r, uint32_t k, uint32_t n,
     uint32_t *air, size_t air_length,
     uint32_t *tracers, size_t tracers_length,
     const uint32_t *table, size_t table_length);
 
-PULDEHO_MUST_USE uint64_t puldeho_raw_total(
+PULDEHO_MUST_USE PULDEHO_LIST(read_only, 5, 6) PULDEHO_LIST(read_only, 7, 8)
+uint64_t puldeho_raw_total(
     uint32_t w, uint32_t r, uint32_t k, uint32_t n,
     const uint32_t *air, size_t air_length,
     const uint32_t *tracers, size_t tracers_length,
     uint32_t tracer);
 
-PULDEHO_MUST_USE uint64_t puldeho_raw_cell(
+PULDEHO_MUST_USE PULDEHO_LIST(read_only, 5, 6) PULDEHO_LIST(read_only, 7, 8)
+uint64_t puldeho_raw_cell(
     uint32_t w, uint32_t r, uint32_t k, uint32_t n,
     const uint32_t *air, size_t air_length,
     const uint32_t *tracers, size_t tracers_length,
@@ -358,10 +383,11 @@ static inline enum puldeho_refusal puldeho_refusal_and_count(uint64_t returned, 
 /* The calls. */
 
 /*
- * Takes the lent lists as the world from now on. Checks them and changes no number in them.
- * Writes nothing. Refusals, in order: 1 2 3 4.
+ * Tests the lent lists, which are the world from then on, and changes no number in them. Writes
+ * nothing. Refusals, in order: 1 2 3 4.
  */
-PULDEHO_MUST_USE static inline enum puldeho_refusal puldeho_load(
+PULDEHO_MUST_USE PULDEHO_NOT_NULL(1) 
+static inline enum puldeho_refusal puldeho_load(
     struct puldeho_world *world)
 {
     return puldeho_refusal_and_count(puldeho_raw_load(
@@ -374,7 +400,8 @@ PULDEHO_MUST_USE static inline enum puldeho_refusal puldeho_load(
  * Adds amount to one cell of one tracer. Cells are numbered over all layers. Writes tracers.
  * Refusals, in order: 1 2 3 4 5 6.
  */
-PULDEHO_MUST_USE static inline enum puldeho_refusal puldeho_emission(
+PULDEHO_MUST_USE PULDEHO_NOT_NULL(1) 
+static inline enum puldeho_refusal puldeho_emission(
     struct puldeho_world *world,
     uint32_t tracer,
     uint32_t cell,
@@ -393,7 +420,8 @@ PULDEHO_MUST_USE static inline enum puldeho_refusal puldeho_emission(
  * Takes amount from one cell of one tracer. Cells are numbered over all layers. Writes tracers.
  * Refusals, in order: 1 2 3 4 5 7.
  */
-PULDEHO_MUST_USE static inline enum puldeho_refusal puldeho_withdrawal(
+PULDEHO_MUST_USE PULDEHO_NOT_NULL(1) 
+static inline enum puldeho_refusal puldeho_withdrawal(
     struct puldeho_world *world,
     uint32_t tracer,
     uint32_t cell,
@@ -412,7 +440,8 @@ PULDEHO_MUST_USE static inline enum puldeho_refusal puldeho_withdrawal(
  * Sweeps one row of one layer by W fluxes, positive eastward. Writes air and tracers. Refusals,
  * in order: 1 2 3 4 5 8 9. substeps: the number of substeps, 1 to 16.
  */
-PULDEHO_MUST_USE static inline enum puldeho_refusal puldeho_zonal(
+PULDEHO_MUST_USE PULDEHO_NOT_NULL(1) PULDEHO_LIST(read_only, 4, 5) 
+static inline enum puldeho_refusal puldeho_zonal(
     struct puldeho_world *world,
     uint32_t layer,
     uint32_t row,
@@ -432,7 +461,8 @@ PULDEHO_MUST_USE static inline enum puldeho_refusal puldeho_zonal(
  * Sweeps one layer by W*(R + 1) fluxes, positive northward. Writes air and tracers. Refusals,
  * in order: 1 2 3 4 5 8 10. substeps: the number of substeps, 1.
  */
-PULDEHO_MUST_USE static inline enum puldeho_refusal puldeho_meridional(
+PULDEHO_MUST_USE PULDEHO_NOT_NULL(1) PULDEHO_LIST(read_only, 3, 4) 
+static inline enum puldeho_refusal puldeho_meridional(
     struct puldeho_world *world,
     uint32_t layer,
     const int32_t *fluxes, size_t fluxes_length,
@@ -448,26 +478,28 @@ PULDEHO_MUST_USE static inline enum puldeho_refusal puldeho_meridional(
 
 /*
  * Remaps all columns to the edges of a table of K + 1 pairs a, b, lent as 2*(K + 1) numbers.
- * Writes air and tracers. Refusals, in order: 1 2 3 4 11 12. pairs: the pairs of an old and a
- * new layer that share air, over all columns.
+ * Writes air and tracers. Refusals, in order: 1 2 3 4 11 12. overlaps: the pairs of an old and
+ * a new layer that share air, over all columns.
  */
-PULDEHO_MUST_USE static inline enum puldeho_refusal puldeho_remap(
+PULDEHO_MUST_USE PULDEHO_NOT_NULL(1) PULDEHO_LIST(read_only, 2, 3) 
+static inline enum puldeho_refusal puldeho_remap(
     struct puldeho_world *world,
     const uint32_t *table, size_t table_length,
-    uint32_t *pairs)
+    uint32_t *overlaps)
 {
     return puldeho_refusal_and_count(puldeho_raw_remap(
         world->grid.w, world->grid.r, world->grid.k, world->grid.n,
         world->air, world->air_length,
         world->tracers, world->tracers_length,
-        table, table_length), pairs);
+        table, table_length), overlaps);
 }
 
 /*
  * Reads the total of one tracer. Writes nothing. Refusals, in order: 1 2 3 4 5. units: the
  * total of the tracer.
  */
-PULDEHO_MUST_USE static inline enum puldeho_refusal puldeho_total(
+PULDEHO_MUST_USE PULDEHO_NOT_NULL(1) 
+static inline enum puldeho_refusal puldeho_total(
     const struct puldeho_world *world,
     uint32_t tracer,
     uint32_t *units)
@@ -483,7 +515,8 @@ PULDEHO_MUST_USE static inline enum puldeho_refusal puldeho_total(
  * Reads one cell of one tracer. Cells are numbered over all layers. Writes nothing. Refusals,
  * in order: 1 2 3 4 5. units: the amount in the cell.
  */
-PULDEHO_MUST_USE static inline enum puldeho_refusal puldeho_cell(
+PULDEHO_MUST_USE PULDEHO_NOT_NULL(1) 
+static inline enum puldeho_refusal puldeho_cell(
     const struct puldeho_world *world,
     uint32_t tracer,
     uint32_t cell,
@@ -506,10 +539,12 @@ PULDEHO_MUST_USE static inline enum puldeho_refusal puldeho_cell(
  */
 #define PULDEHO_WHY_SIZE 1024
 
+PULDEHO_NOT_NULL(1) PULDEHO_LIST(write_only, 2, 3)
 enum puldeho_refusal puldeho_why_load(
     const struct puldeho_world *world,
     char *text, size_t size);
 
+PULDEHO_NOT_NULL(1) PULDEHO_LIST(write_only, 5, 6)
 enum puldeho_refusal puldeho_why_emission(
     const struct puldeho_world *world,
     uint32_t tracer,
@@ -517,6 +552,7 @@ enum puldeho_refusal puldeho_why_emission(
     uint32_t amount,
     char *text, size_t size);
 
+PULDEHO_NOT_NULL(1) PULDEHO_LIST(write_only, 5, 6)
 enum puldeho_refusal puldeho_why_withdrawal(
     const struct puldeho_world *world,
     uint32_t tracer,
@@ -524,6 +560,7 @@ enum puldeho_refusal puldeho_why_withdrawal(
     uint32_t amount,
     char *text, size_t size);
 
+PULDEHO_NOT_NULL(1) PULDEHO_LIST(read_only, 4, 5) PULDEHO_LIST(write_only, 6, 7)
 enum puldeho_refusal puldeho_why_zonal(
     const struct puldeho_world *world,
     uint32_t layer,
@@ -531,22 +568,26 @@ enum puldeho_refusal puldeho_why_zonal(
     const int32_t *fluxes, size_t fluxes_length,
     char *text, size_t size);
 
+PULDEHO_NOT_NULL(1) PULDEHO_LIST(read_only, 3, 4) PULDEHO_LIST(write_only, 5, 6)
 enum puldeho_refusal puldeho_why_meridional(
     const struct puldeho_world *world,
     uint32_t layer,
     const int32_t *fluxes, size_t fluxes_length,
     char *text, size_t size);
 
+PULDEHO_NOT_NULL(1) PULDEHO_LIST(read_only, 2, 3) PULDEHO_LIST(write_only, 4, 5)
 enum puldeho_refusal puldeho_why_remap(
     const struct puldeho_world *world,
     const uint32_t *table, size_t table_length,
     char *text, size_t size);
 
+PULDEHO_NOT_NULL(1) PULDEHO_LIST(write_only, 3, 4)
 enum puldeho_refusal puldeho_why_total(
     const struct puldeho_world *world,
     uint32_t tracer,
     char *text, size_t size);
 
+PULDEHO_NOT_NULL(1) PULDEHO_LIST(write_only, 4, 5)
 enum puldeho_refusal puldeho_why_cell(
     const struct puldeho_world *world,
     uint32_t tracer,

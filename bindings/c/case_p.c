@@ -76,11 +76,11 @@ static void lengths(void)
     narrow.grid.w = 3;
     empty = puldeho_world_over(world.grid, NULL, 0, NULL, 0);
     shorter.air_length = CELLS - 1;
-    expect("3 columns", puldeho_load(&narrow), PULDEHO_GRID_RANGE);
-    expect("no lists", puldeho_load(&empty), PULDEHO_LENGTHS);
-    expect("air too short", puldeho_emission(&shorter, 0, 0, 1), PULDEHO_LENGTHS);
-    expect("3 fluxes", puldeho_zonal(&world, 0, 0, fluxes, 3, NULL), PULDEHO_LENGTHS);
-    expect("half a table", puldeho_remap(&world, table, 2, NULL), PULDEHO_LENGTHS);
+    expect("3 columns", puldeho_load(&narrow), PULDEHO_REFUSAL_GRID_RANGE);
+    expect("no lists", puldeho_load(&empty), PULDEHO_REFUSAL_LENGTHS);
+    expect("air too short", puldeho_emission(&shorter, 0, 0, 1), PULDEHO_REFUSAL_LENGTHS);
+    expect("3 fluxes", puldeho_zonal(&world, 0, 0, fluxes, 3, NULL), PULDEHO_REFUSAL_LENGTHS);
+    expect("half a table", puldeho_remap(&world, table, 2, NULL), PULDEHO_REFUSAL_LENGTHS);
 }
 
 /* Refusals of the call's own arguments. A refused call gives 0 for its count and changes nothing. */
@@ -90,12 +90,12 @@ static void refusals(void)
     static const int32_t northward[8] = {100, 0, 0, 0, 0, 0, 0, 0};
     struct puldeho_world world = first_world();
     uint32_t substeps = 99;
-    expect("cell 6", puldeho_emission(&world, 0, 6, 1), PULDEHO_INDEX);
-    expect("no such cell", puldeho_emission(&world, 0, puldeho_cell_number(world.grid, 0, 1, 0), 1), PULDEHO_INDEX);
-    expect("more than is there", puldeho_withdrawal(&world, 0, 3, 201), PULDEHO_WITHDRAWAL);
-    expect("a cell would empty", puldeho_zonal(&world, 0, 0, emptying, 4, &substeps), PULDEHO_ZONAL);
+    expect("cell 6", puldeho_emission(&world, 0, 6, 1), PULDEHO_REFUSAL_INDEX);
+    expect("no such cell", puldeho_emission(&world, 0, puldeho_cell_number(world.grid, 0, 1, 0), 1), PULDEHO_REFUSAL_INDEX);
+    expect("more than is there", puldeho_withdrawal(&world, 0, 3, 201), PULDEHO_REFUSAL_WITHDRAWAL);
+    expect("a cell would empty", puldeho_zonal(&world, 0, 0, emptying, 4, &substeps), PULDEHO_REFUSAL_ZONAL);
     expect_number("its count", substeps, 0);
-    expect("the cap would empty", puldeho_meridional(&world, 0, northward, 8, &substeps), PULDEHO_MERIDIONAL);
+    expect("the cap would empty", puldeho_meridional(&world, 0, northward, 8, &substeps), PULDEHO_REFUSAL_MERIDIONAL);
     expect_list("refusals, air after", air, first_air);
     expect_list("refusals, tracers after", tracers, first_tracers);
 }

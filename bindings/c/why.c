@@ -70,6 +70,14 @@ static void say_cell(struct text *text, struct puldeho_grid grid, size_t cell)
         say(text, "cell %zu (layer %zu, row %zu, column %zu)", cell, layer, (place - 1) / grid.w, (place - 1) % grid.w);
 }
 
+/* A number by value. A program with signed numbers may have meant a negative one. */
+static void say_number(struct text *text, uint32_t number)
+{
+    say(text, "%lld", (long long)number);
+    if (number > INT32_MAX)
+        say(text, " (%lld, if the number was signed)", (long long)number - UINT32_MAX - 1);
+}
+
 /* How far an amount of air is outside 1 to 65535; 0 if it is inside. */
 static long long beyond(long long air)
 {
@@ -95,47 +103,58 @@ static enum puldeho_refusal grid_place(const struct call *call, struct text *tex
         if (numbers[i].value < numbers[i].least || numbers[i].value > numbers[i].most)
             say(text, "%s%s is %lld, it must be %lld to %lld", wrong++ == 0 ? "" : "; ", numbers[i].name,
                 (long long)numbers[i].value, (long long)numbers[i].least, (long long)numbers[i].most);
-    return wrong == 0 ? PULDEHO_ACCEPTED : PULDEHO_GRID_RANGE;
+    return wrong == 0 ? PULDEHO_ACCEPTED : PULDEHO_REFUSAL_GRID_RANGE;
 }
 
 /* 2: the lengths. */
 
-static enum puldeho_refusal length(struct text *text, const char *list, size_t has, size_t wants, const char *formula)
+/* `other` is the length that the other sweep's fluxes have, 0 if the list has none. */
+static enum puldeho_refusal length(
+    const struct call *call, struct text *text, const char *list, size_t has, size_t wants, size_t other, const char *formula)
 {
+    const struct puldeho_grid grid = call->world->grid;
     if (has == wants)
         return PULDEHO_ACCEPTED;
-    say(text, "%s has length %zu, the grid wants %zu (%s)%s", list, has, wants, formula,
-        has == 4 * wants ? "; a length counts numbers, not bytes" : "");
-    return PULDEHO_LENGTHS;
+    say(text, "%s has length %zu, the grid wants %zu (%s; here W = %d, R = %d, K = %d, N = %d)", list, has, wants, formula,
+        (int)grid.w, (int)grid.r, (int)grid.k, (int)grid.n);
+    if (has == 4 * wants)
+        say(text, "; a length counts numbers, not bytes");
+    if (has == other)
+        say(text, "; fluxes of the other sweep have that length");
+    return PULDEHO_REFUSAL_LENGTHS;
 }
 
 static enum puldeho_refusal air_length_place(const struct call *call, struct text *text)
 {
     const struct puldeho_world *world = call->world;
-    return length(text, "air", world->air_length, puldeho_air_length(world->grid), "K*C, where C = 2 + R*W");
+    return length(call, text, "air", world->air_length, puldeho_air_length(world->grid), 0, "K*C, where C = 2 + R*W");
 }
 
 static enum puldeho_refusal tracers_length_place(const struct call *call, struct text *text)
 {
     const struct puldeho_world *world = call->world;
-    return length(text, "tracers", world->tracers_length, puldeho_tracers_length(world->grid),
-                  "N*K*C, where C = 2 + R*W");
+    size_t wants = puldeho_tracers_length(world->grid);
+    return length(call, text, "tracers", world->tracers_length, wants, 0, "N*K*C, where C = 2 + R*W");
 }
 
 static enum puldeho_refusal zonal_length_place(const struct call *call, struct text *text)
 {
-    return length(text, "fluxes", call->length, puldeho_zonal_fluxes_length(call->world->grid), "W");
+    const struct puldeho_grid grid = call->world->grid;
+    size_t wants = puldeho_zonal_fluxes_length(grid), other = puldeho_meridional_fluxes_length(grid);
+    return length(call, text, "fluxes", call->length, wants, other, "W");
 }
 
 static enum puldeho_refusal meridional_length_place(const struct call *call, struct text *text)
 {
-    return length(text, "fluxes", call->length, puldeho_meridional_fluxes_length(call->world->grid), "W*(R + 1)");
+    const struct puldeho_grid grid = call->world->grid;
+    size_t wants = puldeho_meridional_fluxes_length(grid), other = puldeho_zonal_fluxes_length(grid);
+    return length(call, text, "fluxes", call->length, wants, other, "W*(R + 1)");
 }
 
 static enum puldeho_refusal table_length_place(const struct call *call, struct text *text)
 {
-    return length(text, "table", call->length, puldeho_remap_table_length(call->world->grid),
-                  "2*(K + 1), an a and a b for each edge");
+    size_t wants = puldeho_remap_table_length(call->world->grid);
+    return length(call, text, "table", call->length, wants, 0, "2*(K + 1), an a and a b for each edge");
 }
 
 /* 3: air. */
@@ -152,7 +171,7 @@ static enum puldeho_refusal air_place(const struct call *call, struct text *text
     say_cell(text, world->grid, first);
     say(text, " has air %lld, it must be 1 to 65535; cells outside: %zu of %zu", (long long)world->air[first],
         wrong, world->air_length);
-    return PULDEHO_AIR_RANGE;
+    return PULDEHO_REFUSAL_AIR_RANGE;
 }
 
 /* 4: the totals. */
@@ -173,7 +192,7 @@ static enum puldeho_refusal totals_place(const struct call *call, struct text *t
         long long total = total_of(call->world, tracer);
         if (total > PULDEHO_TOTAL_LIMIT) {
             say(text, "tracer %zu has the total %lld, the limit is %d", tracer, total, PULDEHO_TOTAL_LIMIT);
-            return PULDEHO_TOTALS;
+            return PULDEHO_REFUSAL_TOTALS;
         }
     }
     return PULDEHO_ACCEPTED;
@@ -186,12 +205,14 @@ static enum puldeho_refusal index_of(
 {
     if (value < count)
         return PULDEHO_ACCEPTED;
-    say(text, "there is no %s %lld, it may ", name, (long long)value);
+    say(text, "there is no %s ", name);
+    say_number(text, value);
+    say(text, ", it may ");
     if (count == 1)
         say(text, "only be 0");
     else
         say(text, "be 0 to %zu%s", count - 1, order);
-    return PULDEHO_INDEX;
+    return PULDEHO_REFUSAL_INDEX;
 }
 
 static enum puldeho_refusal tracer_place(const struct call *call, struct text *text)
@@ -224,9 +245,10 @@ static enum puldeho_refusal emission_place(const struct call *call, struct text 
     long long total = total_of(call->world, call->tracer);
     if (total + call->amount <= PULDEHO_TOTAL_LIMIT)
         return PULDEHO_ACCEPTED;
-    say(text, "tracer %lld has the total %lld and the amount is %lld; the limit is %d, so at most %lld can be emitted",
-        (long long)call->tracer, total, (long long)call->amount, PULDEHO_TOTAL_LIMIT, PULDEHO_TOTAL_LIMIT - total);
-    return PULDEHO_EMISSION;
+    say(text, "tracer %lld has the total %lld and the amount is ", (long long)call->tracer, total);
+    say_number(text, call->amount);
+    say(text, "; the limit is %d, so at most %lld can be emitted", PULDEHO_TOTAL_LIMIT, PULDEHO_TOTAL_LIMIT - total);
+    return PULDEHO_REFUSAL_EMISSION;
 }
 
 static enum puldeho_refusal withdrawal_place(const struct call *call, struct text *text)
@@ -236,9 +258,9 @@ static enum puldeho_refusal withdrawal_place(const struct call *call, struct tex
     if (call->amount <= has)
         return PULDEHO_ACCEPTED;
     say_cell(text, world->grid, call->cell);
-    say(text, " has %lld of tracer %lld, the amount is %lld", (long long)has, (long long)call->tracer,
-        (long long)call->amount);
-    return PULDEHO_WITHDRAWAL;
+    say(text, " has %lld of tracer %lld, the amount is ", (long long)has, (long long)call->tracer);
+    say_number(text, call->amount);
+    return PULDEHO_REFUSAL_WITHDRAWAL;
 }
 
 /* The cells and faces of a sweep: a row closed round the globe (zonal), or a layer with its caps (meridional). */
@@ -324,7 +346,7 @@ static enum puldeho_refusal fluxes_of(const struct mesh *mesh, struct text *text
     say_face(text, mesh, first);
     say(text, " is %lld, its size must be at most %lld; fluxes above: %zu of %zu", (long long)mesh->fluxes[first],
         mesh->most_flux, wrong, mesh->faces);
-    return PULDEHO_FLUXES;
+    return PULDEHO_REFUSAL_FLUXES;
 }
 
 static enum puldeho_refusal zonal_fluxes_place(const struct call *call, struct text *text)
@@ -475,10 +497,10 @@ static struct tally tally_of(const struct mesh *mesh, const struct substep *step
     return tally;
 }
 
-/* A cell in the whole sweep, with its Courant number cut to hundredths. */
+/* A cell in the whole sweep, with its Courant number in hundredths, rounded up: what exceeds the air is above 1.00. */
 static void say_courant(struct text *text, const struct mesh *mesh, const struct substep *whole, size_t cell)
 {
-    long long air = whole->air[cell], outflow = whole->outflow[cell], hundredths = 100 * outflow / air;
+    long long air = whole->air[cell], outflow = whole->outflow[cell], hundredths = (100 * outflow + air - 1) / air;
     say_cell(text, mesh->world->grid, mesh->first + cell);
     say(text, " has air %lld, its outflow %lld", air, outflow);
     if (is_cap(mesh, cell))
@@ -488,26 +510,25 @@ static void say_courant(struct text *text, const struct mesh *mesh, const struct
 }
 
 /*
- * Some cell would end outside 1 to 65535. Parts of the fluxes sum to the fluxes, so that they end there too, unless the
- * sweeps in the other direction bring the air back; they do not reach a cap.
+ * Some cell would end outside 1 to 65535. Parts of the fluxes sum to the fluxes, so that they end there too, unless a
+ * remap or the sweeps in the other direction, which do not reach a cap, bring the air back.
  */
 static void say_end(struct text *text, const struct mesh *mesh, const struct substep *whole, struct tally tally)
 {
     size_t cell = tally.worst_end;
-    const char *change = whole->after[cell] < 1 ? "diverge" : "converge";
+    bool cap = is_cap(mesh, cell), layers = mesh->world->grid.k > 1;
     say_courant(text, mesh, whole, cell);
     say(text, "; of the %s's %zu cells", mesh->name, mesh->cells);
     if (mesh->most_substeps == 1)
         say(text, " %zu would be refused,", tally.refusing);
-    say(text, " %zu would end with 0 or less and %zu above 65535; ", tally.low, tally.high);
-    if (is_cap(mesh, cell))
-        say(text, "no smaller time step helps, as parts of the same fluxes end at the same air: "
-            "the fluxes themselves must %s less at this cap", change);
-    else
-        say(text, "%sparts of this sweep alone end at the same air: if the %s of the step bring%s the air back, make the "
-            "whole step in smaller ones or make %s first; if not, the fluxes themselves must %s less at this cell",
-            mesh->caps ? "" : "no count helps, and ", mesh->caps ? "zonal sweeps" : "meridional sweep",
-            mesh->caps ? "" : "s", mesh->caps ? "those" : "that one", change);
+    say(text, " %zu would end with 0 or less and %zu above 65535; %sparts of this sweep alone end at the same air: ",
+        tally.low, tally.high, mesh->caps ? "" : "no count helps, and ");
+    if (!cap || layers)
+        say(text, "if %s%s%s can bring the air back, make that first, or the whole step in smaller ones; if not, ",
+            cap ? "" : mesh->caps ? "the zonal sweeps" : "the meridional sweep", !cap && layers ? " or " : "",
+            layers ? "a remap" : "");
+    say(text, "the fluxes themselves must %s less at this %s", whole->after[cell] < 1 ? "diverge" : "converge",
+        cap ? "cap" : "cell");
 }
 
 /* Whether a smaller time step helps. Only asked if every cell ends in 1 to 65535. */
@@ -564,13 +585,13 @@ static enum puldeho_refusal sweep_of(const struct mesh *mesh, enum puldeho_refus
 static enum puldeho_refusal zonal_place(const struct call *call, struct text *text)
 {
     struct mesh row = row_of(call);
-    return sweep_of(&row, PULDEHO_ZONAL, text);
+    return sweep_of(&row, PULDEHO_REFUSAL_ZONAL, text);
 }
 
 static enum puldeho_refusal meridional_place(const struct call *call, struct text *text)
 {
     struct mesh layer = layer_of(call);
-    return sweep_of(&layer, PULDEHO_MERIDIONAL, text);
+    return sweep_of(&layer, PULDEHO_REFUSAL_MERIDIONAL, text);
 }
 
 /* 11: the table. */
@@ -597,7 +618,7 @@ static enum puldeho_refusal table_place(const struct call *call, struct text *te
         const char *wrong = wrong_pair(pair, j, k);
         if (wrong != NULL) {
             say(text, "pair %zu of 0 to %zu is (%lld, %lld), %s", j, k, (long long)pair[0], (long long)pair[1], wrong);
-            return PULDEHO_TABLE;
+            return PULDEHO_REFUSAL_TABLE;
         }
     }
     return PULDEHO_ACCEPTED;
@@ -698,7 +719,7 @@ static enum puldeho_refusal remap_place(const struct call *call, struct text *te
         "it must be 1 to 65535; columns refused: %zu of %zu", worst.p, worst.j, worst.upper, worst.j + 1,
         worst.lower, worst.j, new_air(worst), wrong, puldeho_cells_in_layer(grid));
     say_remedy(text, call->table, worst);
-    return PULDEHO_REMAP;
+    return PULDEHO_REFUSAL_REMAP;
 }
 
 /* The places of each call, in order. */

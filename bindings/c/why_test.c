@@ -2,6 +2,7 @@
  * Tests why.c beside the library: exact texts for every refusal, then seeded calls in small worlds.
  * Prints one line; the exit status is 1 if anything differs.
  */
+#include <pthread.h>
 #include <stdbool.h>
 #include <stdio.h>
 #include <stdlib.h>
@@ -260,9 +261,9 @@ static void check_call(const struct puldeho_world *world, const struct request *
         differs("another refusal without a text", text);
     if ((refusal == PULDEHO_ACCEPTED) != (strcmp(text, "the call would be accepted") == 0))
         differs("accepted or not", text);
-    if (refusal == PULDEHO_ZONAL || refusal == PULDEHO_MERIDIONAL)
+    if (refusal == PULDEHO_REFUSAL_ZONAL || refusal == PULDEHO_REFUSAL_MERIDIONAL)
         check_sweep(world, r, text);
-    if (refusal == PULDEHO_REMAP)
+    if (refusal == PULDEHO_REFUSAL_REMAP)
         check_remap(world, r, text);
     check_size(world, r, text, size);
     if (!same(world, &before))
@@ -460,141 +461,152 @@ struct fixed {
 
 static const struct fixed fixed[] = {
     {CASE_P, SWEEP_ROW(0, 50, 0, 0), .refusal = PULDEHO_ACCEPTED, .text = "the call would be accepted"},
-    {.grid = {3, 1, 1, 9}, .r = {.name = LOAD}, .refusal = PULDEHO_GRID_RANGE,
+    {.grid = {3, 1, 1, 9}, .r = {.name = LOAD}, .refusal = PULDEHO_REFUSAL_GRID_RANGE,
      .text = "W (columns) is 3, it must be 4 to 72; N (tracers) is 9, it must be 1 to 8"},
-    {CASE_P, .air_length = 7, .r = {.name = LOAD}, .refusal = PULDEHO_LENGTHS,
-     .text = "air has length 7, the grid wants 6 (K*C, where C = 2 + R*W)"},
-    {CASE_P, .tracers_length = 5, .r = {.name = LOAD}, .refusal = PULDEHO_LENGTHS,
-     .text = "tracers has length 5, the grid wants 6 (N*K*C, where C = 2 + R*W)"},
-    {CASE_P, .r = {.name = ZONAL, .length = 16}, .refusal = PULDEHO_LENGTHS,
-     .text = "fluxes has length 16, the grid wants 4 (W); a length counts numbers, not bytes"},
-    {CASE_P, .r = {.name = MERIDIONAL, .length = 4}, .refusal = PULDEHO_LENGTHS,
-     .text = "fluxes has length 4, the grid wants 8 (W*(R + 1))"},
-    {CASE_P, .r = {.name = REMAP, .length = 2}, .refusal = PULDEHO_LENGTHS,
-     .text = "table has length 2, the grid wants 4 (2*(K + 1), an a and a b for each edge)"},
-    {SMALL, .air = {100, 100, 0, 100, 100, 70000}, .r = {.name = TOTAL}, .refusal = PULDEHO_AIR_RANGE,
+    {CASE_P, .air_length = 7, .r = {.name = LOAD}, .refusal = PULDEHO_REFUSAL_LENGTHS,
+     .text = "air has length 7, the grid wants 6 (K*C, where C = 2 + R*W; here W = 4, R = 1, K = 1, N = 1)"},
+    {CASE_P, .tracers_length = 5, .r = {.name = LOAD}, .refusal = PULDEHO_REFUSAL_LENGTHS,
+     .text = "tracers has length 5, the grid wants 6 (N*K*C, where C = 2 + R*W; here W = 4, R = 1, K = 1, N = 1)"},
+    {CASE_P, .r = {.name = ZONAL, .length = 16}, .refusal = PULDEHO_REFUSAL_LENGTHS,
+     .text = "fluxes has length 16, the grid wants 4 (W; here W = 4, R = 1, K = 1, N = 1); a length counts numbers, "
+             "not bytes"},
+    {CASE_P, .r = {.name = MERIDIONAL, .length = 4}, .refusal = PULDEHO_REFUSAL_LENGTHS,
+     .text = "fluxes has length 4, the grid wants 8 (W*(R + 1); here W = 4, R = 1, K = 1, N = 1); fluxes of the other "
+             "sweep have that length"},
+    {CASE_P, .r = {.name = REMAP, .length = 2}, .refusal = PULDEHO_REFUSAL_LENGTHS,
+     .text = "table has length 2, the grid wants 4 (2*(K + 1), an a and a b for each edge; here W = 4, R = 1, K = 1, N"
+             " = 1)"},
+    {SMALL, .air = {100, 100, 0, 100, 100, 70000}, .r = {.name = TOTAL}, .refusal = PULDEHO_REFUSAL_AIR_RANGE,
      .text = "cell 2 (layer 0, row 0, column 1) has air 0, it must be 1 to 65535; cells outside: 2 of 6"},
-    {SMALL, .air = {100, 100, 100, 100, 100, 65536}, .r = {.name = LOAD}, .refusal = PULDEHO_AIR_RANGE,
+    {SMALL, .air = {100, 100, 100, 100, 100, 65536}, .r = {.name = LOAD}, .refusal = PULDEHO_REFUSAL_AIR_RANGE,
      .text = "cell 5 (north cap of layer 0) has air 65536, it must be 1 to 65535; cells outside: 1 of 6"},
-    {SMALL, AIR_100, .tracers = {268435455, 1}, .r = {.name = LOAD}, .refusal = PULDEHO_TOTALS,
+    {SMALL, AIR_100, .tracers = {268435455, 1}, .r = {.name = LOAD}, .refusal = PULDEHO_REFUSAL_TOTALS,
      .text = "tracer 0 has the total 268435456, the limit is 268435455"},
-    {CASE_P, .r = {.name = TOTAL, .tracer = 1}, .refusal = PULDEHO_INDEX,
+    {CASE_P, .r = {.name = TOTAL, .tracer = 1}, .refusal = PULDEHO_REFUSAL_INDEX,
      .text = "there is no tracer 1, it may only be 0"},
-    {CASE_P, .r = {.name = CELL, .cell = 6}, .refusal = PULDEHO_INDEX,
+    {CASE_P, .r = {.name = CELL, .cell = 6}, .refusal = PULDEHO_REFUSAL_INDEX,
      .text = "there is no cell 6, it may be 0 to 5 over all layers"},
-    {CASE_P, .r = {.name = EMISSION, .cell = PULDEHO_NO_CELL}, .refusal = PULDEHO_INDEX,
-     .text = "there is no cell 4294967295, it may be 0 to 5 over all layers; this number stands for an absent "
-             "layer, row or column (PULDEHO_NO_CELL)"},
+    {CASE_P, .r = {.name = EMISSION, .cell = PULDEHO_NO_CELL}, .refusal = PULDEHO_REFUSAL_INDEX,
+     .text = "there is no cell 4294967295 (-1, if the number was signed), it may be 0 to 5 over all layers; this "
+             "number stands for an absent layer, row or column (PULDEHO_NO_CELL)"},
     {TWO_ROWS, AIR_9, .r = {.name = ZONAL, .row = 2, .length = 4},
-     .refusal = PULDEHO_INDEX, .text = "there is no row 2, it may be 0 to 1 from south to north"},
+     .refusal = PULDEHO_REFUSAL_INDEX, .text = "there is no row 2, it may be 0 to 1 from south to north"},
     {TWO_LAYERS, AIR_9, .r = {.name = MERIDIONAL, .layer = 2, .length = 8},
-     .refusal = PULDEHO_INDEX, .text = "there is no layer 2, it may be 0 to 1 from the top down"},
-    {SMALL, AIR_100, .tracers = {268435455}, .r = {.name = EMISSION, .amount = 1}, .refusal = PULDEHO_EMISSION,
+     .refusal = PULDEHO_REFUSAL_INDEX, .text = "there is no layer 2, it may be 0 to 1 from the top down"},
+    {SMALL, AIR_100, .tracers = {268435455}, .r = {.name = EMISSION, .amount = 1}, .refusal = PULDEHO_REFUSAL_EMISSION,
      .text = "tracer 0 has the total 268435455 and the amount is 1; the limit is 268435455, so at most 0 can be "
              "emitted"},
-    {CASE_P, .r = {.name = EMISSION, .cell = 2, .amount = 4294967295u}, .refusal = PULDEHO_EMISSION,
-     .text = "tracer 0 has the total 400 and the amount is 4294967295; the limit is 268435455, so at most 268435055 "
-             "can be emitted"},
-    {CASE_P, .r = {.name = WITHDRAWAL, .cell = 3, .amount = 201}, .refusal = PULDEHO_WITHDRAWAL,
+    {CASE_P, .r = {.name = EMISSION, .cell = 2, .amount = 4294967295u}, .refusal = PULDEHO_REFUSAL_EMISSION,
+     .text = "tracer 0 has the total 400 and the amount is 4294967295 (-1, if the number was signed); the limit is "
+             "268435455, so at most 268435055 can be emitted"},
+    {CASE_P, .r = {.name = WITHDRAWAL, .cell = 3, .amount = 201}, .refusal = PULDEHO_REFUSAL_WITHDRAWAL,
      .text = "cell 3 (layer 0, row 0, column 2) has 200 of tracer 0, the amount is 201"},
-    {CASE_P, SWEEP_ROW(0, 0, 1048561, -2147483647 - 1), .refusal = PULDEHO_FLUXES,
+    {CASE_P, SWEEP_ROW(0, 0, 1048561, -2147483647 - 1), .refusal = PULDEHO_REFUSAL_FLUXES,
      .text = "flux 2 (between columns 2 and 3) is 1048561, its size must be at most 1048560; fluxes above: 2 of 4"},
-    {CASE_P, SWEEP_ROW(0, 0, 0, -2147483647 - 1), .refusal = PULDEHO_FLUXES,
+    {CASE_P, SWEEP_ROW(0, 0, 0, -2147483647 - 1), .refusal = PULDEHO_REFUSAL_FLUXES,
      .text = "flux 3 (between columns 3 and 0) is -2147483648, its size must be at most 1048560; fluxes above: 1 of 4"},
-    {CASE_P, SWEEP_LAYER(0, 65536, 0, 0, 0, 0, 0, 0), .refusal = PULDEHO_FLUXES,
+    {CASE_P, SWEEP_LAYER(0, 65536, 0, 0, 0, 0, 0, 0), .refusal = PULDEHO_REFUSAL_FLUXES,
      .text = "flux 1 (column 1, between the south cap and row 0) is 65536, its size must be at most 65535; fluxes "
              "above: 1 of 8"},
-    {CASE_P, SWEEP_LAYER(0, 0, 0, 0, 0, 0, -65536, 0), .refusal = PULDEHO_FLUXES,
+    {CASE_P, SWEEP_LAYER(0, 0, 0, 0, 0, 0, -65536, 0), .refusal = PULDEHO_REFUSAL_FLUXES,
      .text = "flux 6 (column 2, between row 0 and the north cap) is -65536, its size must be at most 65535; fluxes "
              "above: 1 of 8"},
     {TWO_ROWS, AIR_9, .r = {.name = MERIDIONAL, .length = 12, .fluxes = {0, 0, 0, 0, 0, 65536, 0, 65536}},
-     .refusal = PULDEHO_FLUXES,
+     .refusal = PULDEHO_REFUSAL_FLUXES,
      .text = "flux 5 (column 1, between rows 0 and 1) is 65536, its size must be at most 65535; fluxes above: 2 of "
              "12"},
-    {CASE_P, SWEEP_ROW(0, 100, 0, 0), .refusal = PULDEHO_ZONAL,
+    {CASE_P, SWEEP_ROW(0, 100, 0, 0), .refusal = PULDEHO_REFUSAL_ZONAL,
      .text = "cell 2 (layer 0, row 0, column 1) has air 100, its outflow 100 is 1.00 times its air, and it would end "
              "with air 0; of the row's 4 cells 1 would end with 0 or less and 0 above 65535; no count helps, and parts"
-             " of this sweep alone end at the same air: if the meridional sweep of the step brings the air back, make "
-             "the whole step in smaller ones or make that one first; if not, the fluxes themselves must diverge less "
-             "at this cell"},
-    {SMALL, .air = {100, 100, 100, 65000, 100, 100}, SWEEP_ROW(0, 1500, 0, 0), .refusal = PULDEHO_ZONAL,
+             " of this sweep alone end at the same air: if the meridional sweep can bring the air back, make that "
+             "first, or the whole step in smaller ones; if not, the fluxes themselves must diverge less at this cell"},
+    {SMALL, .air = {100, 100, 100, 65000, 100, 100}, SWEEP_ROW(0, 1500, 0, 0), .refusal = PULDEHO_REFUSAL_ZONAL,
      .text = "cell 2 (layer 0, row 0, column 1) has air 100, its outflow 1500 is 15.00 times its air, and it would end"
              " with air -1400; of the row's 4 cells 1 would end with 0 or less and 1 above 65535; no count helps, and "
-             "parts of this sweep alone end at the same air: if the meridional sweep of the step brings the air back, "
-             "make the whole step in smaller ones or make that one first; if not, the fluxes themselves must diverge "
-             "less at this cell"},
-    {SMALL, .air = {100, 100, 2000, 65000, 100, 100}, SWEEP_ROW(0, 1500, 0, 0), .refusal = PULDEHO_ZONAL,
+             "parts of this sweep alone end at the same air: if the meridional sweep can bring the air back, make that"
+             " first, or the whole step in smaller ones; if not, the fluxes themselves must diverge less at this cell"},
+    {SMALL, .air = {100, 100, 2000, 65000, 100, 100}, SWEEP_ROW(0, 1500, 0, 0), .refusal = PULDEHO_REFUSAL_ZONAL,
      .text = "cell 3 (layer 0, row 0, column 2) has air 65000, its outflow 0 is 0.00 times its air, and it would end "
              "with air 66500; of the row's 4 cells 0 would end with 0 or less and 1 above 65535; no count helps, and "
-             "parts of this sweep alone end at the same air: if the meridional sweep of the step brings the air back, "
-             "make the whole step in smaller ones or make that one first; if not, the fluxes themselves must converge "
-             "less at this cell"},
-    {CASE_P, SWEEP_ROW(1601, 1601, 1601, 1601), .refusal = PULDEHO_ZONAL,
+             "parts of this sweep alone end at the same air: if the meridional sweep can bring the air back, make that"
+             " first, or the whole step in smaller ones; if not, the fluxes themselves must converge less at this cell"},
+    {CASE_P, SWEEP_ROW(1601, 1601, 1601, 1601), .refusal = PULDEHO_REFUSAL_ZONAL,
      .text = "cell 1 (layer 0, row 0, column 0) has air 100, its outflow 1601 is 16.01 times its air, and it would "
              "end with air 100; with 16 substeps it refuses first in substep 16, where its outflow is 101 and its "
              "air 100; every cell of the row would end within 1 to 65535, so a smaller time step helps: cut into 2 "
              "sweeps, all are accepted (part s of 2 of a flux F is floor(s*|F|/2) - floor((s - 1)*|F|/2), with the "
              "sign of F)"},
-    {SMALL, .air = {1, 500, 500, 40, 500, 1}, SWEEP_ROW(2000, 2000, 2010, 2000), .refusal = PULDEHO_ZONAL,
+    {SMALL, .air = {1, 500, 500, 40, 500, 1}, SWEEP_ROW(2000, 2000, 2010, 2000), .refusal = PULDEHO_REFUSAL_ZONAL,
      .text = "cell 3 (layer 0, row 0, column 2) has air 40, its outflow 2010 is 50.25 times its air, and it would "
              "end with air 30; with 16 substeps it refuses first in substep 1, where its outflow is 125 and its air "
              "40; every cell of the row would end within 1 to 65535, so a smaller time step helps: cut into 5 "
              "sweeps, all are accepted (part s of 5 of a flux F is floor(s*|F|/5) - floor((s - 1)*|F|/5), with the "
              "sign of F)"},
-    {SMALL, .air = {1, 1, 1, 1, 1, 1}, SWEEP_ROW(1025, 1025, 1025, 1025), .refusal = PULDEHO_ZONAL,
+    {SMALL, .air = {1, 1, 1, 1, 1, 1}, SWEEP_ROW(1025, 1025, 1025, 1025), .refusal = PULDEHO_REFUSAL_ZONAL,
      .text = "cell 1 (layer 0, row 0, column 0) has air 1, its outflow 1025 is 1025.00 times its air, and it would "
              "end with air 1; with 16 substeps it refuses first in substep 1, where its outflow is 64 and its air "
              "1; every cell of the row would end within 1 to 65535, but cut into any number of sweeps from 2 to 64 "
              "the fluxes are refused too (more were not tried): smaller fluxes or more air are needed"},
-    {CASE_P, SWEEP_LAYER(0, 0, 0, 0, -30, -30, -30, -40), .refusal = PULDEHO_MERIDIONAL,
+    {CASE_P, SWEEP_LAYER(0, 0, 0, 0, -30, -30, -30, -40), .refusal = PULDEHO_REFUSAL_MERIDIONAL,
      .text = "cell 5 (north cap of layer 0) has air 100, its outflow 130, the sum through its 4 faces, is 1.30 times "
              "its air, and it would end with air -30; of the layer's 6 cells 1 would be refused, 1 would end with 0 or"
-             " less and 0 above 65535; no smaller time step helps, as parts of the same fluxes end at the same air: "
-             "the fluxes themselves must diverge less at this cap"},
-    {CASE_P, SWEEP_LAYER(-40, -40, -40, -40, 0, 0, 120, 0), .refusal = PULDEHO_MERIDIONAL,
+             " less and 0 above 65535; parts of this sweep alone end at the same air: the fluxes themselves must "
+             "diverge less at this cap"},
+    {CASE_P, SWEEP_LAYER(-40, -40, -40, -40, 0, 0, 120, 0), .refusal = PULDEHO_REFUSAL_MERIDIONAL,
      .text = "cell 3 (layer 0, row 0, column 2) has air 100, its outflow 160 is 1.60 times its air, and it would end "
              "with air -60; of the layer's 6 cells 1 would be refused, 1 would end with 0 or less and 0 above 65535; "
-             "parts of this sweep alone end at the same air: if the zonal sweeps of the step bring the air back, make "
-             "the whole step in smaller ones or make those first; if not, the fluxes themselves must diverge less at "
-             "this cell"},
-    {CASE_P, SWEEP_LAYER(60, 60, -60, -60, 60, 60, -60, -60), .refusal = PULDEHO_MERIDIONAL,
+             "parts of this sweep alone end at the same air: if the zonal sweeps can bring the air back, make that "
+             "first, or the whole step in smaller ones; if not, the fluxes themselves must diverge less at this cell"},
+    {TWO_LAYERS, AIR_9, SWEEP_ROW(0, 9, 0, 0), .refusal = PULDEHO_REFUSAL_ZONAL,
+     .text = "cell 2 (layer 0, row 0, column 1) has air 9, its outflow 9 is 1.00 times its air, and it would end with "
+             "air 0; of the row's 4 cells 1 would end with 0 or less and 0 above 65535; no count helps, and parts of "
+             "this sweep alone end at the same air: if the meridional sweep or a remap can bring the air back, make "
+             "that first, or the whole step in smaller ones; if not, the fluxes themselves must diverge less at this "
+             "cell"},
+    {TWO_LAYERS, AIR_9, SWEEP_LAYER(3, 3, 3, 0, 0, 0, 0, 0), .refusal = PULDEHO_REFUSAL_MERIDIONAL,
+     .text = "cell 0 (south cap of layer 0) has air 9, its outflow 9, the sum through its 4 faces, is 1.00 times its "
+             "air, and it would end with air 0; of the layer's 6 cells 1 would be refused, 1 would end with 0 or less "
+             "and 0 above 65535; parts of this sweep alone end at the same air: if a remap can bring the air back, "
+             "make that first, or the whole step in smaller ones; if not, the fluxes themselves must diverge less at "
+             "this cap"},
+    {CASE_P, SWEEP_LAYER(60, 60, -60, -60, 60, 60, -60, -60), .refusal = PULDEHO_REFUSAL_MERIDIONAL,
      .text = "cell 0 (south cap of layer 0) has air 100, its outflow 120, the sum through its 4 faces, is 1.20 "
              "times its air, and it would end with air 100; of the layer's 6 cells 2 would be refused, with more "
              "outflow than air; every cell of the layer would end within 1 to 65535, so a smaller time step helps: "
              "cut into 2 sweeps, all are accepted (part s of 2 of a flux F is floor(s*|F|/2) - floor((s - "
              "1)*|F|/2), with the sign of F)"},
-    {CASE_P, SWEEP_LAYER(0, 300, 0, -300, 0, 300, 0, -300), .refusal = PULDEHO_MERIDIONAL,
+    {CASE_P, SWEEP_LAYER(0, 300, 0, -300, 0, 300, 0, -300), .refusal = PULDEHO_REFUSAL_MERIDIONAL,
      .text = "cell 0 (south cap of layer 0) has air 100, its outflow 300, the sum through its 4 faces, is 3.00 "
              "times its air, and it would end with air 100; of the layer's 6 cells 4 would be refused, with more "
              "outflow than air; every cell of the layer would end within 1 to 65535, so a smaller time step helps: "
              "cut into 3 sweeps, all are accepted (part s of 3 of a flux F is floor(s*|F|/3) - floor((s - "
              "1)*|F|/3), with the sign of F)"},
-    {SMALL, .air = {1, 9, 9, 9, 9, 9}, SWEEP_LAYER(1, 1, -1, -1, 0, 0, 0, 0), .refusal = PULDEHO_MERIDIONAL,
+    {SMALL, .air = {1, 9, 9, 9, 9, 9}, SWEEP_LAYER(1, 1, -1, -1, 0, 0, 0, 0), .refusal = PULDEHO_REFUSAL_MERIDIONAL,
      .text = "cell 0 (south cap of layer 0) has air 1, its outflow 2, the sum through its 4 faces, is 2.00 times "
              "its air, and it would end with air 1; of the layer's 6 cells 1 would be refused, with more outflow "
              "than air; every cell of the layer would end within 1 to 65535, but cut into any number of sweeps from "
              "2 to 64 the fluxes are refused too (more were not tried): smaller fluxes or more air are needed"},
-    {TWO_LAYERS, AIR_9, REMAP_TWO(0, 0, 2097121, 5, 0, 65536), .refusal = PULDEHO_TABLE,
+    {TWO_LAYERS, AIR_9, REMAP_TWO(0, 0, 2097121, 5, 0, 65536), .refusal = PULDEHO_REFUSAL_TABLE,
      .text = "pair 1 of 0 to 2 is (2097121, 5), an a may be 0 to 2097120"},
-    {TWO_LAYERS, AIR_9, REMAP_TWO(0, 0, 0, 32768, 0, 65535), .refusal = PULDEHO_TABLE,
+    {TWO_LAYERS, AIR_9, REMAP_TWO(0, 0, 0, 32768, 0, 65535), .refusal = PULDEHO_REFUSAL_TABLE,
      .text = "pair 2 of 0 to 2 is (0, 65535), the last pair must be (0, 65536)"},
-    {CASE_P, .r = {.name = REMAP, .length = 4, .table = {1, 0, 0, 65536}}, .refusal = PULDEHO_TABLE,
+    {CASE_P, .r = {.name = REMAP, .length = 4, .table = {1, 0, 0, 65536}}, .refusal = PULDEHO_REFUSAL_TABLE,
      .text = "pair 0 of 0 to 1 is (1, 0), the first pair must be (0, 0)"},
-    {TWO_LAYERS, AIR_9, REMAP_TWO(0, 0, 0, 65537, 0, 65536), .refusal = PULDEHO_TABLE,
+    {TWO_LAYERS, AIR_9, REMAP_TWO(0, 0, 0, 65537, 0, 65536), .refusal = PULDEHO_REFUSAL_TABLE,
      .text = "pair 1 of 0 to 2 is (0, 65537), a b may be 0 to 65536"},
     {TWO_LAYERS, .air = {9, 2, 1, 9, 9, 9, 9, 1, 1, 9, 9, 9}, REMAP_TWO(0, 0, 0, 16384, 0, 65536),
-     .refusal = PULDEHO_REMAP,
+     .refusal = PULDEHO_REFUSAL_REMAP,
      .text = "in the column at row 0, column 1 (air sum P = 2) edge 0 is 0 and edge 1 is 0, so new layer 0 would "
              "have air 0, it must be 1 to 65535; columns refused: 2 of 6; from pair 0 to pair 1 a changes by 0 and "
              "b by 16384: a change of b by 32768 or more is sure to give one unit of air (65536/P of b for each "
              "unit; an a is an amount of air, the same in every column)"},
     {TWO_LAYERS, .air = {65535, 9, 9, 9, 9, 9, 65535, 9, 9, 9, 9, 9}, REMAP_TWO(0, 0, 0, 40000, 0, 65536),
-     .refusal = PULDEHO_REMAP,
+     .refusal = PULDEHO_REFUSAL_REMAP,
      .text = "in the column of the south cap (air sum P = 131070) edge 0 is 0 and edge 1 is 79998, so new layer 0 "
              "would have air 79998, it must be 1 to 65535; columns refused: 1 of 6; from pair 0 to pair 1 a changes "
              "by 0 and b by 40000: a layer above 65535 needs smaller changes here, more layers or less air"},
     {TWO_LAYERS, .air = {90, 90, 90, 90, 90, 40, 90, 90, 90, 90, 90, 40}, REMAP_TWO(0, 0, 100, 0, 0, 65536),
-     .refusal = PULDEHO_REMAP,
+     .refusal = PULDEHO_REFUSAL_REMAP,
      .text = "in the column of the north cap (air sum P = 80) edge 1 is 100 and edge 2 is 80, so new layer 1 would "
              "have air -20, it must be 1 to 65535; columns refused: 1 of 6; from pair 1 to pair 2 a changes by -100 "
              "and b by 65536: an a is an amount of air, the same in every column; here it falls by P or more, so no "
@@ -605,7 +617,7 @@ static void check_fixed(const struct fixed *f)
 {
     char text[PULDEHO_WHY_SIZE];
     struct fixed own = *f;
-    bool in_range = f->refusal != PULDEHO_GRID_RANGE;
+    bool in_range = f->refusal != PULDEHO_REFUSAL_GRID_RANGE;
     size_t air = in_range ? puldeho_air_length(f->grid) : 0, tracers = in_range ? puldeho_tracers_length(f->grid) : 0;
     struct puldeho_world world = puldeho_world_over(
         f->grid, own.air, f->air_length == 0 ? air : f->air_length,
@@ -617,8 +629,8 @@ static void check_fixed(const struct fixed *f)
     drop(&lent);
 }
 
-/* The widest layer, and the longest numbers: the text still fits. */
-static void check_large(void)
+/* The widest layer, and the longest numbers: the text still fits, and so does the stack. */
+static void *check_large(void *nothing)
 {
     static uint32_t air[32 * 3170], tracers[8 * 32 * 3170];
     static int32_t fluxes[72 * 45];
@@ -629,10 +641,21 @@ static void check_large(void)
         air[i] = 65535;
     for (size_t i = 0; i < 72 * 45; i++)
         fluxes[i] = i % 2 == 0 ? 65535 : -65535;
-    if (puldeho_why_meridional(&world, 31, fluxes, 72 * 45, text, sizeof text) != PULDEHO_MERIDIONAL
-        || puldeho_meridional(&world, 31, fluxes, 72 * 45, NULL) != PULDEHO_MERIDIONAL
+    if (puldeho_why_meridional(&world, 31, fluxes, 72 * 45, text, sizeof text) != PULDEHO_REFUSAL_MERIDIONAL
+        || puldeho_meridional(&world, 31, fluxes, 72 * 45, NULL) != PULDEHO_REFUSAL_MERIDIONAL
         || strlen(text) >= PULDEHO_WHY_SIZE - 1)
         differs("the widest layer", text);
+    return nothing;
+}
+
+/* In a thread whose whole stack is what the header says. */
+static void check_stack(void)
+{
+    pthread_attr_t attributes;
+    pthread_t thread;
+    if (pthread_attr_init(&attributes) != 0 || pthread_attr_setstacksize(&attributes, PULDEHO_WHY_STACK) != 0
+        || pthread_create(&thread, &attributes, check_large, NULL) != 0 || pthread_join(thread, NULL) != 0)
+        differs("no thread", "");
 }
 
 /* Every refusal and every kind of text was met. */
@@ -649,7 +672,7 @@ int main(void)
     size_t texts = sizeof fixed / sizeof fixed[0];
     for (size_t i = 0; i < texts; i++)
         check_fixed(&fixed[i]);
-    check_large();
+    check_stack();
     for (int i = 0; i < CALLS; i++)
         seeded_call();
     if (!all_reached())

@@ -14,9 +14,10 @@
 ! Layers, rows, columns, tracers and cells are counted from 0, and world%air(0) is the first cell's air.
 ! Each call sets refusal: 0 (puldeho_accepted) or the number of the first refusal that applies. A refused call
 ! changes nothing. Numbers are 32-bit without a sign in the library, so a negative one is far above every limit
-! and is refused. docs/GUIDE.md explains grid, units, fluxes and refusals.
+! and is refused. After a refused call NAME, call world%why_NAME(.., text) with the same arguments says which cell
+! or column was in the way, and what would help. docs/GUIDE.md explains grid, units, fluxes and refusals.
 module puldeho
-  use, intrinsic :: iso_c_binding, only: c_int32_t, c_int64_t, c_size_t
+  use, intrinsic :: iso_c_binding, only: c_char, c_int, c_int32_t, c_int64_t, c_loc, c_null_char, c_null_ptr, c_ptr, c_size_t
   implicit none
   private
 
@@ -75,7 +76,7 @@ module puldeho
   integer(c_int32_t), parameter, public :: puldeho_no_cell = -1
 
   public :: puldeho_cells_in_layer, puldeho_cell_number, puldeho_south_cap, puldeho_north_cap
-  public :: puldeho_refusal_text, puldeho_refusal_remedy
+  public :: puldeho_refusal_text, puldeho_refusal_remedy, puldeho_why_load
   public :: puldeho_air_length
   public :: puldeho_tracers_length
   public :: puldeho_zonal_fluxes_length
@@ -104,7 +105,26 @@ module puldeho
     procedure :: remap => world_remap
     procedure :: total => world_total
     procedure :: cell => world_cell
+    procedure :: why_emission => world_why_emission
+    procedure :: why_withdrawal => world_why_withdrawal
+    procedure :: why_zonal => world_why_zonal
+    procedure :: why_meridional => world_why_meridional
+    procedure :: why_remap => world_why_remap
+    procedure :: why_total => world_why_total
+    procedure :: why_cell => world_why_cell
   end type puldeho_world
+
+  ! struct puldeho_world of the C header.
+  type, bind(c) :: c_world
+    integer(c_int32_t) :: w, r, k, n
+    type(c_ptr) :: air = c_null_ptr
+    integer(c_size_t) :: air_length = 0
+    type(c_ptr) :: tracers = c_null_ptr
+    integer(c_size_t) :: tracers_length = 0
+  end type c_world
+
+  ! PULDEHO_WHY_SIZE of the C header.
+  integer, parameter :: why_size = 1024
 
   ! The proved functions. Each returns refusal * 2**32 + count.
   interface
@@ -223,6 +243,107 @@ module puldeho
     end function puldeho_raw_cell
   end interface
 
+  ! The functions that say why a call is refused, which are plain C and only read.
+  interface
+    function c_why_load( &
+        world, words, words_size) &
+        bind(c, name="puldeho_why_load") result(refusal)
+      import :: c_char, c_int, c_int32_t, c_size_t, c_world
+      type(c_world), intent(in) :: world
+      character(kind=c_char), intent(out) :: words(*)
+      integer(c_size_t), value :: words_size
+      integer(c_int) :: refusal
+    end function c_why_load
+
+    function c_why_emission( &
+        world, tracer, cell, amount, words, words_size) &
+        bind(c, name="puldeho_why_emission") result(refusal)
+      import :: c_char, c_int, c_int32_t, c_size_t, c_world
+      type(c_world), intent(in) :: world
+      integer(c_int32_t), value :: tracer
+      integer(c_int32_t), value :: cell
+      integer(c_int32_t), value :: amount
+      character(kind=c_char), intent(out) :: words(*)
+      integer(c_size_t), value :: words_size
+      integer(c_int) :: refusal
+    end function c_why_emission
+
+    function c_why_withdrawal( &
+        world, tracer, cell, amount, words, words_size) &
+        bind(c, name="puldeho_why_withdrawal") result(refusal)
+      import :: c_char, c_int, c_int32_t, c_size_t, c_world
+      type(c_world), intent(in) :: world
+      integer(c_int32_t), value :: tracer
+      integer(c_int32_t), value :: cell
+      integer(c_int32_t), value :: amount
+      character(kind=c_char), intent(out) :: words(*)
+      integer(c_size_t), value :: words_size
+      integer(c_int) :: refusal
+    end function c_why_withdrawal
+
+    function c_why_zonal( &
+        world, layer, row, fluxes, fluxes_length, words, words_size) &
+        bind(c, name="puldeho_why_zonal") result(refusal)
+      import :: c_char, c_int, c_int32_t, c_size_t, c_world
+      type(c_world), intent(in) :: world
+      integer(c_int32_t), value :: layer
+      integer(c_int32_t), value :: row
+      integer(c_int32_t), intent(in) :: fluxes(*)
+      integer(c_size_t), value :: fluxes_length
+      character(kind=c_char), intent(out) :: words(*)
+      integer(c_size_t), value :: words_size
+      integer(c_int) :: refusal
+    end function c_why_zonal
+
+    function c_why_meridional( &
+        world, layer, fluxes, fluxes_length, words, words_size) &
+        bind(c, name="puldeho_why_meridional") result(refusal)
+      import :: c_char, c_int, c_int32_t, c_size_t, c_world
+      type(c_world), intent(in) :: world
+      integer(c_int32_t), value :: layer
+      integer(c_int32_t), intent(in) :: fluxes(*)
+      integer(c_size_t), value :: fluxes_length
+      character(kind=c_char), intent(out) :: words(*)
+      integer(c_size_t), value :: words_size
+      integer(c_int) :: refusal
+    end function c_why_meridional
+
+    function c_why_remap( &
+        world, table, table_length, words, words_size) &
+        bind(c, name="puldeho_why_remap") result(refusal)
+      import :: c_char, c_int, c_int32_t, c_size_t, c_world
+      type(c_world), intent(in) :: world
+      integer(c_int32_t), intent(in) :: table(*)
+      integer(c_size_t), value :: table_length
+      character(kind=c_char), intent(out) :: words(*)
+      integer(c_size_t), value :: words_size
+      integer(c_int) :: refusal
+    end function c_why_remap
+
+    function c_why_total( &
+        world, tracer, words, words_size) &
+        bind(c, name="puldeho_why_total") result(refusal)
+      import :: c_char, c_int, c_int32_t, c_size_t, c_world
+      type(c_world), intent(in) :: world
+      integer(c_int32_t), value :: tracer
+      character(kind=c_char), intent(out) :: words(*)
+      integer(c_size_t), value :: words_size
+      integer(c_int) :: refusal
+    end function c_why_total
+
+    function c_why_cell( &
+        world, tracer, cell, words, words_size) &
+        bind(c, name="puldeho_why_cell") result(refusal)
+      import :: c_char, c_int, c_int32_t, c_size_t, c_world
+      type(c_world), intent(in) :: world
+      integer(c_int32_t), value :: tracer
+      integer(c_int32_t), value :: cell
+      character(kind=c_char), intent(out) :: words(*)
+      integer(c_size_t), value :: words_size
+      integer(c_int) :: refusal
+    end function c_why_cell
+  end interface
+
 contains
 
   ! Takes copies of the lists as the world from now on, if the load is accepted; else the world stays as it was.
@@ -319,12 +440,12 @@ contains
 
   ! Remaps all columns to the edges of a table of K + 1 pairs a, b, lent as 2*(K + 1) numbers. Refusals, in
   ! order: 1 2 3 4 11 12.
-  ! pairs: the pairs of an old and a new layer that share air, over all columns.
-  subroutine world_remap(world, table, refusal, pairs)
+  ! overlaps: the pairs of an old and a new layer that share air, over all columns.
+  subroutine world_remap(world, table, refusal, overlaps)
     class(puldeho_world), intent(inout) :: world
     integer(c_int32_t), intent(out) :: refusal
     integer(c_int32_t), intent(in) :: table(:)
-    integer(c_int32_t), intent(out), optional :: pairs
+    integer(c_int32_t), intent(out), optional :: overlaps
     integer(c_int64_t) :: returned
 
     call with_lists(world)
@@ -332,7 +453,7 @@ contains
         world%grid%w, world%grid%r, world%grid%k, world%grid%n, world%air, size(world%air, kind=c_size_t), &
         world%tracers, size(world%tracers, kind=c_size_t), table, size(table, kind=c_size_t))
     refusal = refusal_of(returned)
-    if (present(pairs)) pairs = count_of(returned)
+    if (present(overlaps)) overlaps = count_of(returned)
   end subroutine world_remap
 
   ! Reads the total of one tracer. Refusals, in order: 1 2 3 4 5.
@@ -369,6 +490,172 @@ contains
     refusal = refusal_of(returned)
     if (present(units)) units = count_of(returned)
   end subroutine world_cell
+
+  ! Why a emission is refused in this world, in words; ask after the refusal, before the world changes.
+  subroutine world_why_emission(world, tracer, cell, amount, text)
+    class(puldeho_world), intent(inout), target :: world
+    integer(c_int32_t), intent(in) :: tracer
+    integer(c_int32_t), intent(in) :: cell
+    integer(c_int32_t), intent(in) :: amount
+    character(len=:), allocatable, intent(out) :: text
+    character(kind=c_char) :: words(why_size)
+    integer(c_int) :: refusal
+
+    call with_lists(world)
+    refusal = c_why_emission( &
+        world_of(world), tracer, cell, amount, words, int(why_size, c_size_t))
+    text = text_of(words)
+    if (refusal == puldeho_accepted) text = "the call would be accepted"
+  end subroutine world_why_emission
+
+  ! Why a withdrawal is refused in this world, in words; ask after the refusal, before the world changes.
+  subroutine world_why_withdrawal(world, tracer, cell, amount, text)
+    class(puldeho_world), intent(inout), target :: world
+    integer(c_int32_t), intent(in) :: tracer
+    integer(c_int32_t), intent(in) :: cell
+    integer(c_int32_t), intent(in) :: amount
+    character(len=:), allocatable, intent(out) :: text
+    character(kind=c_char) :: words(why_size)
+    integer(c_int) :: refusal
+
+    call with_lists(world)
+    refusal = c_why_withdrawal( &
+        world_of(world), tracer, cell, amount, words, int(why_size, c_size_t))
+    text = text_of(words)
+    if (refusal == puldeho_accepted) text = "the call would be accepted"
+  end subroutine world_why_withdrawal
+
+  ! Why a zonal is refused in this world, in words; ask after the refusal, before the world changes.
+  subroutine world_why_zonal(world, layer, row, fluxes, text)
+    class(puldeho_world), intent(inout), target :: world
+    integer(c_int32_t), intent(in) :: layer
+    integer(c_int32_t), intent(in) :: row
+    integer(c_int32_t), intent(in) :: fluxes(:)
+    character(len=:), allocatable, intent(out) :: text
+    character(kind=c_char) :: words(why_size)
+    integer(c_int) :: refusal
+
+    call with_lists(world)
+    refusal = c_why_zonal( &
+        world_of(world), layer, row, fluxes, size(fluxes, kind=c_size_t), words, int(why_size, c_size_t))
+    text = text_of(words)
+    if (refusal == puldeho_accepted) text = "the call would be accepted"
+  end subroutine world_why_zonal
+
+  ! Why a meridional is refused in this world, in words; ask after the refusal, before the world changes.
+  subroutine world_why_meridional(world, layer, fluxes, text)
+    class(puldeho_world), intent(inout), target :: world
+    integer(c_int32_t), intent(in) :: layer
+    integer(c_int32_t), intent(in) :: fluxes(:)
+    character(len=:), allocatable, intent(out) :: text
+    character(kind=c_char) :: words(why_size)
+    integer(c_int) :: refusal
+
+    call with_lists(world)
+    refusal = c_why_meridional( &
+        world_of(world), layer, fluxes, size(fluxes, kind=c_size_t), words, int(why_size, c_size_t))
+    text = text_of(words)
+    if (refusal == puldeho_accepted) text = "the call would be accepted"
+  end subroutine world_why_meridional
+
+  ! Why a remap is refused in this world, in words; ask after the refusal, before the world changes.
+  subroutine world_why_remap(world, table, text)
+    class(puldeho_world), intent(inout), target :: world
+    integer(c_int32_t), intent(in) :: table(:)
+    character(len=:), allocatable, intent(out) :: text
+    character(kind=c_char) :: words(why_size)
+    integer(c_int) :: refusal
+
+    call with_lists(world)
+    refusal = c_why_remap( &
+        world_of(world), table, size(table, kind=c_size_t), words, int(why_size, c_size_t))
+    text = text_of(words)
+    if (refusal == puldeho_accepted) text = "the call would be accepted"
+  end subroutine world_why_remap
+
+  ! Why a total is refused in this world, in words; ask after the refusal, before the world changes.
+  subroutine world_why_total(world, tracer, text)
+    class(puldeho_world), intent(inout), target :: world
+    integer(c_int32_t), intent(in) :: tracer
+    character(len=:), allocatable, intent(out) :: text
+    character(kind=c_char) :: words(why_size)
+    integer(c_int) :: refusal
+
+    call with_lists(world)
+    refusal = c_why_total( &
+        world_of(world), tracer, words, int(why_size, c_size_t))
+    text = text_of(words)
+    if (refusal == puldeho_accepted) text = "the call would be accepted"
+  end subroutine world_why_total
+
+  ! Why a cell is refused in this world, in words; ask after the refusal, before the world changes.
+  subroutine world_why_cell(world, tracer, cell, text)
+    class(puldeho_world), intent(inout), target :: world
+    integer(c_int32_t), intent(in) :: tracer
+    integer(c_int32_t), intent(in) :: cell
+    character(len=:), allocatable, intent(out) :: text
+    character(kind=c_char) :: words(why_size)
+    integer(c_int) :: refusal
+
+    call with_lists(world)
+    refusal = c_why_cell( &
+        world_of(world), tracer, cell, words, int(why_size, c_size_t))
+    text = text_of(words)
+    if (refusal == puldeho_accepted) text = "the call would be accepted"
+  end subroutine world_why_cell
+
+  ! Why a load of these lists is refused, in words.
+  subroutine puldeho_why_load(grid, air, tracers, text)
+    type(puldeho_grid), intent(in) :: grid
+    integer(c_int32_t), intent(in) :: air(:)
+    integer(c_int32_t), intent(in) :: tracers(:)
+    character(len=:), allocatable, intent(out) :: text
+    type(puldeho_world), target :: world
+    character(kind=c_char) :: words(why_size)
+    integer(c_int) :: refusal
+
+    world%grid = grid
+    if (allocated(world%air)) deallocate (world%air)
+    allocate (world%air(0:size(air) - 1))
+    world%air(:) = air
+    if (allocated(world%tracers)) deallocate (world%tracers)
+    allocate (world%tracers(0:size(tracers) - 1))
+    world%tracers(:) = tracers
+    refusal = c_why_load(world_of(world), words, int(why_size, c_size_t))
+    text = text_of(words)
+    if (refusal == puldeho_accepted) text = "the call would be accepted"
+  end subroutine puldeho_why_load
+
+  ! The world as C has it.
+  function world_of(world) result(lent)
+    class(puldeho_world), intent(in), target :: world
+    type(c_world) :: lent
+
+    lent%w = world%grid%w
+    lent%r = world%grid%r
+    lent%k = world%grid%k
+    lent%n = world%grid%n
+    lent%air = c_loc(world%air)
+    lent%air_length = size(world%air, kind=c_size_t)
+    lent%tracers = c_loc(world%tracers)
+    lent%tracers_length = size(world%tracers, kind=c_size_t)
+  end function world_of
+
+  ! A text of C, which ends with a null character.
+  pure function text_of(words) result(text)
+    character(kind=c_char), intent(in) :: words(:)
+    character(len=:), allocatable :: text
+    integer :: i, length
+
+    length = 0
+    do while (words(length + 1) /= c_null_char)
+      length = length + 1
+    end do
+    allocate (character(len=length) :: text)
+    do i = 1, length
+      text(i:i) = words(i)
+    end do
+  end function text_of
 
   ! A world that was never loaded gets empty lists, so that a call can be refused.
   subroutine with_lists(world)
@@ -456,22 +743,22 @@ contains
     length = grid%w
   end function puldeho_zonal_fluxes_length
 
-  ! The length of fluxes of a meridional call: W*(R + 1). In it: flux g*W + i crosses between rows g - 1 and g
+  ! The length of fluxes of a meridional call: (R + 1)*W. In it: flux g*W + i crosses between rows g - 1 and g
   ! in column i; row -1 is the south cap, row R the north cap; positive northward.
   pure function puldeho_meridional_fluxes_length(grid) result(length)
     type(puldeho_grid), intent(in) :: grid
     integer(c_int32_t) :: length
 
-    length = grid%w*(grid%r + 1)
+    length = (grid%r + 1)*grid%w
   end function puldeho_meridional_fluxes_length
 
-  ! The length of table of a remap call: 2*(K + 1). In it: pair j is a at 2*j and b at 2*j + 1; edge j = a +
+  ! The length of table of a remap call: (K + 1)*2. In it: pair j is a at 2*j and b at 2*j + 1; edge j = a +
   ! floor(b*P/65536), P the air of the column.
   pure function puldeho_remap_table_length(grid) result(length)
     type(puldeho_grid), intent(in) :: grid
     integer(c_int32_t) :: length
 
-    length = 2*(grid%k + 1)
+    length = (grid%k + 1)*2
   end function puldeho_remap_table_length
 
   ! Why a call was refused: the condition of a refusal, in words.
@@ -540,12 +827,12 @@ contains
       text = "give fluxes in units of air for this step, and divide the step if they are still too large"
     case (puldeho_refusal_zonal)
       text = "make the sweep as two or more, each with a part of the fluxes; if a cell would end with no" // &
-          " air or too much, make the whole step (zonal and meridional) in parts, or make the " // &
+          " air or too much, make the whole step (zonal, meridional, remap) in parts, or make the " // &
           "meridional sweep first"
     case (puldeho_refusal_meridional)
       text = "make the sweep as two or more, each with a part of the fluxes; if a cell would end with no" // &
-          " air or too much, make the whole step (zonal and meridional) in parts, or make the zonal " // &
-          "sweeps first"
+          " air or too much, make the whole step (zonal, meridional, remap) in parts, or make the " // &
+          "zonal sweeps or a remap first"
     case (puldeho_refusal_table)
       text = "give K + 1 pairs a, b from the top down, with b in parts of 65,536, the first 0, 0 and the" // &
           " last 0, 65,536"

@@ -1,5 +1,5 @@
 """The C header, bindings/puldeho.h, and the calls of the C reader of scripts, bindings/c/calls.c."""
-from tables import GRID, MADE, RAW, WORLD, constant, described, filled, in_terms, is_list, length_name, length_text, own, wrapped
+from tables import GRID, MADE, RAW, WORLD, constant, described, filled, in_terms, is_list, is_written, length_name, length_text, own, wrapped
 
 TYPES = {"u32": "uint32_t ", "&[u32]": "const uint32_t *", "&mut [u32]": "uint32_t *", "&[i32]": "const int32_t *"}
 TAKEN = {"u32": "take_u32", "&[u32]": "take_u32s", "&[i32]": "take_i32s"}
@@ -11,6 +11,16 @@ def declared(parameter):
     return text + ", size_t %s_length" % parameter.name if is_list(parameter) else text
 
 
+def access(parameters, first):
+    """What a compiler may hold the lists to: how each is used, with the places of pointer and length among the arguments."""
+    found, place = "", first
+    for p in parameters:
+        if is_list(p):
+            found += "PULDEHO_LIST(%s, %d, %d) " % ("read_write" if is_written(p) else "read_only", place, place + 1)
+        place += 2 if is_list(p) else 1
+    return found
+
+
 def world_type(call):
     return "struct puldeho_world *world" if call.world == "changed" else "const struct puldeho_world *world"
 
@@ -19,7 +29,8 @@ def raw(call):
     """The declaration of the proved function."""
     first = ", ".join("uint32_t " + letter for letter in GRID)
     listed = ",\n    ".join([first] + [declared(p) for p in call.parameters])
-    return "PULDEHO_MUST_USE uint64_t %s%s(\n    %s);\n" % (RAW, call.name, listed)
+    lists = access(call.parameters, len(GRID) + 1)
+    return "PULDEHO_MUST_USE %s\nuint64_t %s%s(\n    %s);\n" % (lists.rstrip(), RAW, call.name, listed)
 
 
 def given(call):
@@ -42,15 +53,17 @@ def function(call):
         count = call.count.name
         listed.append("uint32_t *" + count)
     return (
-        "\n/*\n%s\n */\nPULDEHO_MUST_USE static inline enum puldeho_refusal puldeho_%s(\n    %s)\n{\n"
+        "\n/*\n%s\n */\nPULDEHO_MUST_USE PULDEHO_NOT_NULL(1) %s\nstatic inline enum puldeho_refusal puldeho_%s(\n    %s)\n{\n"
         "    return puldeho_refusal_and_count(%s%s(\n        %s), %s);\n}\n"
-    ) % (comment, call.name, ",\n    ".join(listed), RAW, call.name, given(call), count)
+    ) % (comment, access(own(call), 2), call.name, ",\n    ".join(listed), RAW, call.name, given(call), count)
 
 
 def why(call):
     """The declaration of the function that says why a call is refused."""
     listed = ["const struct puldeho_world *world"] + [declared(p) for p in own(call)] + ["char *text, size_t size"]
-    return "enum puldeho_refusal puldeho_why_%s(\n    %s);\n" % (call.name, ",\n    ".join(listed))
+    size = 4 + sum(2 if is_list(p) else 1 for p in own(call)) - 1
+    lists = access(own(call), 2) + "PULDEHO_LIST(write_only, %d, %d)" % (size - 1, size)
+    return "PULDEHO_NOT_NULL(1) %s\nenum puldeho_refusal puldeho_why_%s(\n    %s);\n" % (lists, call.name, ",\n    ".join(listed))
 
 
 def length(lent):
@@ -63,7 +76,7 @@ def length(lent):
 
 def texts(refusals, field):
     """The cases of a switch that gives a text for each refusal."""
-    return "\n".join('    case PULDEHO_%s:\n        return "%s";' % (constant(r.name), getattr(r, field)) for r in refusals)
+    return "\n".join('    case PULDEHO_REFUSAL_%s:\n        return "%s";' % (constant(r.name), getattr(r, field)) for r in refusals)
 
 
 def stack(tables):
@@ -85,11 +98,12 @@ def header(tables):
         "STACK": stack(tables),
         "DEEPEST": str(max(tables.stack.values())),
         "LIMITS": "\n".join("/* %s */\n#define PULDEHO_%s %d" % (l.what, l.name, l.number) for l in tables.limits),
-        "REFUSALS": ",\n".join("    /* %s */\n    PULDEHO_%s = %d" % (r.condition, constant(r.name), r.number) for r in tables.refusals),
+        "REFUSALS": ",\n".join("    /* %s */\n    PULDEHO_REFUSAL_%s = %d" % (r.condition, constant(r.name), r.number) for r in tables.refusals),
         "CONDITIONS": texts(tables.refusals, "condition"),
         "REMEDIES": texts(tables.refusals, "remedy"),
         "FIELDS": "\n".join("    /* %s: %s numbers */\n    uint32_t *%s;\n    size_t %s_length;" % (l.what, l.length.upper(), l.name, l.name) for l in lists),
         "LISTS": ",\n    ".join("uint32_t *{0}, size_t {0}_length".format(l.name) for l in lists),
+        "WORLDLISTS": " ".join("PULDEHO_LIST(write_only, %d, %d)" % (2 + 2 * i, 3 + 2 * i) for i in range(len(lists))),
         "SETS": "\n".join("    world.{0} = {0};\n    world.{0}_length = {0}_length;".format(l.name) for l in lists),
         "LENGTHS": "".join(map(length, tables.lists)),
         "RAWS": "\n".join(map(raw, tables.calls)),

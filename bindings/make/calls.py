@@ -30,9 +30,13 @@ WORLD = (@WORLD@)
 SIGNATURES = {
 @SIGNATURES@}
 
+# Which property of a grid has the shape of a list, by its owner (the world, or a call) and name.
+SHAPES = {
+@SHAPES@}
+
 
 class Lengths:
-    """How long the lists are that go with a grid."""
+    """How long the lists are that go with a grid, and their shapes as arrays."""
 
     @property
     def cells_in_layer(self):

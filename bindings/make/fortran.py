@@ -34,6 +34,45 @@ def raw(call):
     ).format(RAW, call.name, listed(names, "        "), body)
 
 
+def why_interface(call):
+    """The interface of the C function that says why a call is refused."""
+    names, declared = [], []
+    for p in own(call):
+        names += [p.name, p.name + "_length"] if is_list(p) else [p.name]
+        if is_list(p):
+            declared += ["integer(c_int32_t), intent(in) :: %s(*)" % p.name, "integer(c_size_t), value :: %s_length" % p.name]
+        else:
+            declared.append("integer(c_int32_t), value :: %s" % p.name)
+    body = "".join("      %s\n" % line for line in declared)
+    return (
+        "    function c_why_{0}( &\n        {1}) &\n        bind(c, name=\"puldeho_why_{0}\") result(refusal)\n"
+        "      import :: c_char, c_int, c_int32_t, c_size_t, c_world\n      type(c_world), intent(in) :: world\n{2}"
+        "      character(kind=c_char), intent(out) :: words(*)\n      integer(c_size_t), value :: words_size\n"
+        "      integer(c_int) :: refusal\n    end function c_why_{0}\n"
+    ).format(call.name, listed(["world"] + names + ["words", "words_size"], "        "), body)
+
+
+def why_method(call):
+    """The procedure that says why a call is refused."""
+    mine = own(call)
+    names = ["world"] + [p.name for p in mine] + ["text"]
+    declared = "".join(
+        "    integer(c_int32_t), intent(in) :: %s%s\n" % (p.name, "(:)" if is_list(p) else "") for p in mine
+    )
+    arguments = ["world_of(world)"]
+    for p in mine:
+        arguments += [p.name, "size(%s, kind=c_size_t)" % p.name] if is_list(p) else [p.name]
+    return (
+        "\n  ! Why a {0} is refused in this world, in words; ask after the refusal, before the world changes.\n"
+        "  subroutine world_why_{0}({1})\n    class(puldeho_world), intent(inout), target :: world\n{2}"
+        "    character(len=:), allocatable, intent(out) :: text\n"
+        "    character(kind=c_char) :: words(why_size)\n    integer(c_int) :: refusal\n\n"
+        "    call with_lists(world)\n    refusal = c_why_{0}( &\n        {3})\n"
+        "    text = text_of(words)\n    if (refusal == puldeho_accepted) text = \"the call would be accepted\"\n"
+        "  end subroutine world_why_{0}\n"
+    ).format(call.name, ", ".join(names), declared, listed(arguments + ["words", "int(why_size, c_size_t)"], "        "))
+
+
 def given(call, world):
     """The arguments of the proved function, with the names of the world's lists."""
     found = ["%s%%%s" % (world + "%grid" if world else "grid", letter) for letter in GRID]
@@ -103,7 +142,14 @@ def module(tables):
             for r in tables.refusals
         ),
         "FIELDS": "".join("    ! %s: %s numbers, the first has the index 0\n    integer(c_int32_t), allocatable :: %s(:)\n" % (l.what, l.length.upper(), l.name) for l in lists),
-        "METHODS": "".join("    procedure :: %s => world_%s\n" % (call.name, call.name) for call in tables.calls),
+        "METHODS": "".join("    procedure :: %s => world_%s\n" % (call.name, call.name) for call in tables.calls)
+        + "".join("    procedure :: why_%s => world_why_%s\n" % (call.name, call.name) for call in later),
+        "CFIELDS": "".join("    type(c_ptr) :: {0} = c_null_ptr\n    integer(c_size_t) :: {0}_length = 0\n".format(l.name) for l in lists),
+        "LENT": "".join(
+            "    lent%{0} = c_loc(world%{0})\n    lent%{0}_length = size(world%{0}, kind=c_size_t)\n".format(l.name) for l in lists
+        ),
+        "WHYINTERFACES": "\n".join(map(why_interface, tables.calls)),
+        "WHYS": "".join(map(why_method, later)),
         "RAWS": "\n".join(map(raw, tables.calls)),
         "LOADED": ", ".join(l.name for l in lists),
         "GIVEN": given(load, ""),

@@ -14,9 +14,10 @@
 ! Layers, rows, columns, tracers and cells are counted from 0, and world%air(0) is the first cell's air.
 ! Each call sets refusal: 0 (puldeho_accepted) or the number of the first refusal that applies. A refused call
 ! changes nothing. Numbers are 32-bit without a sign in the library, so a negative one is far above every limit
-! and is refused. docs/GUIDE.md explains grid, units, fluxes and refusals.
+! and is refused. After a refused call NAME, call world%why_NAME(.., text) with the same arguments says which cell
+! or column was in the way, and what would help. docs/GUIDE.md explains grid, units, fluxes and refusals.
 module puldeho
-  use, intrinsic :: iso_c_binding, only: c_int32_t, c_int64_t, c_size_t
+  use, intrinsic :: iso_c_binding, only: c_char, c_int, c_int32_t, c_int64_t, c_loc, c_null_char, c_null_ptr, c_ptr, c_size_t
   implicit none
   private
 
@@ -29,7 +30,7 @@ module puldeho
   integer(c_int32_t), parameter, public :: puldeho_no_cell = -1
 
   public :: puldeho_cells_in_layer, puldeho_cell_number, puldeho_south_cap, puldeho_north_cap
-  public :: puldeho_refusal_text, puldeho_refusal_remedy
+  public :: puldeho_refusal_text, puldeho_refusal_remedy, puldeho_why_load
 @NAMES@
   ! The grid: W columns round the globe (4 to 72), R rows from south to north (1 to 44), K layers from the top
   ! down (1 to 32), N tracers (1 to 8).
@@ -43,9 +44,21 @@ module puldeho
 @FIELDS@  contains
 @METHODS@  end type puldeho_world
 
+  ! struct puldeho_world of the C header.
+  type, bind(c) :: c_world
+    integer(c_int32_t) :: w, r, k, n
+@CFIELDS@  end type c_world
+
+  ! PULDEHO_WHY_SIZE of the C header.
+  integer, parameter :: why_size = 1024
+
   ! The proved functions. Each returns refusal * 2**32 + count.
   interface
 @RAWS@  end interface
+
+  ! The functions that say why a call is refused, which are plain C and only read.
+  interface
+@WHYINTERFACES@  end interface
 
 contains
 
@@ -61,7 +74,48 @@ contains
     if (refusal /= puldeho_accepted) return
     world%grid = grid
 @KEPT@  end subroutine world_load
-@CALLS@
+@CALLS@@WHYS@
+  ! Why a load of these lists is refused, in words.
+  subroutine puldeho_why_load(grid, @LOADED@, text)
+    type(puldeho_grid), intent(in) :: grid
+@DECLARED@    character(len=:), allocatable, intent(out) :: text
+    type(puldeho_world), target :: world
+    character(kind=c_char) :: words(why_size)
+    integer(c_int) :: refusal
+
+    world%grid = grid
+@KEPT@    refusal = c_why_load(world_of(world), words, int(why_size, c_size_t))
+    text = text_of(words)
+    if (refusal == puldeho_accepted) text = "the call would be accepted"
+  end subroutine puldeho_why_load
+
+  ! The world as C has it.
+  function world_of(world) result(lent)
+    class(puldeho_world), intent(in), target :: world
+    type(c_world) :: lent
+
+    lent%w = world%grid%w
+    lent%r = world%grid%r
+    lent%k = world%grid%k
+    lent%n = world%grid%n
+@LENT@  end function world_of
+
+  ! A text of C, which ends with a null character.
+  pure function text_of(words) result(text)
+    character(kind=c_char), intent(in) :: words(:)
+    character(len=:), allocatable :: text
+    integer :: i, length
+
+    length = 0
+    do while (words(length + 1) /= c_null_char)
+      length = length + 1
+    end do
+    allocate (character(len=length) :: text)
+    do i = 1, length
+      text(i:i) = words(i)
+    end do
+  end function text_of
+
   ! A world that was never loaded gets empty lists, so that a call can be refused.
   subroutine with_lists(world)
     class(puldeho_world), intent(inout) :: world

@@ -1,5 +1,5 @@
 /*
- * Puldeho, the transport core of the tracer console, for C and C++: version @VERSION@.
+ * Puldeho, the transport core of the tracer console, for C (C99 or later) and C++: version @VERSION@.
  * @MADE@
  *
  * To compile and link, on x86-64 Linux: cc program.c $(pkg-config --cflags --libs puldeho)
@@ -7,7 +7,7 @@
  *
  *     uint32_t air[6] = {100, 100, 100, 100, 100, 100}, tracers[6] = {0, 0, 100, 200, 100, 0};
  *     int32_t fluxes[4] = {0, 50, 0, 0};
- *     struct puldeho_grid grid = {4, 1, 1, 1};
+ *     struct puldeho_grid grid = {.w = 4, .r = 1, .k = 1, .n = 1};
  *     struct puldeho_world world = puldeho_world_over(grid, air, 6, tracers, 6);
  *     enum puldeho_refusal refusal = puldeho_load(&world);
  *     if (refusal == PULDEHO_ACCEPTED)
@@ -15,9 +15,10 @@
  *     if (refusal != PULDEHO_ACCEPTED)
  *         fprintf(stderr, "refused: %s\n", puldeho_refusal_text(refusal));
  *
- * What a call gives: PULDEHO_ACCEPTED, which is 0, or the first refusal that applies. A refused call
- * changes nothing: neither air nor tracers. A count, where a call has one, is written to the last
- * argument, 0 if the call is refused; that pointer may be null.
+ * What a call gives: PULDEHO_ACCEPTED, which is 0, or the first refusal that applies. (So a true value
+ * is a refusal: do not keep it in a bool called ok.) A refused call changes nothing: neither air nor
+ * tracers. A count, where a call has one, is written to the last argument, 0 if the call is refused;
+ * that pointer may be null.
  *
  * What is assumed of pointers:
  * - each goes with the length after it, in numbers, not bytes: so many can be read there, or written;
@@ -25,11 +26,14 @@
  * - a list that is written shares no memory with another list of the same call;
  * - nobody else writes a lent list during the call, or reads one that is written.
  * Nothing is assumed of the numbers or of the lengths: any are answered. The library keeps nothing
- * between calls; several threads may call it, each with a world of its own.
+ * between calls, and each call tests the whole world before it does anything. Several threads may call
+ * it at once, each with a world of its own; a list that is only read may be shared. Between calls you
+ * may read the lists. If you write into them, load again: what is promised of a run counts from there.
  *
  * What is assumed of the stack: that it has room for the call. The deepest stack in bytes, read from
  * the object code by tools/stack, return address and libc's functions included, arguments not:
 @STACK@
+ * The functions puldeho_why_NAME, which are compiled by gcc, want at most PULDEHO_WHY_STACK bytes.
  */
 #ifndef PULDEHO_H
 #define PULDEHO_H
@@ -45,13 +49,23 @@
 
 @LIMITS@
 
-/* The deepest stack of all calls, in bytes. */
+/* The deepest stack of all calls, in bytes, and room enough for each function that says why one was refused. */
 #define PULDEHO_STACK @DEEPEST@
+#define PULDEHO_WHY_STACK 131072
 
+/* What a compiler that knows them warns of: a result that nobody looks at, a null pointer, and a list that is shorter
+ * than the length given with it. */
 #if defined(__GNUC__)
 #define PULDEHO_MUST_USE __attribute__((warn_unused_result))
+#define PULDEHO_NOT_NULL(place) __attribute__((nonnull(place)))
 #else
 #define PULDEHO_MUST_USE
+#define PULDEHO_NOT_NULL(place)
+#endif
+#if defined(__GNUC__) && !defined(__clang__) && __GNUC__ >= 10
+#define PULDEHO_LIST(use, pointer, length) __attribute__((access(use, pointer, length)))
+#else
+#define PULDEHO_LIST(use, pointer, length)
 #endif
 
 #ifdef __cplusplus
@@ -99,7 +113,8 @@ static inline size_t puldeho_cells_in_layer(struct puldeho_grid grid)
     return 2 + (size_t)grid.r * grid.w;
 }
 @LENGTHS@
-/* What the functions below give for a place that the grid has not. Every call refuses it, with 5. */
+/* What the functions below give for a place that the grid has not. Every call refuses it, with 5; test for it
+ * before you use the number as an index. */
 #define PULDEHO_NO_CELL UINT32_MAX
 
 /* The number of a cell over all layers: layer*C + 1 + row*W + column. */
@@ -127,15 +142,17 @@ static inline uint32_t puldeho_north_cap(struct puldeho_grid grid, uint32_t laye
 }
 
 /* The world: the grid, and the lists that the caller keeps and lends to each call, with their lengths
- * in numbers. Later versions have further fields. Make it with puldeho_world_over, or by naming its
- * fields, as in {.grid = grid, .air = air, ..}: what is not set is 0 then, and stands for a value of
- * its own. Start with puldeho_load, and lend one struct to all calls: a copy of it is no second world. */
+ * in numbers. Make it with puldeho_world_over, or by naming all its fields, as in {.grid = grid, ..}.
+ * Later versions have further fields; 0 in them will mean what this version does. Start with
+ * puldeho_load, and lend one struct to all calls: a copy of it is no second world. */
 struct puldeho_world {
     struct puldeho_grid grid;
 @FIELDS@
 };
 
-/* The world of a grid and lent lists; each length is how many numbers the list has. */
+/* The world of a grid and lent lists; each length is how many numbers the list has. It reads none of them, so they may
+ * be filled afterwards. */
+@WORLDLISTS@
 static inline struct puldeho_world puldeho_world_over(
     struct puldeho_grid grid,
     @LISTS@)

@@ -1,5 +1,5 @@
 """The Python package's made part, bindings/python/puldeho/calls.py."""
-from tables import MADE, WORLD, constant, filled, in_terms, length_name, length_text, own, wrapped
+from tables import MADE, WORLD, constant, filled, full_name, in_terms, length_name, length_text, own, wrapped
 
 
 def table(tables, field):
@@ -12,6 +12,13 @@ def length(lent):
     terms = in_terms(lent.length, "self.%s", "self.cells_in_layer").replace("*", " * ")
     return "\n    @property\n    def %s(self):\n%s\n        return %s\n" % (
         length_name(lent), wrapped('"""%s"""' % length_text(lent), 110, "        "), terms)
+
+
+def shape(lent):
+    """The property that gives the shape of a list as an array."""
+    numbers = [in_terms(number, "self.%s", "self.cells_in_layer") for number in lent.shape]
+    return '\n    @property\n    def %s_shape(self):\n        """The shape of such an array of numpy; one of one dimension serves too."""\n        return (%s,)\n' % (
+        full_name(lent), ", ".join(numbers))
 
 
 def signature(call):
@@ -45,6 +52,7 @@ def calls(tables):
         "REMEDIES": table(tables, "remedy"),
         "WORLD": ", ".join('"%s"' % name for name in WORLD),
         "SIGNATURES": "".join(map(signature, tables.calls)),
-        "LENGTHS": "".join(map(length, tables.lists)),
+        "LENGTHS": "".join(length(lent) + shape(lent) for lent in tables.lists),
+        "SHAPES": "".join('    ("%s", "%s"): "%s_shape",\n' % (l.owner, l.name, full_name(l)) for l in tables.lists),
         "METHODS": "".join(method(call) for call in tables.calls if call.name != "load"),
     })

@@ -7,7 +7,7 @@ from collections import namedtuple
 Parameter = namedtuple("Parameter", "name type")
 Count = namedtuple("Count", "name text")
 Call = namedtuple("Call", "name parameters world refusals count does")
-Lent = namedtuple("Lent", "owner name length what")
+Lent = namedtuple("Lent", "owner name shape length what")
 Refusal = namedtuple("Refusal", "number name condition cause remedy")
 Limit = namedtuple("Limit", "name number what")
 Tables = namedtuple("Tables", "calls lists limits refusals programs stack version")
@@ -68,7 +68,11 @@ def read_calls():
 
 def read_lists(calls):
     """The table of the lists: the world's, and each call's own."""
-    lists = [Lent(*row) for row in rows("bindings/lists.txt", 4)]
+    lists = []
+    for owner, name, shape, what in rows("bindings/lists.txt", 4):
+        numbers = shape.split(", ")
+        length = "*".join("(%s)" % number if " " in number and len(numbers) > 1 else number for number in numbers)
+        lists.append(Lent(owner, name, numbers, length, what))
     wanted = [("world", name) for name in WORLD]
     wanted += [(call.name, p.name) for call in calls for p in own(call) if is_list(p)]
     if [(lent.owner, lent.name) for lent in lists] != wanted:
@@ -76,9 +80,14 @@ def read_lists(calls):
     return lists
 
 
+def full_name(lent):
+    """A list's name with its call: air, zonal_fluxes."""
+    return lent.name if lent.owner == "world" else "%s_%s" % (lent.owner, lent.name)
+
+
 def length_name(lent):
     """The name of a list's length: air_length, zonal_fluxes_length."""
-    return "%s_length" % lent.name if lent.owner == "world" else "%s_%s_length" % (lent.owner, lent.name)
+    return full_name(lent) + "_length"
 
 
 def read_refusals():

@@ -49,12 +49,22 @@ def paragraph(start, words):
     )
 
 
-def why_lines(number, why):
-    """Why a record was refused; for a refusal of the program what its table says."""
-    if why is not None:
-        return paragraph("why: ", why)
+def passed_limits(grid):
+    """The runner program's limits that a grid passes, in words."""
+    sizes = (("K*C", records.cells(grid), records.MOST_CELLS), ("N", grid.gases, records.MOST_GASES))
+    return "; ".join("%s is %d, the program takes at most %d" % size for size in sizes if size[1] > size[2])
+
+
+def why_lines(told, why):
+    """Why a record was refused, and for a refusal of the program what its table says."""
+    number = number_of(told)
+    if number == 15:
+        why = passed_limits(records.Grid(*sum(told.record.parts, [])))
+    lines = paragraph("why: ", why) if why is not None else []
+    if number <= 12:
+        return lines
     refusal = records.refusals()[number]
-    return paragraph("usual cause: ", refusal.cause) + paragraph("what to do: ", refusal.remedy)
+    return lines + paragraph("usual cause: ", refusal.cause) + paragraph("what to do: ", refusal.remedy)
 
 
 def explained(run, whys):
@@ -67,7 +77,7 @@ def explained(run, whys):
         pair = kind_name(told), number
         so_far[pair] += 1
         if so_far[pair] <= WHYS:
-            found[index] = why_lines(number, whys.get(index))
+            found[index] = why_lines(told, whys.get(index))
         if so_far[pair] == WHYS and counts[pair] > WHYS:
             rest = "%d later %s records are refused with %d; it is not said why for each" % (counts[pair] - WHYS, *pair)
             found[index] += paragraph("", rest)
@@ -106,7 +116,7 @@ def kind_text(name, counts):
     """A kind's accepted and refused records."""
     accepted = counts[name, 0]
     refused = sorted((number, count) for (kind, number), count in counts.items() if kind == name and number)
-    text = "%s: %s accepted" % (name, accepted or "none")
+    text = "%s %s accepted" % (name, accepted or "none")
     if len(refused) == 1:
         text += ", %d refused with %d" % refused[0][::-1]
     elif refused:
@@ -116,12 +126,10 @@ def kind_text(name, counts):
 
 
 def by_kind(counts):
-    """The kinds, in one line if it fits."""
+    """The accepted and refused records of each kind."""
     present = {name for name, number in counts}
     names = [name for name in records.NAMES if name in present] + sorted(present - set(records.NAMES))
-    texts = [kind_text(name, counts) for name in names]
-    line = "; ".join(texts)
-    return [line] if len(line) <= WIDTH else texts
+    return "; ".join(kind_text(name, counts) for name in names)
 
 
 def nothing_changed(counts):
@@ -148,7 +156,7 @@ def early_end(run):
 
 
 def sum_line(run, counts):
-    """The sum of the records."""
+    """The records counted: all, and by kind."""
     accepted = sum(count for (name, number), count in counts.items() if not number)
     refused = sum(counts.values()) - accepted
     line = "records: %d, accepted %d, %s %d" % (
@@ -158,10 +166,10 @@ def sum_line(run, counts):
     if first is not None:
         told = run.told[first]
         line += "; first refused: record %d, line %d of the text, with %d" % (first + 1, told.line, number_of(told))
-    return line
+    return line + ("; by kind: " + by_kind(counts) if counts else "")
 
 
 def summary(run):
-    """The lines of the summary; the last one has the sum."""
+    """The lines of the summary; the last one counts the records."""
     counts = counted(run)
-    return by_kind(counts) + nothing_changed(counts) + early_end(run) + [sum_line(run, counts)]
+    return nothing_changed(counts) + early_end(run) + [sum_line(run, counts)]

@@ -75,8 +75,8 @@ REMEDIES = {
     Refusal.EMISSION: "load the gas in a larger unit, with room for all emissions of the run",
     Refusal.WITHDRAWAL: "read the cell first, and withdraw at most what it has",
     Refusal.FLUXES: "give fluxes in units of air for this step, and divide the step if they are still too large",
-    Refusal.ZONAL: "make the sweep as two or more, each with a part of the fluxes; if a cell would end with no air or too much, make the whole step (zonal and meridional) in parts, or make the meridional sweep first",
-    Refusal.MERIDIONAL: "make the sweep as two or more, each with a part of the fluxes; if a cell would end with no air or too much, make the whole step (zonal and meridional) in parts, or make the zonal sweeps first",
+    Refusal.ZONAL: "make the sweep as two or more, each with a part of the fluxes; if a cell would end with no air or too much, make the whole step (zonal, meridional, remap) in parts, or make the meridional sweep first",
+    Refusal.MERIDIONAL: "make the sweep as two or more, each with a part of the fluxes; if a cell would end with no air or too much, make the whole step (zonal, meridional, remap) in parts, or make the zonal sweeps or a remap first",
     Refusal.TABLE: "give K + 1 pairs a, b from the top down, with b in parts of 65,536, the first 0, 0 and the last 0, 65,536",
     Refusal.REMAP: "use a = 0, and choose the b so that every layer gets 1 to 65,535 units in the column with the least air and in the one with the most",
 }
@@ -96,9 +96,18 @@ SIGNATURES = {
     "cell": (("air", "&[u32]"), ("tracers", "&[u32]"), ("tracer", "u32"), ("cell", "u32")),
 }
 
+# Which property of a grid has the shape of a list, by its owner (the world, or a call) and name.
+SHAPES = {
+    ("world", "air"): "air_shape",
+    ("world", "tracers"): "tracers_shape",
+    ("zonal", "fluxes"): "zonal_fluxes_shape",
+    ("meridional", "fluxes"): "meridional_fluxes_shape",
+    ("remap", "table"): "remap_table_shape",
+}
+
 
 class Lengths:
-    """How long the lists are that go with a grid."""
+    """How long the lists are that go with a grid, and their shapes as arrays."""
 
     @property
     def cells_in_layer(self):
@@ -111,9 +120,19 @@ class Lengths:
         return self.k * self.cells_in_layer
 
     @property
+    def air_shape(self):
+        """The shape of such an array of numpy; one of one dimension serves too."""
+        return (self.k, self.cells_in_layer,)
+
+    @property
     def tracers_length(self):
         """The length of tracers: N*K*C. In it: the amounts of every tracer; tracer t starts at t*K*C."""
         return self.n * self.k * self.cells_in_layer
+
+    @property
+    def tracers_shape(self):
+        """The shape of such an array of numpy; one of one dimension serves too."""
+        return (self.n, self.k, self.cells_in_layer,)
 
     @property
     def zonal_fluxes_length(self):
@@ -122,16 +141,31 @@ class Lengths:
         return self.w
 
     @property
+    def zonal_fluxes_shape(self):
+        """The shape of such an array of numpy; one of one dimension serves too."""
+        return (self.w,)
+
+    @property
     def meridional_fluxes_length(self):
-        """The length of fluxes of a meridional call: W*(R + 1). In it: flux g*W + i crosses between rows g -
+        """The length of fluxes of a meridional call: (R + 1)*W. In it: flux g*W + i crosses between rows g -
         1 and g in column i; row -1 is the south cap, row R the north cap; positive northward."""
-        return self.w * (self.r + 1)
+        return (self.r + 1) * self.w
+
+    @property
+    def meridional_fluxes_shape(self):
+        """The shape of such an array of numpy; one of one dimension serves too."""
+        return (self.r + 1, self.w,)
 
     @property
     def remap_table_length(self):
-        """The length of table of a remap call: 2*(K + 1). In it: pair j is a at 2*j and b at 2*j + 1; edge j
+        """The length of table of a remap call: (K + 1)*2. In it: pair j is a at 2*j and b at 2*j + 1; edge j
         = a + floor(b*P/65536), P the air of the column."""
-        return 2 * (self.k + 1)
+        return (self.k + 1) * 2
+
+    @property
+    def remap_table_shape(self):
+        """The shape of such an array of numpy; one of one dimension serves too."""
+        return (self.k + 1, 2,)
 
 
 class Calls:

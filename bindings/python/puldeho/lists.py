@@ -1,6 +1,8 @@
 """Numbers and lists as the library takes them: each number tested for its range, each list with its length."""
 import array
+import copy
 import ctypes
+import math
 import operator
 
 # For each type of a list's numbers: its array code, the formats of a buffer that holds them, its ctypes type.
@@ -48,10 +50,21 @@ def owner(name, value, kind):
     try:
         return array.array(NUMBERS[kind][0], flat(value))
     except (TypeError, OverflowError) as error:
-        raise type(error)("%s: %s" % (name, error)) from None
+        raise type(error)("%s: %s; its numbers are whole and of 32 bits" % (name, error)) from None
 
 
-def lent(name, value, kind):
+def copied(value):
+    """A list with the same numbers in memory of its own."""
+    return array.array("I", value.tobytes()) if isinstance(value, memoryview) else copy.copy(value)
+
+
+def test_shape(name, view, shape):
+    """Fails at an array of several dimensions, as many numbers as wanted, in another order."""
+    if view.ndim > 1 and view.nbytes // 4 == math.prod(shape) and view.shape != shape:
+        raise ValueError("%s: has the shape %s, and wants %s, or one dimension" % (name, view.shape, shape))
+
+
+def lent(name, value, kind, shape):
     """A list that is lent as it is: the numbers must be of 32 bits and lie side by side."""
     numbers = kind[-4:-1]
     view = memoryview(value)
@@ -64,6 +77,7 @@ def lent(name, value, kind):
         )
     if not view.c_contiguous:
         raise ValueError("%s: the numbers do not lie side by side; numpy.ascontiguousarray makes a copy that does" % name)
+    test_shape(name, view, shape)
     length = view.nbytes // 4
     if kind.startswith("&mut") and view.readonly:
         raise ValueError("%s: the calls change it, and it is read-only; give a copy" % name)
@@ -73,11 +87,11 @@ def lent(name, value, kind):
     return Lent(block.from_buffer_copy(view) if view.readonly else block.from_buffer(value), length)
 
 
-def argument(name, value, kind):
-    """One of a call's own arguments: a number, or a list."""
+def argument(name, value, kind, shape):
+    """One of a call's own arguments: a number, or a list of some shape."""
     if kind == "u32":
         return u32(name, value)
-    return lent(name, owner(name, value, kind[-4:-1]), kind)
+    return lent(name, owner(name, value, kind[-4:-1]), kind, shape)
 
 
 def parts(one):

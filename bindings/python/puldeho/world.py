@@ -3,9 +3,12 @@ import collections
 import ctypes
 
 from . import lists, shared
-from .calls import CONDITIONS, REMEDIES, SIGNATURES, WORLD, Calls, Lengths, Refusal
+from .calls import CONDITIONS, REMEDIES, SHAPES, SIGNATURES, WORLD, Calls, Lengths, Refusal
 
+# PULDEHO_WHY_SIZE of the header.
 WHY_SIZE = 1024
+# Where `why` says for the world at hand what would help, the general remedy is left out.
+CURED = (Refusal.ZONAL, Refusal.MERIDIONAL, Refusal.REMAP)
 
 
 class Grid(Lengths, collections.namedtuple("Grid", "w r k n")):
@@ -16,6 +19,11 @@ class Grid(Lengths, collections.namedtuple("Grid", "w r k n")):
 
     def __new__(cls, w, r, k, n):
         return super().__new__(cls, *(lists.u32(name, value) for name, value in zip(cls._fields, (w, r, k, n))))
+
+    def shape(self, owner, name):
+        """The shape of a list of the world, or of a call; None for a number."""
+        found = SHAPES.get((owner, name))
+        return found and getattr(self, found)
 
     def _start(self, layer):
         """The number of the first cell of a layer."""
@@ -30,16 +38,6 @@ class Grid(Lengths, collections.namedtuple("Grid", "w r k n")):
         if not 0 <= column < self.w:
             raise IndexError("column %d is not from 0 to %d" % (column, self.w - 1))
         return self._start(layer) + 1 + row * self.w + column
-
-    @property
-    def air_shape(self):
-        """The shape of air as an array: layers, cells of a layer."""
-        return self.k, self.cells_in_layer
-
-    @property
-    def tracers_shape(self):
-        """The shape of tracers as an array: tracers, layers, cells of a layer."""
-        return (self.n,) + self.air_shape
 
     def south_cap(self, layer):
         """The number of a layer's south cap: layer*C."""
@@ -59,8 +57,8 @@ class Refused(Exception):
         self.number = int(refusal)
 
     def __str__(self):
-        condition, remedy = CONDITIONS[self.refusal], REMEDIES[self.refusal]
-        return "%s refused with %d (%s). %s. What to do: %s." % (self.call, self.number, condition, self.why, remedy)
+        text = "%s refused with %d (%s): %s." % (self.call, self.number, CONDITIONS[self.refusal], self.why)
+        return text if self.refusal in CURED else text + " What to do: %s." % REMEDIES[self.refusal]
 
 
 class World(Calls):
@@ -73,13 +71,37 @@ class World(Calls):
     """
 
     def __init__(self, grid, air, tracers):
-        self.grid = Grid(*grid)
-        given = dict(air=air, tracers=tracers)
-        kept = {name: lists.owner(name, value, "u32") for name, value in given.items()}
-        self._lists = {name: lists.lent(name, value, "&mut [u32]") for name, value in kept.items()}
-        self._kept = kept
-        self._apart(self._lists)
+        self._lend(Grid(*grid), air=air, tracers=tracers)
         self._make("load")
+
+    def _lend(self, grid, **given):
+        """Takes the grid and the lists, untested."""
+        self._grid = grid
+        self._kept = {name: lists.owner(name, value, "u32") for name, value in given.items()}
+        self._lists = {
+            name: lists.lent(name, value, "&mut [u32]", grid.shape("world", name)) for name, value in self._kept.items()
+        }
+        self._apart(self._lists)
+
+    def copy(self):
+        """A second world with the same numbers in lists of its own; to keep a state and go back to it."""
+        second = World.__new__(World)
+        second._lend(self.grid, **{name: lists.copied(value) for name, value in self._kept.items()})
+        return second
+
+    def __copy__(self):
+        return self.copy()
+
+    def __deepcopy__(self, memo):
+        return self.copy()
+
+    def __reduce__(self):
+        return World, (tuple(self.grid), self.air, self.tracers)
+
+    @property
+    def grid(self):
+        """The grid."""
+        return self._grid
 
     @property
     def air(self):
@@ -110,7 +132,9 @@ class World(Calls):
         """Makes a call. Gives its count, or raises Refused."""
         parameters = SIGNATURES[call]
         mine = [parameter for parameter in parameters if parameter[0] not in WORLD]
-        given = {name: lists.argument(name, value, kind) for (name, kind), value in zip(mine, own)}
+        given = {
+            name: lists.argument(name, value, kind, self.grid.shape(call, name)) for (name, kind), value in zip(mine, own)
+        }
         named = dict(self._lists, **{name: one for name, one in given.items() if isinstance(one, lists.Lent)})
         self._apart(named)
         arguments = [part for name, _ in parameters for part in lists.parts(named.get(name, given.get(name)))]

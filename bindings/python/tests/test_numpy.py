@@ -1,4 +1,5 @@
 """The package over numpy arrays, without a copy."""
+import copy
 import unittest
 
 import numpy
@@ -39,6 +40,21 @@ class Arrays(unittest.TestCase):
             puldeho.World(GRID, self.air.astype(">u4"), self.tracers)
         with self.assertRaisesRegex(ValueError, "side by side"):
             puldeho.World(GRID, numpy.asfortranarray(self.air), self.tracers)
+
+    def test_copy(self):
+        second = copy.deepcopy(self.world)
+        second.emission(1, 5, 600)
+        self.assertEqual((second.tracers[1, 0, 5], self.tracers[1, 0, 5]), (600, 0))
+        self.assertEqual((second.total(1), self.world.total(1)), (600, 0))
+
+    def test_other_shapes(self):
+        with self.assertRaisesRegex(ValueError, r"air: has the shape \(20, 2\), and wants \(2, 20\), or one dimension"):
+            puldeho.World(GRID, self.air.T.copy(), self.tracers)
+        with self.assertRaisesRegex(ValueError, r"fluxes: has the shape \(6, 4\), and wants \(4, 6\)"):
+            self.world.meridional(0, numpy.zeros((GRID.w, GRID.r + 1), dtype=numpy.int32))
+        with self.assertRaisesRegex(puldeho.Refused, "refused with 2"):
+            self.world.meridional(0, numpy.zeros((GRID.r, GRID.w), dtype=numpy.int32))
+        self.assertEqual(self.world.remap(numpy.array([(0, 0), (0, 32768), (0, 65536)], dtype=numpy.uint32)), 40)
 
     def test_read_only_fluxes(self):
         fluxes = numpy.zeros(GRID.w, dtype=numpy.int32)

@@ -56,6 +56,21 @@ class CaseP(unittest.TestCase):
         self.assertEqual(one.zonal(0, 0, fluxes), 1)
 
 
+class Copies(unittest.TestCase):
+    def test_a_copy_is_a_world_of_its_own(self):
+        one = world()
+        for second in (one.copy(), copy.copy(one), copy.deepcopy(one), pickle.loads(pickle.dumps(one))):
+            second.zonal(0, 0, [0, 50, 0, 0])
+            self.assertEqual((second.cell(0, 3), second.tracers[3]), (262, 262))
+            self.assertEqual((one.cell(0, 3), one.tracers[3]), (200, 200))
+
+    def test_a_copy_over_views(self):
+        one = puldeho.World(GRID, memoryview(array.array("I", AIR)), memoryview(array.array("I", TRACERS)))
+        second = one.copy()
+        one.withdrawal(0, 3, 200)
+        self.assertEqual((one.total(0), second.total(0)), (200, 400))
+
+
 class NotTaken(unittest.TestCase):
     def test_other_numbers(self):
         with self.assertRaisesRegex(TypeError, "air: wants 32-bit unsigned numbers.*'Q'"):
@@ -117,7 +132,9 @@ class Refusals(unittest.TestCase):
 
     def test_words(self):
         refused = self.refused(9, "zonal", 0, 0, [0, 100, 0, 0])
-        self.assertIn("zonal refused with 9 (no count from 1 to 16 serves)", str(refused))
+        self.assertIn("zonal refused with 9 (no count from 1 to 16 serves): cell 2", str(refused))
+        self.assertNotIn("What to do", str(refused))
+        self.assertIn("What to do: count from 0", str(self.refused(5, "total", 1)))
         self.assertIn("column 1", refused.why)
         self.assertIn(refused.why, str(refused))
 

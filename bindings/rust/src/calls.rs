@@ -104,8 +104,8 @@ impl Refusal {
             Refusal::Emission => "load the gas in a larger unit, with room for all emissions of the run",
             Refusal::Withdrawal => "read the cell first, and withdraw at most what it has",
             Refusal::Fluxes => "give fluxes in units of air for this step, and divide the step if they are still too large",
-            Refusal::Zonal => "make the sweep as two or more, each with a part of the fluxes; if a cell would end with no air or too much, make the whole step (zonal and meridional) in parts, or make the meridional sweep first",
-            Refusal::Meridional => "make the sweep as two or more, each with a part of the fluxes; if a cell would end with no air or too much, make the whole step (zonal and meridional) in parts, or make the zonal sweeps first",
+            Refusal::Zonal => "make the sweep as two or more, each with a part of the fluxes; if a cell would end with no air or too much, make the whole step (zonal, meridional, remap) in parts, or make the meridional sweep first",
+            Refusal::Meridional => "make the sweep as two or more, each with a part of the fluxes; if a cell would end with no air or too much, make the whole step (zonal, meridional, remap) in parts, or make the zonal sweeps or a remap first",
             Refusal::Table => "give K + 1 pairs a, b from the top down, with b in parts of 65,536, the first 0, 0 and the last 0, 65,536",
             Refusal::Remap => "use a = 0, and choose the b so that every layer gets 1 to 65,535 units in the column with the least air and in the one with the most",
         }
@@ -129,14 +129,14 @@ impl Grid {
         self.w as usize
     }
 
-    /// The length of fluxes of a meridional call: W*(R + 1). In it: flux g*W + i crosses between rows g - 1 and g in column i; row -1 is the south cap, row R the north cap; positive northward.
+    /// The length of fluxes of a meridional call: (R + 1)*W. In it: flux g*W + i crosses between rows g - 1 and g in column i; row -1 is the south cap, row R the north cap; positive northward.
     pub fn meridional_fluxes_length(self) -> usize {
-        self.w as usize * (self.r as usize + 1)
+        (self.r as usize + 1) * self.w as usize
     }
 
-    /// The length of table of a remap call: 2*(K + 1). In it: pair j is a at 2*j and b at 2*j + 1; edge j = a + floor(b*P/65536), P the air of the column.
+    /// The length of table of a remap call: (K + 1)*2. In it: pair j is a at 2*j and b at 2*j + 1; edge j = a + floor(b*P/65536), P the air of the column.
     pub fn remap_table_length(self) -> usize {
-        2 * (self.k as usize + 1)
+        (self.k as usize + 1) * 2
     }
 }
 
@@ -296,7 +296,7 @@ pub mod raw {
         ) -> u64;
 }
 
-    /// Takes the lent lists as the world from now on. Checks them and changes no number in them.
+    /// Tests the lent lists, which are the world from then on, and changes no number in them.
     ///
     /// Count: 0. Refusals, in order: 1 2 3 4.
     pub fn load(

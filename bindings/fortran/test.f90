@@ -1,0 +1,65 @@
+! The words of the Fortran module that say why a call is refused, and a world that is kept and brought back.
+! The exit status is not 0 if anything differs.
+program test
+  use puldeho
+  implicit none
+  type(puldeho_grid), parameter :: grid = puldeho_grid(4, 1, 1, 1)
+  integer, parameter :: air(6) = 100, tracers(6) = [0, 0, 100, 200, 100, 0]
+  type(puldeho_world) :: world, kept
+  character(len=:), allocatable :: text
+  integer :: refusal
+
+  call world%why_total(0, text)
+  call says("W (columns) is 0, it must be 4 to 72")
+  call puldeho_why_load(grid, [100, 100, 0, 100, 100, 100], tracers, text)
+  call says("cell 2 (layer 0, row 0, column 1) has air 0")
+  call puldeho_why_load(grid, air, tracers, text)
+  call says("the call would be accepted")
+
+  call world%load(grid, air, tracers, refusal)
+  call gives(puldeho_accepted)
+  kept = world
+  call world%emission(0, -1, 1, refusal)
+  call gives(puldeho_refusal_index)
+  call world%why_emission(0, -1, 1, text)
+  call says("there is no cell 4294967295 (-1, if the number was signed)")
+  call world%withdrawal(0, 3, -1, refusal)
+  call gives(puldeho_refusal_withdrawal)
+  call world%zonal(0, 0, [0, 100, 0, 0], refusal)
+  call gives(puldeho_refusal_zonal)
+  call world%why_zonal(0, 0, [0, 100, 0, 0], text)
+  call says("cell 2 (layer 0, row 0, column 1) has air 100")
+  call world%meridional(0, [100, 0, 0, 0, 0, 0, 0, 0], refusal)
+  call gives(puldeho_refusal_meridional)
+  call world%why_meridional(0, [100, 0, 0, 0, 0, 0, 0, 0], text)
+  call says("cell 0 (south cap of layer 0) has air 100")
+  call world%why_remap([0, 0, 0, 65535], text)
+  call says("pair 1 of 0 to 1 is (0, 65535)")
+
+  call world%zonal(0, 0, [0, 50, 0, 0], refusal)
+  call gives(puldeho_accepted)
+  world = kept
+  if (any(world%tracers /= tracers) .or. lbound(world%air, 1) /= 0) error stop "the kept world differs"
+  print "(a)", "the Fortran module: as it should be"
+
+contains
+
+  subroutine says(beginning)
+    character(len=*), intent(in) :: beginning
+
+    if (index(text, beginning) /= 1) then
+      print "(4a)", "says: ", text, ", and should begin: ", beginning
+      error stop
+    end if
+  end subroutine says
+
+  subroutine gives(wanted)
+    integer, intent(in) :: wanted
+
+    if (refusal /= wanted) then
+      print "(a, i0, a, i0)", "gives ", refusal, ", and should give ", wanted
+      error stop
+    end if
+  end subroutine gives
+
+end program test
