@@ -12,7 +12,7 @@ int main(void)
     if (!refusal)
         refusal = puldeho_zonal(&world, 0, 0, fluxes, 4, &substeps);
     if (refusal)
-        return fprintf(stderr, "refused with %d: %s\n", refusal, puldeho_refusal_text(refusal)), 1;
+        return fprintf(stderr, "refused with %d: %s\n", (int)refusal, puldeho_refusal_text(refusal)), 1;
     printf("%u substep, %u units of gas in column 2\n", substeps, gas[puldeho_cell_number(grid, 0, 0, 2)]);
     return 0;
 }
