@@ -21,17 +21,18 @@
  * that pointer may be null.
  *
  * What is assumed of pointers:
- * - each goes with the length after it, in numbers, not bytes: so many can be read there, or written;
+ * - each goes with the length after it, in numbers, not bytes: so many can be read there, or written. A
+ *   length that is not the grid's is refused with 2, before anything is read there;
  * - it is not null and is aligned to 4 bytes, unless the length is 0;
  * - a list that is written shares no memory with another list of the same call;
  * - nobody else writes a lent list during the call, or reads one that is written.
- * Nothing is assumed of the numbers or of the lengths: any are answered. The library keeps nothing
+ * Nothing is assumed of the numbers: any are answered. The library keeps nothing
  * between calls, and each call tests the whole world before it does anything. Several threads may call
  * it at once, each with a world of its own; a list that is only read may be shared. Between calls you
  * may read the lists. If you write into them, load again: what is promised of a run counts from there.
  *
- * What is assumed of the stack: that it has room for the call. The deepest stack in bytes, read from
- * the object code by tools/stack, return address and libc's functions included, arguments not:
+ * What is assumed of the stack: that it has room for the call, PULDEHO_STACK bytes or, of the proved
+ * function under each call (return address and libc's functions included, arguments not):
  *   puldeho_raw_load               336
  *   puldeho_raw_emission           448
  *   puldeho_raw_withdrawal         384
@@ -40,7 +41,7 @@
  *   puldeho_raw_remap           17,648
  *   puldeho_raw_total              416
  *   puldeho_raw_cell               384
- * The functions puldeho_why_NAME, which are compiled by gcc, want at most PULDEHO_WHY_STACK bytes.
+ * A function puldeho_why_NAME wants at most PULDEHO_WHY_STACK bytes.
  */
 #ifndef PULDEHO_H
 #define PULDEHO_H
@@ -187,7 +188,7 @@ static inline const char *puldeho_refusal_remedy(enum puldeho_refusal refusal)
     case PULDEHO_REFUSAL_FLUXES:
         return "give fluxes in units of air for this step, and divide the step if they are still too large";
     case PULDEHO_REFUSAL_ZONAL:
-        return "make the sweep as two or more, each with a part of the fluxes; if a cell would end with no air or too much, make the whole step (zonal, meridional, remap) in parts, or make the meridional sweep first";
+        return "make the sweep as two or more, each with a part of the fluxes; if a cell would end with no air or too much, make the whole step (zonal, meridional, remap) in parts, or make the meridional sweep or a remap first";
     case PULDEHO_REFUSAL_MERIDIONAL:
         return "make the sweep as two or more, each with a part of the fluxes; if a cell would end with no air or too much, make the whole step (zonal, meridional, remap) in parts, or make the zonal sweeps or a remap first";
     case PULDEHO_REFUSAL_TABLE:
@@ -305,9 +306,163 @@ static inline struct puldeho_world puldeho_world_over(
     return world;
 }
 
+/* The calls. A refused one changes nothing; puldeho_why_NAME, below, says more about why. */
+
 /*
- * The proved functions. Users call those further down, which are plain C over these. Each returns one
- * number, refusal * 2^32 + count: kept in an int, it is 0 for many a refused call.
+ * Tests the lent lists, which are the world from then on, and changes no number in them. Writes
+ * nothing. Refusals, in order: 1 2 3 4.
+ */
+PULDEHO_MUST_USE PULDEHO_NOT_NULL(1)
+static inline enum puldeho_refusal puldeho_load(
+    struct puldeho_world *world);
+
+/*
+ * Adds amount to one cell of one tracer. Cells are numbered over all layers. Writes tracers.
+ * Refusals, in order: 1 2 3 4 5 6.
+ */
+PULDEHO_MUST_USE PULDEHO_NOT_NULL(1)
+static inline enum puldeho_refusal puldeho_emission(
+    struct puldeho_world *world,
+    uint32_t tracer,
+    uint32_t cell,
+    uint32_t amount);
+
+/*
+ * Takes amount from one cell of one tracer. Cells are numbered over all layers. Writes tracers.
+ * Refusals, in order: 1 2 3 4 5 7.
+ */
+PULDEHO_MUST_USE PULDEHO_NOT_NULL(1)
+static inline enum puldeho_refusal puldeho_withdrawal(
+    struct puldeho_world *world,
+    uint32_t tracer,
+    uint32_t cell,
+    uint32_t amount);
+
+/*
+ * Sweeps one row of one layer by W fluxes, positive eastward. Writes air and tracers. Refusals,
+ * in order: 1 2 3 4 5 8 9. substeps: the number of substeps, 1 to 16. fluxes has
+ * puldeho_zonal_fluxes_length(grid) numbers.
+ */
+PULDEHO_MUST_USE PULDEHO_NOT_NULL(1) PULDEHO_LIST(read_only, 4, 5)
+static inline enum puldeho_refusal puldeho_zonal(
+    struct puldeho_world *world,
+    uint32_t layer,
+    uint32_t row,
+    const int32_t *fluxes, size_t fluxes_length,
+    uint32_t *substeps);
+
+/*
+ * Sweeps one layer by W*(R + 1) fluxes, positive northward. Writes air and tracers. Refusals,
+ * in order: 1 2 3 4 5 8 10. substeps: the number of substeps, 1. fluxes has
+ * puldeho_meridional_fluxes_length(grid) numbers.
+ */
+PULDEHO_MUST_USE PULDEHO_NOT_NULL(1) PULDEHO_LIST(read_only, 3, 4)
+static inline enum puldeho_refusal puldeho_meridional(
+    struct puldeho_world *world,
+    uint32_t layer,
+    const int32_t *fluxes, size_t fluxes_length,
+    uint32_t *substeps);
+
+/*
+ * Remaps all columns to the edges of a table of K + 1 pairs a, b, lent as 2*(K + 1) numbers.
+ * Writes air and tracers. Refusals, in order: 1 2 3 4 11 12. overlaps: the pairs of an old and
+ * a new layer that share air, over all columns. table has puldeho_remap_table_length(grid)
+ * numbers.
+ */
+PULDEHO_MUST_USE PULDEHO_NOT_NULL(1) PULDEHO_LIST(read_only, 2, 3)
+static inline enum puldeho_refusal puldeho_remap(
+    struct puldeho_world *world,
+    const uint32_t *table, size_t table_length,
+    uint32_t *overlaps);
+
+/*
+ * Reads the total of one tracer. Writes nothing. Refusals, in order: 1 2 3 4 5. units: the
+ * total of the tracer.
+ */
+PULDEHO_MUST_USE PULDEHO_NOT_NULL(1)
+static inline enum puldeho_refusal puldeho_total(
+    const struct puldeho_world *world,
+    uint32_t tracer,
+    uint32_t *units);
+
+/*
+ * Reads one cell of one tracer. Cells are numbered over all layers. Writes nothing. Refusals,
+ * in order: 1 2 3 4 5. units: the amount in the cell.
+ */
+PULDEHO_MUST_USE PULDEHO_NOT_NULL(1)
+static inline enum puldeho_refusal puldeho_cell(
+    const struct puldeho_world *world,
+    uint32_t tracer,
+    uint32_t cell,
+    uint32_t *units);
+
+/*
+ * Why a call is refused: for each call a function that takes the same arguments, writes into `text`
+ * which cell, row or column is in the way, how much air it has and how much would leave, and whether
+ * a smaller time step can help, and returns the refusal, 0 if the call would be accepted. Ask after the
+ * refusal, before the world changes. `text` gets at most `size` bytes with the final 0;
+ * PULDEHO_WHY_SIZE are enough for any. These functions are plain C and not proved; they only read.
+ */
+#define PULDEHO_WHY_SIZE 1024
+
+PULDEHO_NOT_NULL(1) PULDEHO_LIST(write_only, 2, 3)
+enum puldeho_refusal puldeho_why_load(
+    const struct puldeho_world *world,
+    char *text, size_t size);
+
+PULDEHO_NOT_NULL(1) PULDEHO_LIST(write_only, 5, 6)
+enum puldeho_refusal puldeho_why_emission(
+    const struct puldeho_world *world,
+    uint32_t tracer,
+    uint32_t cell,
+    uint32_t amount,
+    char *text, size_t size);
+
+PULDEHO_NOT_NULL(1) PULDEHO_LIST(write_only, 5, 6)
+enum puldeho_refusal puldeho_why_withdrawal(
+    const struct puldeho_world *world,
+    uint32_t tracer,
+    uint32_t cell,
+    uint32_t amount,
+    char *text, size_t size);
+
+PULDEHO_NOT_NULL(1) PULDEHO_LIST(read_only, 4, 5) PULDEHO_LIST(write_only, 6, 7)
+enum puldeho_refusal puldeho_why_zonal(
+    const struct puldeho_world *world,
+    uint32_t layer,
+    uint32_t row,
+    const int32_t *fluxes, size_t fluxes_length,
+    char *text, size_t size);
+
+PULDEHO_NOT_NULL(1) PULDEHO_LIST(read_only, 3, 4) PULDEHO_LIST(write_only, 5, 6)
+enum puldeho_refusal puldeho_why_meridional(
+    const struct puldeho_world *world,
+    uint32_t layer,
+    const int32_t *fluxes, size_t fluxes_length,
+    char *text, size_t size);
+
+PULDEHO_NOT_NULL(1) PULDEHO_LIST(read_only, 2, 3) PULDEHO_LIST(write_only, 4, 5)
+enum puldeho_refusal puldeho_why_remap(
+    const struct puldeho_world *world,
+    const uint32_t *table, size_t table_length,
+    char *text, size_t size);
+
+PULDEHO_NOT_NULL(1) PULDEHO_LIST(write_only, 3, 4)
+enum puldeho_refusal puldeho_why_total(
+    const struct puldeho_world *world,
+    uint32_t tracer,
+    char *text, size_t size);
+
+PULDEHO_NOT_NULL(1) PULDEHO_LIST(write_only, 4, 5)
+enum puldeho_refusal puldeho_why_cell(
+    const struct puldeho_world *world,
+    uint32_t tracer,
+    uint32_t cell,
+    char *text, size_t size);
+
+/*
+ * From here on: how the calls are made. The proved functions return one number, refusal * 2^32 + count,
+ * which kept in an int is 0 for many a refused call; the calls above take it apart.
  */
 PULDEHO_MUST_USE PULDEHO_LIST(read_only, 5, 6) PULDEHO_LIST(read_only, 7, 8)
 uint64_t puldeho_raw_load(
@@ -380,13 +535,6 @@ static inline enum puldeho_refusal puldeho_refusal_and_count(uint64_t returned, 
     return (enum puldeho_refusal)(returned >> 32);
 }
 
-/* The calls. */
-
-/*
- * Tests the lent lists, which are the world from then on, and changes no number in them. Writes
- * nothing. Refusals, in order: 1 2 3 4.
- */
-PULDEHO_MUST_USE PULDEHO_NOT_NULL(1) 
 static inline enum puldeho_refusal puldeho_load(
     struct puldeho_world *world)
 {
@@ -396,11 +544,6 @@ static inline enum puldeho_refusal puldeho_load(
         world->tracers, world->tracers_length), NULL);
 }
 
-/*
- * Adds amount to one cell of one tracer. Cells are numbered over all layers. Writes tracers.
- * Refusals, in order: 1 2 3 4 5 6.
- */
-PULDEHO_MUST_USE PULDEHO_NOT_NULL(1) 
 static inline enum puldeho_refusal puldeho_emission(
     struct puldeho_world *world,
     uint32_t tracer,
@@ -416,11 +559,6 @@ static inline enum puldeho_refusal puldeho_emission(
         amount), NULL);
 }
 
-/*
- * Takes amount from one cell of one tracer. Cells are numbered over all layers. Writes tracers.
- * Refusals, in order: 1 2 3 4 5 7.
- */
-PULDEHO_MUST_USE PULDEHO_NOT_NULL(1) 
 static inline enum puldeho_refusal puldeho_withdrawal(
     struct puldeho_world *world,
     uint32_t tracer,
@@ -436,11 +574,6 @@ static inline enum puldeho_refusal puldeho_withdrawal(
         amount), NULL);
 }
 
-/*
- * Sweeps one row of one layer by W fluxes, positive eastward. Writes air and tracers. Refusals,
- * in order: 1 2 3 4 5 8 9. substeps: the number of substeps, 1 to 16.
- */
-PULDEHO_MUST_USE PULDEHO_NOT_NULL(1) PULDEHO_LIST(read_only, 4, 5) 
 static inline enum puldeho_refusal puldeho_zonal(
     struct puldeho_world *world,
     uint32_t layer,
@@ -457,11 +590,6 @@ static inline enum puldeho_refusal puldeho_zonal(
         fluxes, fluxes_length), substeps);
 }
 
-/*
- * Sweeps one layer by W*(R + 1) fluxes, positive northward. Writes air and tracers. Refusals,
- * in order: 1 2 3 4 5 8 10. substeps: the number of substeps, 1.
- */
-PULDEHO_MUST_USE PULDEHO_NOT_NULL(1) PULDEHO_LIST(read_only, 3, 4) 
 static inline enum puldeho_refusal puldeho_meridional(
     struct puldeho_world *world,
     uint32_t layer,
@@ -476,12 +604,6 @@ static inline enum puldeho_refusal puldeho_meridional(
         fluxes, fluxes_length), substeps);
 }
 
-/*
- * Remaps all columns to the edges of a table of K + 1 pairs a, b, lent as 2*(K + 1) numbers.
- * Writes air and tracers. Refusals, in order: 1 2 3 4 11 12. overlaps: the pairs of an old and
- * a new layer that share air, over all columns.
- */
-PULDEHO_MUST_USE PULDEHO_NOT_NULL(1) PULDEHO_LIST(read_only, 2, 3) 
 static inline enum puldeho_refusal puldeho_remap(
     struct puldeho_world *world,
     const uint32_t *table, size_t table_length,
@@ -494,11 +616,6 @@ static inline enum puldeho_refusal puldeho_remap(
         table, table_length), overlaps);
 }
 
-/*
- * Reads the total of one tracer. Writes nothing. Refusals, in order: 1 2 3 4 5. units: the
- * total of the tracer.
- */
-PULDEHO_MUST_USE PULDEHO_NOT_NULL(1) 
 static inline enum puldeho_refusal puldeho_total(
     const struct puldeho_world *world,
     uint32_t tracer,
@@ -511,11 +628,6 @@ static inline enum puldeho_refusal puldeho_total(
         tracer), units);
 }
 
-/*
- * Reads one cell of one tracer. Cells are numbered over all layers. Writes nothing. Refusals,
- * in order: 1 2 3 4 5. units: the amount in the cell.
- */
-PULDEHO_MUST_USE PULDEHO_NOT_NULL(1) 
 static inline enum puldeho_refusal puldeho_cell(
     const struct puldeho_world *world,
     uint32_t tracer,
@@ -529,70 +641,6 @@ static inline enum puldeho_refusal puldeho_cell(
         tracer,
         cell), units);
 }
-
-/*
- * Why a call is refused: for each call a function that takes the same arguments, writes into `text`
- * which cell, row or column is in the way, how much air it has and how much would leave, and whether
- * a smaller time step can help, and returns the refusal, 0 if the call would be accepted. Ask after the
- * refusal, before the world changes. `text` gets at most `size` bytes with the final 0;
- * PULDEHO_WHY_SIZE are enough for any. These functions are plain C and not proved; they only read.
- */
-#define PULDEHO_WHY_SIZE 1024
-
-PULDEHO_NOT_NULL(1) PULDEHO_LIST(write_only, 2, 3)
-enum puldeho_refusal puldeho_why_load(
-    const struct puldeho_world *world,
-    char *text, size_t size);
-
-PULDEHO_NOT_NULL(1) PULDEHO_LIST(write_only, 5, 6)
-enum puldeho_refusal puldeho_why_emission(
-    const struct puldeho_world *world,
-    uint32_t tracer,
-    uint32_t cell,
-    uint32_t amount,
-    char *text, size_t size);
-
-PULDEHO_NOT_NULL(1) PULDEHO_LIST(write_only, 5, 6)
-enum puldeho_refusal puldeho_why_withdrawal(
-    const struct puldeho_world *world,
-    uint32_t tracer,
-    uint32_t cell,
-    uint32_t amount,
-    char *text, size_t size);
-
-PULDEHO_NOT_NULL(1) PULDEHO_LIST(read_only, 4, 5) PULDEHO_LIST(write_only, 6, 7)
-enum puldeho_refusal puldeho_why_zonal(
-    const struct puldeho_world *world,
-    uint32_t layer,
-    uint32_t row,
-    const int32_t *fluxes, size_t fluxes_length,
-    char *text, size_t size);
-
-PULDEHO_NOT_NULL(1) PULDEHO_LIST(read_only, 3, 4) PULDEHO_LIST(write_only, 5, 6)
-enum puldeho_refusal puldeho_why_meridional(
-    const struct puldeho_world *world,
-    uint32_t layer,
-    const int32_t *fluxes, size_t fluxes_length,
-    char *text, size_t size);
-
-PULDEHO_NOT_NULL(1) PULDEHO_LIST(read_only, 2, 3) PULDEHO_LIST(write_only, 4, 5)
-enum puldeho_refusal puldeho_why_remap(
-    const struct puldeho_world *world,
-    const uint32_t *table, size_t table_length,
-    char *text, size_t size);
-
-PULDEHO_NOT_NULL(1) PULDEHO_LIST(write_only, 3, 4)
-enum puldeho_refusal puldeho_why_total(
-    const struct puldeho_world *world,
-    uint32_t tracer,
-    char *text, size_t size);
-
-PULDEHO_NOT_NULL(1) PULDEHO_LIST(write_only, 4, 5)
-enum puldeho_refusal puldeho_why_cell(
-    const struct puldeho_world *world,
-    uint32_t tracer,
-    uint32_t cell,
-    char *text, size_t size);
 
 #ifdef __cplusplus
 }

@@ -2,7 +2,8 @@
 
     PYTHONPATH=bindings/python python3 examples/day_of_winds.py [PICTURE.svg]
 
-Needs numpy and the library (tools/library). The wind is analytic; the fluxes of a model would take its place.
+Needs numpy and the library (tools/library). Where that is installed, PYTHONPATH=$(pkg-config --variable=python puldeho).
+The numbers 4, 5 and 88 degrees below, and svg_map, are of this grid. The wind is analytic; the fluxes of a model would take its place.
 """
 import collections
 import itertools

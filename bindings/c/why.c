@@ -108,7 +108,7 @@ static enum puldeho_refusal grid_place(const struct call *call, struct text *tex
 
 /* 2: the lengths. */
 
-/* `other` is the length that the other sweep's fluxes have, 0 if the list has none. */
+/* `other` is the length that the other sweep's fluxes have; a list that is no sweep's has its own length there. */
 static enum puldeho_refusal length(
     const struct call *call, struct text *text, const char *list, size_t has, size_t wants, size_t other, const char *formula)
 {
@@ -117,6 +117,8 @@ static enum puldeho_refusal length(
         return PULDEHO_ACCEPTED;
     say(text, "%s has length %zu, the grid wants %zu (%s; here W = %d, R = %d, K = %d, N = %d)", list, has, wants, formula,
         (int)grid.w, (int)grid.r, (int)grid.k, (int)grid.n);
+    if (has == 0)
+        say(text, "; was it set?");
     if (has == 4 * wants)
         say(text, "; a length counts numbers, not bytes");
     if (has == other)
@@ -127,14 +129,15 @@ static enum puldeho_refusal length(
 static enum puldeho_refusal air_length_place(const struct call *call, struct text *text)
 {
     const struct puldeho_world *world = call->world;
-    return length(call, text, "air", world->air_length, puldeho_air_length(world->grid), 0, "K*C, where C = 2 + R*W");
+    return length(call, text, "air", world->air_length, puldeho_air_length(world->grid),
+                  puldeho_air_length(world->grid), "K*C, where C = 2 + R*W");
 }
 
 static enum puldeho_refusal tracers_length_place(const struct call *call, struct text *text)
 {
     const struct puldeho_world *world = call->world;
     size_t wants = puldeho_tracers_length(world->grid);
-    return length(call, text, "tracers", world->tracers_length, wants, 0, "N*K*C, where C = 2 + R*W");
+    return length(call, text, "tracers", world->tracers_length, wants, wants, "N*K*C, where C = 2 + R*W");
 }
 
 static enum puldeho_refusal zonal_length_place(const struct call *call, struct text *text)
@@ -154,7 +157,7 @@ static enum puldeho_refusal meridional_length_place(const struct call *call, str
 static enum puldeho_refusal table_length_place(const struct call *call, struct text *text)
 {
     size_t wants = puldeho_remap_table_length(call->world->grid);
-    return length(call, text, "table", call->length, wants, 0, "2*(K + 1), an a and a b for each edge");
+    return length(call, text, "table", call->length, wants, wants, "2*(K + 1), an a and a b for each edge");
 }
 
 /* 3: air. */
@@ -481,6 +484,14 @@ struct tally {
     size_t worst_outflow;       /* the cell with the greatest outflow for its air */
 };
 
+/* Farther outside 1 to 65535; but a cap that ends outside comes first, as the fewest ways help it. */
+static bool is_worse_end(const struct mesh *mesh, const struct substep *step, size_t cell, size_t than)
+{
+    long long one = beyond(step->after[cell]), other = beyond(step->after[than]);
+    bool cap = is_cap(mesh, cell) && one > 0, other_cap = is_cap(mesh, than) && other > 0;
+    return cap != other_cap ? cap : one > other;
+}
+
 static struct tally tally_of(const struct mesh *mesh, const struct substep *step)
 {
     struct tally tally = {0, 0, 0, 0, 0};
@@ -489,7 +500,7 @@ static struct tally tally_of(const struct mesh *mesh, const struct substep *step
         tally.refusing += refuses(step, cell);
         tally.low += step->after[cell] < 1;
         tally.high += step->after[cell] > PULDEHO_AIR_LIMIT;
-        if (beyond(step->after[cell]) > beyond(step->after[tally.worst_end]))
+        if (is_worse_end(mesh, step, cell, tally.worst_end))
             tally.worst_end = cell;
         if ((long long)step->outflow[cell] * step->air[out] > (long long)step->outflow[out] * step->air[cell])
             tally.worst_outflow = cell;
@@ -524,9 +535,9 @@ static void say_end(struct text *text, const struct mesh *mesh, const struct sub
     say(text, " %zu would end with 0 or less and %zu above 65535; %sparts of this sweep alone end at the same air: ",
         tally.low, tally.high, mesh->caps ? "" : "no count helps, and ");
     if (!cap || layers)
-        say(text, "if %s%s%s can bring the air back, make that first, or the whole step in smaller ones; if not, ",
+        say(text, "if %s%s%s can bring the air back, make %s first, or the whole step in smaller ones; if not, ",
             cap ? "" : mesh->caps ? "the zonal sweeps" : "the meridional sweep", !cap && layers ? " or " : "",
-            layers ? "a remap" : "");
+            layers ? "a remap" : "", !cap && mesh->caps ? "those" : "that");
     say(text, "the fluxes themselves must %s less at this %s", whole->after[cell] < 1 ? "diverge" : "converge",
         cap ? "cap" : "cell");
 }
@@ -537,8 +548,8 @@ static void say_cut(struct text *text, const struct mesh *mesh, struct substep *
     int m = smallest_cut(mesh, step);
     say(text, "; every cell of the %s would end within 1 to 65535, ", mesh->name);
     if (m == 0)
-        say(text, "but cut into any number of sweeps from 2 to %d the fluxes are refused too "
-            "(more were not tried): smaller fluxes or more air are needed", MOST_SWEEPS);
+        say(text, "but cut into any number of sweeps from 2 to %d the fluxes are refused too; more sweeps were not tried",
+            MOST_SWEEPS);
     else
         say(text, "so a smaller time step helps: cut into %d sweeps, all are accepted "
             "(part s of %d of a flux F is floor(s*|F|/%d) - floor((s - 1)*|F|/%d), with the sign of F)", m, m, m, m);
@@ -680,25 +691,42 @@ static void say_column(struct text *text, struct puldeho_grid grid, size_t colum
         say(text, "in the column at row %zu, column %zu", (column - 1) / grid.w, (column - 1) % grid.w);
 }
 
-/* The least change of b that is sure to give a layer one unit of air: (1 - change of a)*65536/P, rounded up. */
-static long long sure_change(long long change_of_a, long long p)
+/* Changes of b from one pair to the next. */
+struct changes {
+    long long least, most;
+};
+
+/*
+ * The changes of b that are sure to give a layer 1 to 65535 in every column, where a changes by so much: a change d gives
+ * floor(d*P/65536) or one unit more, so that d*P/65536 must be 1 - a or more, and less than 65535 - a.
+ */
+static struct changes sure_changes(const struct call *call, long long a)
 {
-    long long wanted = (1 - change_of_a) * PULDEHO_TABLE_SCALE;
-    return wanted > 0 ? (wanted + p - 1) / p : -(-wanted / p);
+    struct changes sure = {0, PULDEHO_TABLE_SCALE};
+    for (size_t column = 0; column < puldeho_cells_in_layer(call->world->grid); column++) {
+        long long p = column_air(call->world, column);
+        long long least = ((1 - a) * PULDEHO_TABLE_SCALE + p - 1) / p;
+        long long most = ((PULDEHO_AIR_LIMIT - a) * PULDEHO_TABLE_SCALE - 1) / p;
+        sure.least = least > sure.least ? least : sure.least;
+        sure.most = most < sure.most ? most : sure.most;
+    }
+    return sure;
 }
 
-static void say_remedy(struct text *text, const uint32_t *table, struct new_layer layer)
+static void say_remedy(struct text *text, const struct call *call, size_t j)
 {
-    const uint32_t *pair = table + 2 * layer.j;
-    long long a = (long long)pair[2] - pair[0], b = (long long)pair[3] - pair[1], sure = sure_change(a, layer.p);
-    say(text, "; from pair %zu to pair %zu a changes by %lld and b by %lld", layer.j, layer.j + 1, a, b);
-    if (new_air(layer) > PULDEHO_AIR_LIMIT)
-        say(text, ": a layer above 65535 needs smaller changes here, more layers or less air");
-    else if (sure > PULDEHO_TABLE_SCALE)
-        say(text, ": an a is an amount of air, the same in every column; here it falls by P or more, so no b serves");
+    const uint32_t *pair = call->table + 2 * j;
+    long long a = (long long)pair[2] - pair[0], b = (long long)pair[3] - pair[1];
+    struct changes sure = sure_changes(call, a);
+    say(text, "; from pair %zu to pair %zu a changes by %lld and b by %lld: ", j, j + 1, a, b);
+    if (sure.least <= sure.most)
+        say(text, "with a change of b from %lld to %lld every column would have 1 to 65535 there "
+            "(move the b of either pair; the pairs beyond must still rise)", sure.least, sure.most);
+    else if (a != 0)
+        say(text, "no change of b serves every column with this change of a, which is an amount of air and the same in "
+            "every column");
     else
-        say(text, ": a change of b by %lld or more is sure to give one unit of air "
-            "(65536/P of b for each unit; an a is an amount of air, the same in every column)", sure);
+        say(text, "no change of b serves every column, as their air is too uneven for so thin a layer");
 }
 
 static enum puldeho_refusal remap_place(const struct call *call, struct text *text)
@@ -718,7 +746,7 @@ static enum puldeho_refusal remap_place(const struct call *call, struct text *te
     say(text, " (air sum P = %lld) edge %zu is %lld and edge %zu is %lld, so new layer %zu would have air %lld, "
         "it must be 1 to 65535; columns refused: %zu of %zu", worst.p, worst.j, worst.upper, worst.j + 1,
         worst.lower, worst.j, new_air(worst), wrong, puldeho_cells_in_layer(grid));
-    say_remedy(text, call->table, worst);
+    say_remedy(text, call, worst.j);
     return PULDEHO_REFUSAL_REMAP;
 }
 

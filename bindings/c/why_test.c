@@ -26,6 +26,7 @@ struct request {
 static int differences = 0;
 static unsigned long reached[MOST_REFUSAL + 1];
 static unsigned long ends[2], cuts[2], uncut[2]; /* texts of zonal and of meridional sweeps */
+static unsigned long changes; /* texts of remaps that name changes of b */
 
 static void differs(const char *what, const char *text)
 {
@@ -204,17 +205,36 @@ static void check_sweep(const struct puldeho_world *world, const struct request 
     }
 }
 
-/* With the change of b that the text calls sure, the new layer has air. */
-static void check_remap(const struct puldeho_world *world, const struct request *r, const char *text)
+/* The air of a new layer in a column, if b changes by so much from the pair above it. */
+static long long layer_air(const struct puldeho_world *world, const uint32_t *pair, long long column, long long change)
 {
-    long long j = number_after(text, "from pair "), sure = number_after(text, "a change of b by ");
-    long long p = number_after(text, "P = "), c = 2 + (long long)world->grid.r * world->grid.w, columns = 0;
-    if (strstr(text, "a change of b by ") != NULL) {
-        const uint32_t *pair = r->table + 2 * j;
-        long long upper = pair[0] + pair[1] * p / 65536, lower = pair[2] + (pair[1] + sure) * p / 65536;
-        if (lower <= upper || (long long)pair[3] - pair[1] >= sure)
+    long long c = 2 + (long long)world->grid.r * world->grid.w, p = 0;
+    for (long long k = 0; k < world->grid.k; k++)
+        p += world->air[k * c + column];
+    return pair[2] + (pair[1] + change) * p / 65536 - pair[0] - pair[1] * p / 65536;
+}
+
+/* With each of the two changes of b that the text names the new layer is in range in every column; the given b is none. */
+static void check_changes(const struct puldeho_world *world, const struct request *r, const char *text)
+{
+    const uint32_t *pair = r->table + 2 * number_after(text, "from pair ");
+    long long least = number_after(text, "a change of b from "), most = number_after(strstr(text, "a change of b from "), " to ");
+    long long given = (long long)pair[3] - pair[1];
+    if (least <= given && given <= most)
+        differs("the given change of b is called sure", text);
+    for (long long column = 0; column < 2 + (long long)world->grid.r * world->grid.w; column++) {
+        long long one = layer_air(world, pair, column, least), other = layer_air(world, pair, column, most);
+        if (one < 1 || one > 65535 || other < 1 || other > 65535)
             differs("a sure change of b", text);
     }
+    changes++;
+}
+
+static void check_remap(const struct puldeho_world *world, const struct request *r, const char *text)
+{
+    long long c = 2 + (long long)world->grid.r * world->grid.w, columns = 0;
+    if (strstr(text, "a change of b from ") != NULL)
+        check_changes(world, r, text);
     for (long long column = 0; column < c; column++) {
         long long sum = 0, wrong = 0;
         for (long long k = 0; k < world->grid.k; k++)
@@ -470,6 +490,8 @@ static const struct fixed fixed[] = {
     {CASE_P, .r = {.name = ZONAL, .length = 16}, .refusal = PULDEHO_REFUSAL_LENGTHS,
      .text = "fluxes has length 16, the grid wants 4 (W; here W = 4, R = 1, K = 1, N = 1); a length counts numbers, "
              "not bytes"},
+    {CASE_P, .r = {.name = ZONAL, .length = 0}, .refusal = PULDEHO_REFUSAL_LENGTHS,
+     .text = "fluxes has length 0, the grid wants 4 (W; here W = 4, R = 1, K = 1, N = 1); was it set?"},
     {CASE_P, .r = {.name = MERIDIONAL, .length = 4}, .refusal = PULDEHO_REFUSAL_LENGTHS,
      .text = "fluxes has length 4, the grid wants 8 (W*(R + 1); here W = 4, R = 1, K = 1, N = 1); fluxes of the other "
              "sweep have that length"},
@@ -543,10 +565,10 @@ static const struct fixed fixed[] = {
              "sweeps, all are accepted (part s of 5 of a flux F is floor(s*|F|/5) - floor((s - 1)*|F|/5), with the "
              "sign of F)"},
     {SMALL, .air = {1, 1, 1, 1, 1, 1}, SWEEP_ROW(1025, 1025, 1025, 1025), .refusal = PULDEHO_REFUSAL_ZONAL,
-     .text = "cell 1 (layer 0, row 0, column 0) has air 1, its outflow 1025 is 1025.00 times its air, and it would "
-             "end with air 1; with 16 substeps it refuses first in substep 1, where its outflow is 64 and its air "
-             "1; every cell of the row would end within 1 to 65535, but cut into any number of sweeps from 2 to 64 "
-             "the fluxes are refused too (more were not tried): smaller fluxes or more air are needed"},
+     .text = "cell 1 (layer 0, row 0, column 0) has air 1, its outflow 1025 is 1025.00 times its air, and it would end"
+             " with air 1; with 16 substeps it refuses first in substep 1, where its outflow is 64 and its air 1; "
+             "every cell of the row would end within 1 to 65535, but cut into any number of sweeps from 2 to 64 the "
+             "fluxes are refused too; more sweeps were not tried"},
     {CASE_P, SWEEP_LAYER(0, 0, 0, 0, -30, -30, -30, -40), .refusal = PULDEHO_REFUSAL_MERIDIONAL,
      .text = "cell 5 (north cap of layer 0) has air 100, its outflow 130, the sum through its 4 faces, is 1.30 times "
              "its air, and it would end with air -30; of the layer's 6 cells 1 would be refused, 1 would end with 0 or"
@@ -555,8 +577,13 @@ static const struct fixed fixed[] = {
     {CASE_P, SWEEP_LAYER(-40, -40, -40, -40, 0, 0, 120, 0), .refusal = PULDEHO_REFUSAL_MERIDIONAL,
      .text = "cell 3 (layer 0, row 0, column 2) has air 100, its outflow 160 is 1.60 times its air, and it would end "
              "with air -60; of the layer's 6 cells 1 would be refused, 1 would end with 0 or less and 0 above 65535; "
-             "parts of this sweep alone end at the same air: if the zonal sweeps can bring the air back, make that "
+             "parts of this sweep alone end at the same air: if the zonal sweeps can bring the air back, make those "
              "first, or the whole step in smaller ones; if not, the fluxes themselves must diverge less at this cell"},
+    {CASE_P, SWEEP_LAYER(25, 25, 25, 25, 0, 200, 0, 0), .refusal = PULDEHO_REFUSAL_MERIDIONAL,
+     .text = "cell 0 (south cap of layer 0) has air 100, its outflow 100, the sum through its 4 faces, is 1.00 times "
+             "its air, and it would end with air 0; of the layer's 6 cells 2 would be refused, 2 would end with 0 or "
+             "less and 0 above 65535; parts of this sweep alone end at the same air: the fluxes themselves must "
+             "diverge less at this cap"},
     {TWO_LAYERS, AIR_9, SWEEP_ROW(0, 9, 0, 0), .refusal = PULDEHO_REFUSAL_ZONAL,
      .text = "cell 2 (layer 0, row 0, column 1) has air 9, its outflow 9 is 1.00 times its air, and it would end with "
              "air 0; of the row's 4 cells 1 would end with 0 or less and 0 above 65535; no count helps, and parts of "
@@ -582,10 +609,10 @@ static const struct fixed fixed[] = {
              "cut into 3 sweeps, all are accepted (part s of 3 of a flux F is floor(s*|F|/3) - floor((s - "
              "1)*|F|/3), with the sign of F)"},
     {SMALL, .air = {1, 9, 9, 9, 9, 9}, SWEEP_LAYER(1, 1, -1, -1, 0, 0, 0, 0), .refusal = PULDEHO_REFUSAL_MERIDIONAL,
-     .text = "cell 0 (south cap of layer 0) has air 1, its outflow 2, the sum through its 4 faces, is 2.00 times "
-             "its air, and it would end with air 1; of the layer's 6 cells 1 would be refused, with more outflow "
-             "than air; every cell of the layer would end within 1 to 65535, but cut into any number of sweeps from "
-             "2 to 64 the fluxes are refused too (more were not tried): smaller fluxes or more air are needed"},
+     .text = "cell 0 (south cap of layer 0) has air 1, its outflow 2, the sum through its 4 faces, is 2.00 times its "
+             "air, and it would end with air 1; of the layer's 6 cells 1 would be refused, with more outflow than air;"
+             " every cell of the layer would end within 1 to 65535, but cut into any number of sweeps from 2 to 64 the"
+             " fluxes are refused too; more sweeps were not tried"},
     {TWO_LAYERS, AIR_9, REMAP_TWO(0, 0, 2097121, 5, 0, 65536), .refusal = PULDEHO_REFUSAL_TABLE,
      .text = "pair 1 of 0 to 2 is (2097121, 5), an a may be 0 to 2097120"},
     {TWO_LAYERS, AIR_9, REMAP_TWO(0, 0, 0, 32768, 0, 65535), .refusal = PULDEHO_REFUSAL_TABLE,
@@ -596,21 +623,22 @@ static const struct fixed fixed[] = {
      .text = "pair 1 of 0 to 2 is (0, 65537), a b may be 0 to 65536"},
     {TWO_LAYERS, .air = {9, 2, 1, 9, 9, 9, 9, 1, 1, 9, 9, 9}, REMAP_TWO(0, 0, 0, 16384, 0, 65536),
      .refusal = PULDEHO_REFUSAL_REMAP,
-     .text = "in the column at row 0, column 1 (air sum P = 2) edge 0 is 0 and edge 1 is 0, so new layer 0 would "
-             "have air 0, it must be 1 to 65535; columns refused: 2 of 6; from pair 0 to pair 1 a changes by 0 and "
-             "b by 16384: a change of b by 32768 or more is sure to give one unit of air (65536/P of b for each "
-             "unit; an a is an amount of air, the same in every column)"},
+     .text = "in the column at row 0, column 1 (air sum P = 2) edge 0 is 0 and edge 1 is 0, so new layer 0 would have "
+             "air 0, it must be 1 to 65535; columns refused: 2 of 6; from pair 0 to pair 1 a changes by 0 and b by "
+             "16384: with a change of b from 32768 to 65536 every column would have 1 to 65535 there (move the b of "
+             "either pair; the pairs beyond must still rise)"},
     {TWO_LAYERS, .air = {65535, 9, 9, 9, 9, 9, 65535, 9, 9, 9, 9, 9}, REMAP_TWO(0, 0, 0, 40000, 0, 65536),
      .refusal = PULDEHO_REFUSAL_REMAP,
      .text = "in the column of the south cap (air sum P = 131070) edge 0 is 0 and edge 1 is 79998, so new layer 0 "
-             "would have air 79998, it must be 1 to 65535; columns refused: 1 of 6; from pair 0 to pair 1 a changes "
-             "by 0 and b by 40000: a layer above 65535 needs smaller changes here, more layers or less air"},
+             "would have air 79998, it must be 1 to 65535; columns refused: 1 of 6; from pair 0 to pair 1 a changes by"
+             " 0 and b by 40000: with a change of b from 3641 to 32767 every column would have 1 to 65535 there (move "
+             "the b of either pair; the pairs beyond must still rise)"},
     {TWO_LAYERS, .air = {90, 90, 90, 90, 90, 40, 90, 90, 90, 90, 90, 40}, REMAP_TWO(0, 0, 100, 0, 0, 65536),
      .refusal = PULDEHO_REFUSAL_REMAP,
      .text = "in the column of the north cap (air sum P = 80) edge 1 is 100 and edge 2 is 80, so new layer 1 would "
              "have air -20, it must be 1 to 65535; columns refused: 1 of 6; from pair 1 to pair 2 a changes by -100 "
-             "and b by 65536: an a is an amount of air, the same in every column; here it falls by P or more, so no "
-             "b serves"},
+             "and b by 65536: no change of b serves every column with this change of a, which is an amount of air and "
+             "the same in every column"},
 };
 
 static void check_fixed(const struct fixed *f)
@@ -661,7 +689,7 @@ static void check_stack(void)
 /* Every refusal and every kind of text was met. */
 static bool all_reached(void)
 {
-    bool all = ends[0] && cuts[0] && uncut[0] && ends[1] && cuts[1] && uncut[1];
+    bool all = changes > 0 && ends[0] && cuts[0] && uncut[0] && ends[1] && cuts[1] && uncut[1];
     for (size_t i = 0; i <= MOST_REFUSAL; i++)
         all = all && reached[i] > 0;
     return all;

@@ -828,7 +828,7 @@ contains
     case (puldeho_refusal_zonal)
       text = "make the sweep as two or more, each with a part of the fluxes; if a cell would end with no" // &
           " air or too much, make the whole step (zonal, meridional, remap) in parts, or make the " // &
-          "meridional sweep first"
+          "meridional sweep or a remap first"
     case (puldeho_refusal_meridional)
       text = "make the sweep as two or more, each with a part of the fluxes; if a cell would end with no" // &
           " air or too much, make the whole step (zonal, meridional, remap) in parts, or make the " // &

@@ -44,18 +44,27 @@ def given(call):
     return ",\n        ".join(lines)
 
 
-def function(call):
-    """The call that users make."""
-    comment = wrapped(described(call), 96, " * ")
-    listed = [world_type(call)] + [declared(p) for p in own(call)]
-    count = "NULL"
+def head(call):
+    """The call that users make, without its body."""
+    parameters = [world_type(call)] + [declared(p) for p in own(call)]
     if call.count:
-        count = call.count.name
-        listed.append("uint32_t *" + count)
-    return (
-        "\n/*\n%s\n */\nPULDEHO_MUST_USE PULDEHO_NOT_NULL(1) %s\nstatic inline enum puldeho_refusal puldeho_%s(\n    %s)\n{\n"
-        "    return puldeho_refusal_and_count(%s%s(\n        %s), %s);\n}\n"
-    ) % (comment, access(own(call), 2), call.name, ",\n    ".join(listed), RAW, call.name, given(call), count)
+        parameters.append("uint32_t *" + call.count.name)
+    return "static inline enum puldeho_refusal puldeho_%s(\n    %s)" % (call.name, ",\n    ".join(parameters))
+
+
+def prototype(call):
+    """The same with its comment and what a compiler may warn of."""
+    lists = ["%s has puldeho_%s_%s_length(grid) numbers." % (p.name, call.name, p.name) for p in own(call) if is_list(p)]
+    comment = wrapped(" ".join([described(call)] + lists), 96, " * ")
+    marks = "PULDEHO_MUST_USE PULDEHO_NOT_NULL(1) " + access(own(call), 2)
+    return "\n/*\n%s\n */\n%s\n%s;\n" % (comment, marks.rstrip(), head(call))
+
+
+def function(call):
+    """The same with its body."""
+    count = call.count.name if call.count else "NULL"
+    return "\n%s\n{\n    return puldeho_refusal_and_count(%s%s(\n        %s), %s);\n}\n" % (
+        head(call), RAW, call.name, given(call), count)
 
 
 def why(call):
@@ -107,7 +116,8 @@ def header(tables):
         "SETS": "\n".join("    world.{0} = {0};\n    world.{0}_length = {0}_length;".format(l.name) for l in lists),
         "LENGTHS": "".join(map(length, tables.lists)),
         "RAWS": "\n".join(map(raw, tables.calls)),
-        "CALLS": "".join(map(function, tables.calls)),
+        "CALLS": "".join(map(prototype, tables.calls)),
+        "BODIES": "".join(map(function, tables.calls)),
         "WHYS": "\n".join(map(why, tables.calls)),
     })
 

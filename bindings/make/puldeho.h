@@ -21,19 +21,20 @@
  * that pointer may be null.
  *
  * What is assumed of pointers:
- * - each goes with the length after it, in numbers, not bytes: so many can be read there, or written;
+ * - each goes with the length after it, in numbers, not bytes: so many can be read there, or written. A
+ *   length that is not the grid's is refused with 2, before anything is read there;
  * - it is not null and is aligned to 4 bytes, unless the length is 0;
  * - a list that is written shares no memory with another list of the same call;
  * - nobody else writes a lent list during the call, or reads one that is written.
- * Nothing is assumed of the numbers or of the lengths: any are answered. The library keeps nothing
+ * Nothing is assumed of the numbers: any are answered. The library keeps nothing
  * between calls, and each call tests the whole world before it does anything. Several threads may call
  * it at once, each with a world of its own; a list that is only read may be shared. Between calls you
  * may read the lists. If you write into them, load again: what is promised of a run counts from there.
  *
- * What is assumed of the stack: that it has room for the call. The deepest stack in bytes, read from
- * the object code by tools/stack, return address and libc's functions included, arguments not:
+ * What is assumed of the stack: that it has room for the call, PULDEHO_STACK bytes or, of the proved
+ * function under each call (return address and libc's functions included, arguments not):
 @STACK@
- * The functions puldeho_why_NAME, which are compiled by gcc, want at most PULDEHO_WHY_STACK bytes.
+ * A function puldeho_why_NAME wants at most PULDEHO_WHY_STACK bytes.
  */
 #ifndef PULDEHO_H
 #define PULDEHO_H
@@ -164,20 +165,7 @@ static inline struct puldeho_world puldeho_world_over(
     return world;
 }
 
-/*
- * The proved functions. Users call those further down, which are plain C over these. Each returns one
- * number, refusal * 2^32 + count: kept in an int, it is 0 for many a refused call.
- */
-@RAWS@
-/* Takes apart what a proved function returned. */
-static inline enum puldeho_refusal puldeho_refusal_and_count(uint64_t returned, uint32_t *count)
-{
-    if (count != NULL)
-        *count = (uint32_t)returned;
-    return (enum puldeho_refusal)(returned >> 32);
-}
-
-/* The calls. */
+/* The calls. A refused one changes nothing; puldeho_why_NAME, below, says more about why. */
 @CALLS@
 /*
  * Why a call is refused: for each call a function that takes the same arguments, writes into `text`
@@ -189,6 +177,19 @@ static inline enum puldeho_refusal puldeho_refusal_and_count(uint64_t returned, 
 #define PULDEHO_WHY_SIZE 1024
 
 @WHYS@
+/*
+ * From here on: how the calls are made. The proved functions return one number, refusal * 2^32 + count,
+ * which kept in an int is 0 for many a refused call; the calls above take it apart.
+ */
+@RAWS@
+/* Takes apart what a proved function returned. */
+static inline enum puldeho_refusal puldeho_refusal_and_count(uint64_t returned, uint32_t *count)
+{
+    if (count != NULL)
+        *count = (uint32_t)returned;
+    return (enum puldeho_refusal)(returned >> 32);
+}
+@BODIES@
 #ifdef __cplusplus
 }
 #endif

@@ -10,7 +10,7 @@ WHYS = 5
 # A run of more records than MOST is shown in part: so many first and last ones, and each refused one that has its why.
 MOST, FIRST, LAST = 1000, 100, 20
 
-CHANGES = (("sweeps and remaps", ("zonal", "meridional", "remap")), ("emissions and withdrawals", ("emission", "withdrawal")))
+CHANGES = (("sweeps", ("zonal", "meridional")), ("remaps", ("remap",)), ("emissions and withdrawals", ("emission", "withdrawal")))
 
 
 def number_of(told):

@@ -42,6 +42,9 @@ def flat(value):
 
 def owner(name, value, kind):
     """The object whose memory is lent: the value itself if it has the buffer protocol, else an array with its numbers."""
+    mask = getattr(value, "mask", None)
+    if mask is not None and mask.any():
+        raise ValueError("%s: has masked entries, whose numbers mean nothing" % name)
     try:
         memoryview(value)
         return value
@@ -59,8 +62,9 @@ def copied(value):
 
 
 def test_shape(name, view, shape):
-    """Fails at an array of several dimensions, as many numbers as wanted, in another order."""
-    if view.ndim > 1 and view.nbytes // 4 == math.prod(shape) and view.shape != shape:
+    """Fails at an array of several dimensions, as many numbers as wanted, in another order. Dimensions of 1 do not count."""
+    has, wants = ([size for size in one if size != 1] for one in (view.shape, shape))
+    if view.ndim > 1 and view.nbytes // 4 == math.prod(shape) and has != wants:
         raise ValueError("%s: has the shape %s, and wants %s, or one dimension" % (name, view.shape, shape))
 
 

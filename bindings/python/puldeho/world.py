@@ -89,6 +89,13 @@ class World(Calls):
         second._lend(self.grid, **{name: lists.copied(value) for name, value in self._kept.items()})
         return second
 
+    def restore(self, kept):
+        """Takes back the numbers of a copy, in place."""
+        if kept.grid != self.grid:
+            raise ValueError("the kept world has another grid: %r" % (kept.grid,))
+        for name, one in self._lists.items():
+            ctypes.memmove(one.address, kept._lists[name].address, 4 * one.length)
+
     def __copy__(self):
         return self.copy()
 

@@ -47,6 +47,22 @@ class Arrays(unittest.TestCase):
         self.assertEqual((second.tracers[1, 0, 5], self.tracers[1, 0, 5]), (600, 0))
         self.assertEqual((second.total(1), self.world.total(1)), (600, 0))
 
+    def test_restore(self):
+        kept = self.world.copy()
+        for _ in range(2):
+            self.world.emission(1, 5, 600)
+            self.world.restore(kept)
+            self.assertEqual((self.world.total(1), self.tracers[1, 0, 5]), (0, 0))
+        other = puldeho.World(GRID._replace(n=1), self.air.copy(), self.tracers[0].copy())
+        with self.assertRaisesRegex(ValueError, "another grid"):
+            self.world.restore(other)
+
+    def test_masked(self):
+        fluxes = numpy.ma.masked_array(numpy.zeros(GRID.w, dtype=numpy.int32), [True] + [False] * 5)
+        with self.assertRaisesRegex(ValueError, "fluxes: has masked entries"):
+            self.world.zonal(0, 0, fluxes)
+        self.assertEqual(self.world.zonal(0, 0, numpy.ma.masked_array(numpy.zeros(GRID.w, dtype=numpy.int32))), 1)
+
     def test_other_shapes(self):
         with self.assertRaisesRegex(ValueError, r"air: has the shape \(20, 2\), and wants \(2, 20\), or one dimension"):
             puldeho.World(GRID, self.air.T.copy(), self.tracers)
