@@ -347,6 +347,7 @@ module puldeho
 contains
 
   ! Takes copies of the lists as the world from now on, if the load is accepted; else the world stays as it was.
+  ! The lists may be the world's own: after you wrote into them, load them again.
   ! Refusals, in order: 1 2 3 4.
   subroutine world_load(world, grid, air, tracers, refusal)
     class(puldeho_world), intent(inout) :: world
@@ -354,18 +355,29 @@ contains
     integer(c_int32_t), intent(in) :: air(:)
     integer(c_int32_t), intent(in) :: tracers(:)
     integer(c_int32_t), intent(out) :: refusal
+    type(puldeho_world) :: loaded
 
+    call copy_lists(loaded, grid, air, tracers)
     refusal = refusal_of(puldeho_raw_load( &
-        grid%w, grid%r, grid%k, grid%n, air, size(air, kind=c_size_t), tracers, size(tracers, kind=c_size_t)))
+        loaded%grid%w, loaded%grid%r, loaded%grid%k, loaded%grid%n, loaded%air, size(loaded%air, &
+        kind=c_size_t), loaded%tracers, size(loaded%tracers, kind=c_size_t)))
     if (refusal /= puldeho_accepted) return
-    world%grid = grid
-    if (allocated(world%air)) deallocate (world%air)
-    allocate (world%air(0:size(air) - 1))
-    world%air(:) = air
-    if (allocated(world%tracers)) deallocate (world%tracers)
-    allocate (world%tracers(0:size(tracers) - 1))
-    world%tracers(:) = tracers
+    world%grid = loaded%grid
+    call move_alloc(loaded%air, world%air)
+    call move_alloc(loaded%tracers, world%tracers)
   end subroutine world_load
+
+  ! An empty world gets the grid and copies of the lists, untested.
+  subroutine copy_lists(world, grid, air, tracers)
+    type(puldeho_world), intent(inout) :: world
+    type(puldeho_grid), intent(in) :: grid
+    integer(c_int32_t), intent(in) :: air(:)
+    integer(c_int32_t), intent(in) :: tracers(:)
+
+    world%grid = grid
+    allocate (world%air(0:size(air) - 1), source=air)
+    allocate (world%tracers(0:size(tracers) - 1), source=tracers)
+  end subroutine copy_lists
 
   ! Adds amount to one cell of one tracer. Cells are numbered over all layers. Refusals, in order: 1 2 3 4 5
   ! 6.
@@ -614,13 +626,7 @@ contains
     character(kind=c_char) :: words(why_size)
     integer(c_int) :: refusal
 
-    world%grid = grid
-    if (allocated(world%air)) deallocate (world%air)
-    allocate (world%air(0:size(air) - 1))
-    world%air(:) = air
-    if (allocated(world%tracers)) deallocate (world%tracers)
-    allocate (world%tracers(0:size(tracers) - 1))
-    world%tracers(:) = tracers
+    call copy_lists(world, grid, air, tracers)
     refusal = c_why_load(world_of(world), words, int(why_size, c_size_t))
     text = text_of(words)
     if (refusal == puldeho_accepted) text = "the call would be accepted"

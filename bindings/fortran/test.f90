@@ -39,6 +39,11 @@ program test
   call world%zonal(0, 0, [0, 50, 0, 0], refusal)
   call gives(puldeho_accepted)
   world = kept
+  world%tracers(3) = 150
+  call world%load(world%grid, world%air, world%tracers, refusal)
+  call gives(puldeho_accepted)
+  if (any(world%tracers /= [0, 0, 100, 150, 100, 0]) .or. any(world%air /= air)) error stop "loaded again, the world differs"
+  world = kept
   if (any(world%tracers /= tracers) .or. lbound(world%air, 1) /= 0) error stop "the kept world differs"
   print "(a)", "the Fortran module: as it should be"
 

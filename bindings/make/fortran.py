@@ -74,10 +74,10 @@ def why_method(call):
 
 
 def given(call, world):
-    """The arguments of the proved function, with the names of the world's lists."""
-    found = ["%s%%%s" % (world + "%grid" if world else "grid", letter) for letter in GRID]
+    """The arguments of the proved function, those of the world from a world of some name."""
+    found = ["%s%%grid%%%s" % (world, letter) for letter in GRID]
     for p in call.parameters:
-        name = "%s%%%s" % (world, p.name) if p.name in WORLD and world else p.name
+        name = "%s%%%s" % (world, p.name) if p.name in WORLD else p.name
         found += [name, "size(%s, kind=c_size_t)" % name] if is_list(p) else [name]
     return listed(found, "        ")
 
@@ -152,12 +152,10 @@ def module(tables):
         "WHYS": "".join(map(why_method, later)),
         "RAWS": "\n".join(map(raw, tables.calls)),
         "LOADED": ", ".join(l.name for l in lists),
-        "GIVEN": given(load, ""),
+        "GIVEN": given(load, "loaded"),
         "DECLARED": "".join("    integer(c_int32_t), intent(in) :: %s(:)\n" % l.name for l in lists),
-        "KEPT": "".join(
-            "    if (allocated(world%{0})) deallocate (world%{0})\n    allocate (world%{0}(0:size({0}) - 1))\n    world%{0}(:) = {0}\n".format(l.name)
-            for l in lists
-        ),
+        "COPIED": "".join("    allocate (world%{0}(0:size({0}) - 1), source={0})\n".format(l.name) for l in lists),
+        "KEPT": "".join("    call move_alloc(loaded%{0}, world%{0})\n".format(l.name) for l in lists),
         "EMPTY": "".join("    if (.not. allocated(world%{0})) allocate (world%{0}(0))\n".format(l.name) for l in lists),
         "CALLS": "".join(map(method, later)),
         "LENGTHS": "".join(map(length, tables.lists)),

@@ -63,17 +63,28 @@ module puldeho
 contains
 
   ! Takes copies of the lists as the world from now on, if the load is accepted; else the world stays as it was.
+  ! The lists may be the world's own: after you wrote into them, load them again.
   ! Refusals, in order: 1 2 3 4.
   subroutine world_load(world, grid, @LOADED@, refusal)
     class(puldeho_world), intent(inout) :: world
     type(puldeho_grid), intent(in) :: grid
 @DECLARED@    integer(c_int32_t), intent(out) :: refusal
+    type(puldeho_world) :: loaded
 
+    call copy_lists(loaded, grid, @LOADED@)
     refusal = refusal_of(puldeho_raw_load( &
         @GIVEN@))
     if (refusal /= puldeho_accepted) return
-    world%grid = grid
+    world%grid = loaded%grid
 @KEPT@  end subroutine world_load
+
+  ! An empty world gets the grid and copies of the lists, untested.
+  subroutine copy_lists(world, grid, @LOADED@)
+    type(puldeho_world), intent(inout) :: world
+    type(puldeho_grid), intent(in) :: grid
+@DECLARED@
+    world%grid = grid
+@COPIED@  end subroutine copy_lists
 @CALLS@@WHYS@
   ! Why a load of these lists is refused, in words.
   subroutine puldeho_why_load(grid, @LOADED@, text)
@@ -83,8 +94,8 @@ contains
     character(kind=c_char) :: words(why_size)
     integer(c_int) :: refusal
 
-    world%grid = grid
-@KEPT@    refusal = c_why_load(world_of(world), words, int(why_size, c_size_t))
+    call copy_lists(world, grid, @LOADED@)
+    refusal = c_why_load(world_of(world), words, int(why_size, c_size_t))
     text = text_of(words)
     if (refusal == puldeho_accepted) text = "the call would be accepted"
   end subroutine puldeho_why_load
