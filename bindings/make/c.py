@@ -1,5 +1,6 @@
 """The C header, bindings/puldeho.h, and the calls of the C reader of scripts, bindings/c/calls.c."""
-from tables import GRID, MADE, RAW, WORLD, constant, described, filled, in_terms, is_list, is_written, length_name, length_text, own, wrapped
+from tables import GRID, MADE, OWN, RAW, WORLD, constant, described, filled, in_terms, is_list, is_written, largest, length_name, length_text, own
+from tables import world_lists, wrapped
 
 TYPES = {"u32": "uint32_t ", "&[u32]": "const uint32_t *", "&mut [u32]": "uint32_t *", "&[i32]": "const int32_t *"}
 TAKEN = {"u32": "take_u32", "&[u32]": "take_u32s", "&[i32]": "take_i32s"}
@@ -37,7 +38,9 @@ def given(call):
     """The arguments of the proved function, from the world and the call's own."""
     lines = [", ".join("world->grid." + letter for letter in GRID)]
     for p in call.parameters:
-        if p.name in WORLD:
+        if p.name in OWN:
+            lines.append("world->{0} != NULL ? world->{0} : world->own_{0}, puldeho_lent_{0}_length(world)".format(p.name))
+        elif p.name in WORLD:
             lines.append("world->{0}, world->{0}_length".format(p.name))
         else:
             lines.append("{0}, {0}_length".format(p.name) if is_list(p) else p.name)
@@ -83,6 +86,30 @@ def length(lent):
         comment, length_name(lent), terms)
 
 
+def field(lent):
+    """The fields of a list in the world's struct."""
+    own = "; null and 0: the world's own, below" if lent.kind == "own" else ""
+    return "    /* {0}: {1} numbers{2} */\n    uint32_t *{3};\n    size_t {3}_length;".format(lent.what, lent.length.upper(), own, lent.name)
+
+
+def own_field(lent, tables):
+    """The world's own list, at the end of the struct, so that a copy of the struct has one too."""
+    return "\n    uint32_t own_%s[%d];" % (lent.name, largest(lent, tables))
+
+
+def own_list(lent):
+    """The functions that find a list that was set or is the world's own."""
+    return (
+        "\n/* How many numbers of {0} are lent: those of the list that was set, or of the world's own. */\n"
+        "static inline size_t puldeho_lent_{0}_length(const struct puldeho_world *world)\n{{\n"
+        "    size_t wanted = puldeho_{0}_length(world->grid), most = sizeof world->own_{0} / sizeof *world->own_{0};\n"
+        "    return world->{0} != NULL ? world->{0}_length : wanted < most ? wanted : most;\n}}\n"
+        "\n/* The world's {0}, to be read: {1}. */\n"
+        "static inline const uint32_t *puldeho_lent_{0}(const struct puldeho_world *world)\n{{\n"
+        "    return world->{0} != NULL ? world->{0} : world->own_{0};\n}}\n"
+    ).format(lent.name, lent.what)
+
+
 def texts(refusals, field):
     """The cases of a switch that gives a text for each refusal."""
     return "\n".join('    case PULDEHO_REFUSAL_%s:\n        return "%s";' % (constant(r.name), getattr(r, field)) for r in refusals)
@@ -97,7 +124,7 @@ def stack(tables):
 def header(tables):
     """bindings/puldeho.h."""
     major, minor, patch = tables.version.split(".")
-    lists = [lent for lent in tables.lists if lent.owner == "world"]
+    lists, asked, owned = world_lists(tables)
     return filled("puldeho.h", {
         "MADE": MADE,
         "VERSION": tables.version,
@@ -110,10 +137,11 @@ def header(tables):
         "REFUSALS": ",\n".join("    /* %s */\n    PULDEHO_REFUSAL_%s = %d" % (r.condition, constant(r.name), r.number) for r in tables.refusals),
         "CONDITIONS": texts(tables.refusals, "condition"),
         "REMEDIES": texts(tables.refusals, "remedy"),
-        "FIELDS": "\n".join("    /* %s: %s numbers */\n    uint32_t *%s;\n    size_t %s_length;" % (l.what, l.length.upper(), l.name, l.name) for l in lists),
-        "LISTS": ",\n    ".join("uint32_t *{0}, size_t {0}_length".format(l.name) for l in lists),
-        "WORLDLISTS": " ".join("PULDEHO_LIST(write_only, %d, %d)" % (2 + 2 * i, 3 + 2 * i) for i in range(len(lists))),
-        "SETS": "\n".join("    world.{0} = {0};\n    world.{0}_length = {0}_length;".format(l.name) for l in lists),
+        "FIELDS": "\n".join(map(field, lists)) + "".join(own_field(l, tables) for l in owned),
+        "LISTS": ",\n    ".join("uint32_t *{0}, size_t {0}_length".format(l.name) for l in asked),
+        "WORLDLISTS": " ".join("PULDEHO_LIST(write_only, %d, %d)" % (2 + 2 * i, 3 + 2 * i) for i in range(len(asked))),
+        "SETS": "\n".join("    world.{0} = {0};\n    world.{0}_length = {0}_length;".format(l.name) for l in asked),
+        "OWNLISTS": "".join(map(own_list, owned)),
         "LENGTHS": "".join(map(length, tables.lists)),
         "RAWS": "\n".join(map(raw, tables.calls)),
         "CALLS": "".join(map(prototype, tables.calls)),

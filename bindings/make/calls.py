@@ -25,6 +25,8 @@ REMEDIES = {
 
 # The world's lists, in the order of the C struct.
 WORLD = (@WORLD@)
+# Those among them that each world has of its own, with their lengths on the largest grid.
+OWN = {@OWN@}
 
 # The parameters of each proved function after the grid's four numbers, with their types in the library.
 SIGNATURES = {
@@ -46,4 +48,4 @@ class Lengths:
 
 class Calls:
     """The calls, each over the world's lists."""
-@METHODS@
+@READS@@METHODS@

@@ -19,7 +19,7 @@ pub struct World {
 impl World {
     /// Takes the lists as the world from now on, if the load is accepted.
     pub fn load(grid: Grid, @GIVEN@) -> Result<World, Refusal> {
-        let world = World { grid, @MADEOF@ };
+        let @MUT@world = World { grid, @MADEOF@ };
         raw::load(grid, @LENT@)?;
         Ok(world)
     }

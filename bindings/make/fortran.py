@@ -1,7 +1,8 @@
 """The Fortran module, bindings/fortran/puldeho.f90."""
 import textwrap
 
-from tables import GRID, MADE, RAW, WORLD, constant, filled, in_terms, is_list, is_written, length_name, length_text, own, wrapped
+from tables import GRID, MADE, RAW, WORLD, constant, filled, in_terms, is_list, is_written, largest, length_name, length_text, own, world_lists
+from tables import wrapped
 
 
 def listed(names, indent):
@@ -125,7 +126,7 @@ def texts(tables, field):
 
 def module(tables):
     """bindings/fortran/puldeho.f90."""
-    lists = [lent for lent in tables.lists if lent.owner == "world"]
+    lists, asked, owned = world_lists(tables)
     load = next(call for call in tables.calls if call.name == "load")
     later = [call for call in tables.calls if call.name != "load"]
     return filled("puldeho.f90", {
@@ -144,17 +145,21 @@ def module(tables):
         "FIELDS": "".join("    ! %s: %s numbers, the first has the index 0\n    integer(c_int32_t), allocatable :: %s(:)\n" % (l.what, l.length.upper(), l.name) for l in lists),
         "METHODS": "".join("    procedure :: %s => world_%s\n" % (call.name, call.name) for call in tables.calls)
         + "".join("    procedure :: why_%s => world_why_%s\n" % (call.name, call.name) for call in later),
-        "CFIELDS": "".join("    type(c_ptr) :: {0} = c_null_ptr\n    integer(c_size_t) :: {0}_length = 0\n".format(l.name) for l in lists),
+        "CFIELDS": "".join("    type(c_ptr) :: {0} = c_null_ptr\n    integer(c_size_t) :: {0}_length = 0\n".format(l.name) for l in lists)
+        + "".join("    integer(c_int32_t) :: own_%s(%d) = 0\n" % (l.name, largest(l, tables)) for l in owned),
         "LENT": "".join(
             "    lent%{0} = c_loc(world%{0})\n    lent%{0}_length = size(world%{0}, kind=c_size_t)\n".format(l.name) for l in lists
         ),
         "WHYINTERFACES": "\n".join(map(why_interface, tables.calls)),
         "WHYS": "".join(map(why_method, later)),
         "RAWS": "\n".join(map(raw, tables.calls)),
-        "LOADED": ", ".join(l.name for l in lists),
+        "LOADED": ", ".join(l.name for l in asked),
         "GIVEN": given(load, "loaded"),
-        "DECLARED": "".join("    integer(c_int32_t), intent(in) :: %s(:)\n" % l.name for l in lists),
-        "COPIED": "".join("    allocate (world%{0}(0:size({0}) - 1), source={0})\n".format(l.name) for l in lists),
+        "DECLARED": "".join("    integer(c_int32_t), intent(in) :: %s(:)\n" % l.name for l in asked),
+        "COPIED": "".join("    allocate (world%{0}(0:size({0}) - 1), source={0})\n".format(l.name) for l in asked)
+        + "".join(
+            "    allocate (world%%%s(0:min(puldeho_%s(grid), %d) - 1), source=0)\n" % (l.name, length_name(l), largest(l, tables)) for l in owned
+        ),
         "KEPT": "".join("    call move_alloc(loaded%{0}, world%{0})\n".format(l.name) for l in lists),
         "EMPTY": "".join("    if (.not. allocated(world%{0})) allocate (world%{0}(0))\n".format(l.name) for l in lists),
         "CALLS": "".join(map(method, later)),

@@ -189,7 +189,7 @@ static inline enum puldeho_refusal puldeho_refusal_and_count(uint64_t returned, 
         *count = (uint32_t)returned;
     return (enum puldeho_refusal)(returned >> 32);
 }
-@BODIES@
+@OWNLISTS@@BODIES@
 #ifdef __cplusplus
 }
 #endif

@@ -1,5 +1,5 @@
 """The Python package's made part, bindings/python/puldeho/calls.py."""
-from tables import MADE, WORLD, constant, filled, full_name, in_terms, length_name, length_text, own, wrapped
+from tables import MADE, WORLD, constant, filled, full_name, in_terms, largest, length_name, length_text, own, world_lists, wrapped
 
 
 def table(tables, field):
@@ -38,9 +38,16 @@ def method(call):
         "return " + made if call.count else made)
 
 
+def reading(lent):
+    """The property that shows a list which the world has of its own."""
+    return '\n    @property\n    def %s(self):\n%s\n        return self._kept["%s"]\n' % (
+        lent.name, wrapped('"""The world\'s own: %s. Read it only."""' % lent.what, 110, "        "), lent.name)
+
+
 def calls(tables):
     """bindings/python/puldeho/calls.py."""
     major, minor, _ = tables.version.split(".")
+    owned = world_lists(tables)[2]
     return filled("calls.py", {
         "MADE": MADE,
         "VERSION": tables.version,
@@ -51,6 +58,8 @@ def calls(tables):
         "CONDITIONS": table(tables, "condition"),
         "REMEDIES": table(tables, "remedy"),
         "WORLD": ", ".join('"%s"' % name for name in WORLD),
+        "OWN": ", ".join('"%s": %d' % (l.name, largest(l, tables)) for l in owned),
+        "READS": "".join(map(reading, owned)),
         "SIGNATURES": "".join(map(signature, tables.calls)),
         "LENGTHS": "".join(length(lent) + shape(lent) for lent in tables.lists),
         "SHAPES": "".join('    ("%s", "%s"): "%s_shape",\n' % (l.owner, l.name, full_name(l)) for l in tables.lists),

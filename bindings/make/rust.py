@@ -1,5 +1,5 @@
 """The Rust wrapper's made part, bindings/rust/src/calls.rs, and the comparison's calls, compare/src/library.rs."""
-from tables import GRID, MADE, RAW, WORLD, filled, in_terms, is_list, is_written, length_name, length_text, own
+from tables import GRID, MADE, RAW, WORLD, filled, in_terms, is_list, is_written, largest, length_name, length_text, own, world_lists
 
 POINTERS = {"&[u32]": ("*const u32", "as_ptr"), "&mut [u32]": ("*mut u32", "as_mut_ptr"), "&[i32]": ("*const i32", "as_ptr")}
 
@@ -72,7 +72,10 @@ def method(call):
 
 def wrapper(tables):
     """bindings/rust/src/calls.rs."""
-    lists = [lent for lent in tables.lists if lent.owner == "world"]
+    lists, asked, owned = world_lists(tables)
+    load = next(call for call in tables.calls if call.name == "load")
+    made = ["%s: %s.into()" % (l.name, l.name) for l in asked]
+    made += ["%s: vec![0; grid.%s().min(%d)]" % (l.name, length_name(l), largest(l, tables)) for l in owned]
     return filled("calls.rs", {
         "MADE": MADE,
         "VERSION": tables.version,
@@ -80,9 +83,10 @@ def wrapper(tables):
         "REFUSALS": refusals(tables),
         "LENGTHS": "".join(map(length, tables.lists)),
         "FIELDS": "".join("    %s: Vec<u32>,\n" % l.name for l in lists),
-        "GIVEN": ", ".join("%s: impl Into<Vec<u32>>" % l.name for l in lists),
-        "MADEOF": ", ".join("%s: %s.into()" % (l.name, l.name) for l in lists),
-        "LENT": ", ".join("&world." + l.name for l in lists),
+        "GIVEN": ", ".join("%s: impl Into<Vec<u32>>" % l.name for l in asked),
+        "MADEOF": ", ".join(made),
+        "MUT": "mut " if any(map(is_written, load.parameters)) else "",
+        "LENT": ", ".join(("&mut world." if is_written(p) else "&world.") + p.name for p in load.parameters),
         "READ": "".join(
             "\n    /// %s.\n    pub fn %s(&self) -> &[u32] {\n        &self.%s\n    }\n" % (l.what[0].upper() + l.what[1:], l.name, l.name)
             for l in lists

@@ -7,13 +7,17 @@ from collections import namedtuple
 Parameter = namedtuple("Parameter", "name type")
 Count = namedtuple("Count", "name text")
 Call = namedtuple("Call", "name parameters world refusals count does")
-Lent = namedtuple("Lent", "owner name shape length what")
+Lent = namedtuple("Lent", "owner kind name shape length what")
 Refusal = namedtuple("Refusal", "number name condition cause remedy")
 Limit = namedtuple("Limit", "name number what")
 Tables = namedtuple("Tables", "calls lists limits refusals programs stack version")
 
 GRID = ("w", "r", "k", "n")
+# The world's lists, and those among them that a user need not know of: each world has its own, which begins as zeros.
 WORLD = ("air", "tracers")
+OWN = ()
+# The limit of bindings/limits.txt that is the largest of each of the grid's numbers.
+MOST = {"w": "MOST_COLUMNS", "r": "MOST_ROWS", "k": "MOST_LAYERS", "n": "MOST_TRACERS"}
 TYPES = ("u32", "&[u32]", "&mut [u32]", "&[i32]")
 MADE = "Made by tools/bindings from the tables of bindings/: not to be edited."
 RAW = "puldeho_raw_"
@@ -69,15 +73,24 @@ def read_calls():
 def read_lists(calls):
     """The table of the lists: the world's, and each call's own."""
     lists = []
-    for owner, name, shape, what in rows("bindings/lists.txt", 4):
+    for whose, name, shape, what in rows("bindings/lists.txt", 4):
+        owner, _, kind = whose.partition(" ")
         numbers = shape.split(", ")
         length = "*".join("(%s)" % number if " " in number and len(numbers) > 1 else number for number in numbers)
-        lists.append(Lent(owner, name, numbers, length, what))
+        lists.append(Lent(owner, kind, name, numbers, length, what))
     wanted = [("world", name) for name in WORLD]
     wanted += [(call.name, p.name) for call in calls for p in own(call) if is_list(p)]
     if [(lent.owner, lent.name) for lent in lists] != wanted:
         sys.exit("bindings/lists.txt: not the lists of bindings/calls.txt, in their order")
+    if [lent.name for lent in lists if lent.kind == "own"] != list(OWN) or any(lent.kind not in ("", "own") for lent in lists):
+        sys.exit("bindings/lists.txt: not the world's own lists of bindings/make/tables.py")
     return lists
+
+
+def world_lists(tables):
+    """The world's lists: all, those that a user gives, and the world's own."""
+    lists = [lent for lent in tables.lists if lent.owner == "world"]
+    return lists, [lent for lent in lists if lent.kind != "own"], [lent for lent in lists if lent.kind == "own"]
 
 
 def full_name(lent):
@@ -172,6 +185,13 @@ def in_terms(length, letter, cells):
     """A length with the grid's letters as a language writes them, such as grid.w, and `cells` for c."""
     written = lambda found: cells if found.group(0) == "c" else letter % found.group(0)
     return re.sub(r"\b[wrknc]\b", written, length)
+
+
+def largest(lent, tables):
+    """A list's length on the largest grid."""
+    numbers = {limit.name: limit.number for limit in tables.limits}
+    most = {letter: numbers[MOST[letter]] for letter in GRID}
+    return eval(lent.length, {}, dict(most, c=2 + most["r"] * most["w"]))
 
 
 def length_text(lent):

@@ -83,6 +83,8 @@ REMEDIES = {
 
 # The world's lists, in the order of the C struct.
 WORLD = ("air", "tracers")
+# Those among them that each world has of its own, with their lengths on the largest grid.
+OWN = {}
 
 # The parameters of each proved function after the grid's four numbers, with their types in the library.
 SIGNATURES = {

@@ -3,7 +3,7 @@ import ctypes
 import functools
 import os
 
-from .calls import SIGNATURES, SONAME, WORLD
+from .calls import OWN, SIGNATURES, SONAME, WORLD
 
 HERE = os.path.dirname(os.path.abspath(__file__))
 
@@ -13,7 +13,7 @@ class World(ctypes.Structure):
 
     _fields_ = [(letter, ctypes.c_uint32) for letter in "wrkn"] + [
         field for name in WORLD for field in ((name, ctypes.c_void_p), (name + "_length", ctypes.c_size_t))
-    ]
+    ] + [("own_" + name, ctypes.c_uint32 * most) for name, most in OWN.items()]
 
 
 def places():

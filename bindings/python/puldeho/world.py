@@ -1,9 +1,10 @@
 """The grid, the world over lent lists, and the exception of a refused call."""
+import array
 import collections
 import ctypes
 
 from . import lists, shared
-from .calls import CONDITIONS, REMEDIES, SHAPES, SIGNATURES, WORLD, Calls, Lengths, Refusal
+from .calls import CONDITIONS, OWN, REMEDIES, SHAPES, SIGNATURES, WORLD, Calls, Lengths, Refusal
 
 # PULDEHO_WHY_SIZE of the header.
 WHY_SIZE = 1024
@@ -71,7 +72,9 @@ class World(Calls):
     """
 
     def __init__(self, grid, air, tracers):
-        self._lend(Grid(*grid), air=air, tracers=tracers)
+        grid = Grid(*grid)
+        own = {name: array.array("I", bytes(4 * min(getattr(grid, name + "_length"), most))) for name, most in OWN.items()}
+        self._lend(grid, air=air, tracers=tracers, **own)
         self._make("load")
 
     def _lend(self, grid, **given):
@@ -103,7 +106,12 @@ class World(Calls):
         return self.copy()
 
     def __reduce__(self):
-        return World, (tuple(self.grid), self.air, self.tracers)
+        own = {name: self._kept[name] for name in OWN}
+        return (World, (tuple(self.grid), self.air, self.tracers)) + ((own,) if own else ())
+
+    def __setstate__(self, own):
+        for name, numbers in own.items():
+            self._kept[name][:] = numbers
 
     @property
     def grid(self):
