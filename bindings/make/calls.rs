@@ -11,6 +11,7 @@ pub const VERSION: &str = "@VERSION@";
 impl Grid {@LENGTHS@}
 
 /// A world that owns its lists, made by an accepted load, so that a later call is refused for its own arguments only.
+/// Two are equal if all that they have is equal, also what a later version adds; to compare amounts, compare the lists.
 #[derive(Clone, Debug, PartialEq, Eq)]
 pub struct World {
     grid: Grid,

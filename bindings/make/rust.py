@@ -16,12 +16,12 @@ def refusals(tables):
         "/// Why a call was refused. It then changed nothing. `refusal as u32` is its number.\n"
         "#[derive(Clone, Copy, Debug, PartialEq, Eq)]\n#[non_exhaustive]\npub enum Refusal {\n%s}\n\n"
         "impl Refusal {\n    /// Every refusal, in the order of their numbers.\n"
-        "    pub const ALL: [Refusal; %d] = [\n%s    ];\n\n"
+        "    pub const ALL: &'static [Refusal] = &[\n%s    ];\n\n"
         "    /// The refusal's condition, in words.\n    pub fn condition(self) -> &'static str {\n"
         "        match self {\n%s        }\n    }\n\n"
         "    /// What to do about it, in words.\n    pub fn remedy(self) -> &'static str {\n"
         "        match self {\n%s        }\n    }\n}\n"
-    ) % (cases, len(tables.refusals), names, texts("condition"), texts("remedy"))
+    ) % (cases, names, texts("condition"), texts("remedy"))
 
 
 def length(lent):

@@ -60,7 +60,7 @@ pub enum Refusal {
 
 impl Refusal {
     /// Every refusal, in the order of their numbers.
-    pub const ALL: [Refusal; 12] = [
+    pub const ALL: &'static [Refusal] = &[
         Refusal::GridRange,
         Refusal::Lengths,
         Refusal::AirRange,
@@ -141,6 +141,7 @@ impl Grid {
 }
 
 /// A world that owns its lists, made by an accepted load, so that a later call is refused for its own arguments only.
+/// Two are equal if all that they have is equal, also what a later version adds; to compare amounts, compare the lists.
 #[derive(Clone, Debug, PartialEq, Eq)]
 pub struct World {
     grid: Grid,

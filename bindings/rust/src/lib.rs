@@ -66,7 +66,7 @@ impl std::error::Error for Refusal {}
 fn outcome(returned: u64) -> Result<u32, Refusal> {
     let refused = |refusal: &Refusal| (*refusal as u64) << 32 == returned;
     u32::try_from(returned).map_err(|_| {
-        let refusal = Refusal::ALL.into_iter().find(refused);
+        let refusal = Refusal::ALL.iter().copied().find(refused);
         refusal.expect("the library answers 0, or a refusal's number with count 0")
     })
 }

@@ -185,10 +185,8 @@ fn a_refusal_says_its_number_and_condition() {
         refusal.to_string(),
         "refusal 1: W, R, K or N is outside its range; give W from 4 to 72, R from 1 to 44, K from 1 to 32 and N from 1 to 8, in this order"
     );
-    assert_eq!(
-        Refusal::ALL.map(|r| r as u32),
-        std::array::from_fn(|i| i as u32 + 1)
-    );
+    let numbers: Vec<u32> = Refusal::ALL.iter().map(|&r| r as u32).collect();
+    assert_eq!(numbers, (1..=12).collect::<Vec<u32>>());
 }
 
 /// On the greatest grid, in a thread whose whole stack is the 256 KiB that no call may pass.
