@@ -40,6 +40,8 @@ SHAPES = {
 class Lengths:
     """How long the lists are that go with a grid, and their shapes as arrays."""
 
+    __slots__ = ()
+
     @property
     def cells_in_layer(self):
         """C, the cells of a layer: its R*W cells and the two caps."""
@@ -48,4 +50,6 @@ class Lengths:
 
 class Calls:
     """The calls, each over the world's lists."""
+
+    __slots__ = ()
 @READS@@METHODS@

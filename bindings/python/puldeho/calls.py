@@ -111,6 +111,8 @@ SHAPES = {
 class Lengths:
     """How long the lists are that go with a grid, and their shapes as arrays."""
 
+    __slots__ = ()
+
     @property
     def cells_in_layer(self):
         """C, the cells of a layer: its R*W cells and the two caps."""
@@ -172,6 +174,8 @@ class Lengths:
 
 class Calls:
     """The calls, each over the world's lists."""
+
+    __slots__ = ()
 
     def emission(self, tracer, cell, amount):
         """Adds amount to one cell of one tracer. Cells are numbered over all layers. Refusals, in order: 1 2

@@ -48,6 +48,10 @@ class CaseP(unittest.TestCase):
         with self.assertRaises(AttributeError):
             world().air = array.array("I", AIR)
 
+    def test_no_attributes_of_others(self):
+        with self.assertRaises(AttributeError):
+            world().mine = 1
+
     def test_any_buffer(self):
         one = puldeho.World(GRID, memoryview(array.array("I", AIR)), memoryview(array.array("I", TRACERS)))
         self.assertEqual(one.total(0), 400)
