@@ -89,8 +89,10 @@ module puldeho
     integer(c_int32_t) :: w = 0, r = 0, k = 0, n = 0
   end type puldeho_grid
 
-  ! The world. It owns its lists; an accepted load makes it, and before that every call is refused, with 1.
+  ! The world. It owns its lists; an accepted load makes it, and before that every call is refused, with 1. Later versions have
+  ! further components. So there is no structure constructor (the private component sees to that), and do not extend the type.
   type, public :: puldeho_world
+    integer(c_int32_t), private :: made_by_load_only
     type(puldeho_grid) :: grid
     ! the air of every cell; layer k starts at k*C: K*C numbers, the first has the index 0
     integer(c_int32_t), allocatable :: air(:)
@@ -362,6 +364,7 @@ contains
         loaded%grid%w, loaded%grid%r, loaded%grid%k, loaded%grid%n, loaded%air, size(loaded%air, &
         kind=c_size_t), loaded%tracers, size(loaded%tracers, kind=c_size_t)))
     if (refusal /= puldeho_accepted) return
+    world%made_by_load_only = 1
     world%grid = loaded%grid
     call move_alloc(loaded%air, world%air)
     call move_alloc(loaded%tracers, world%tracers)

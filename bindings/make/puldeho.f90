@@ -38,8 +38,10 @@ module puldeho
     integer(c_int32_t) :: w = 0, r = 0, k = 0, n = 0
   end type puldeho_grid
 
-  ! The world. It owns its lists; an accepted load makes it, and before that every call is refused, with 1.
+  ! The world. It owns its lists; an accepted load makes it, and before that every call is refused, with 1. Later versions have
+  ! further components. So there is no structure constructor (the private component sees to that), and do not extend the type.
   type, public :: puldeho_world
+    integer(c_int32_t), private :: made_by_load_only
     type(puldeho_grid) :: grid
 @FIELDS@  contains
 @METHODS@  end type puldeho_world
@@ -75,6 +77,7 @@ contains
     refusal = refusal_of(puldeho_raw_load( &
         @GIVEN@))
     if (refusal /= puldeho_accepted) return
+    world%made_by_load_only = 1
     world%grid = loaded%grid
 @KEPT@  end subroutine world_load
 
