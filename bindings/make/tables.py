@@ -70,6 +70,23 @@ def read_calls():
     return calls
 
 
+# Words that are no names in C, C++, Rust, Python or Fortran, and names that the made functions have for themselves.
+RESERVED = set("""and as auto await bool box break case char class const continue def default del delete do double else enum extern
+    float fn for friend from global goto if impl import in inline int is lambda let long loop match mod move mut new none not or
+    pass pub raise ref register return self short signed sizeof static struct super switch template this throw trait true try type
+    typedef union unsigned use using virtual void volatile where while with yield""".split())
+TAKEN = set("w r k n c grid world refusal returned text size words words_size outcome rest loaded lent count".split())
+
+
+def check_names(calls):
+    """Fails at a name that some language has not, or that stands for two things in one function."""
+    for call in calls:
+        names = [p.name for p in call.parameters] + [p.name + "_length" for p in call.parameters if is_list(p)]
+        names += [call.count.name] if call.count else []
+        if len(set(names)) < len(names) or TAKEN & set(names) or RESERVED & {call.name, *names} or call.name in WORLD:
+            sys.exit("bindings/calls.txt: %s: a name is reserved, is taken, or stands twice" % call.name)
+
+
 def read_lists(calls):
     """The table of the lists: the world's, and each call's own."""
     lists = []
@@ -160,6 +177,7 @@ def read_tables():
     """All tables, each held to what it speaks of."""
     calls = read_calls()
     refusals, programs = read_refusals()
+    check_names(calls)
     check_boundary(calls)
     check_refusals(calls, refusals)
     version = open("bindings/version.txt", encoding="utf-8").read().strip()
