@@ -54,6 +54,7 @@
 #define PULDEHO_VERSION_MAJOR 0
 #define PULDEHO_VERSION_MINOR 1
 #define PULDEHO_VERSION_PATCH 0
+#define PULDEHO_ABI puldeho_abi_0_1
 
 /* the most air of a cell; the least is 1 */
 #define PULDEHO_AIR_LIMIT 65535
@@ -527,9 +528,14 @@ uint64_t puldeho_raw_cell(
     uint32_t tracer,
     uint32_t cell);
 
+/* Does nothing. Its name has the version: the proved functions may take other arguments in another, and a program that is
+ * linked with the library of another version wants a name that is not there. */
+void PULDEHO_ABI(void);
+
 /* Takes apart what a proved function returned. */
 static inline enum puldeho_refusal puldeho_refusal_and_count(uint64_t returned, uint32_t *count)
 {
+    PULDEHO_ABI();
     if (count != NULL)
         *count = (uint32_t)returned;
     return (enum puldeho_refusal)(returned >> 32);

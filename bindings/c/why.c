@@ -787,6 +787,11 @@ static enum puldeho_refusal first_refusal(const struct call *call, place *const 
     return PULDEHO_ACCEPTED;
 }
 
+/* The name by which a program of another version finds that this is not its library. */
+void PULDEHO_ABI(void)
+{
+}
+
 /* The calls. */
 
 enum puldeho_refusal puldeho_why_load(const struct puldeho_world *world, char *text, size_t size)

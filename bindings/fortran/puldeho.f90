@@ -128,6 +128,12 @@ module puldeho
   ! PULDEHO_WHY_SIZE of the C header.
   integer, parameter :: why_size = 1024
 
+  ! Does nothing. A library of another version, whose functions may take other arguments, has no such name.
+  interface
+    subroutine puldeho_abi_0_1() bind(c)
+    end subroutine puldeho_abi_0_1
+  end interface
+
   ! The proved functions. Each returns refusal * 2**32 + count.
   interface
     function puldeho_raw_load( &
@@ -359,6 +365,7 @@ contains
     integer(c_int32_t), intent(out) :: refusal
     type(puldeho_world) :: loaded
 
+    call puldeho_abi_0_1()
     call copy_lists(loaded, grid, air, tracers)
     refusal = refusal_of(puldeho_raw_load( &
         loaded%grid%w, loaded%grid%r, loaded%grid%k, loaded%grid%n, loaded%air, size(loaded%air, &

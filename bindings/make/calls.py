@@ -7,6 +7,7 @@ __all__ = ["Refusal", @EXPORTED@]
 VERSION = "@VERSION@"
 # The shared library of this version. Another version's functions may take other arguments.
 SONAME = "@SONAME@"
+ABI = "@ABI@"
 
 @LIMITS@
 

@@ -2,6 +2,15 @@
 
 use crate::{outcome, Grid};
 
+/// Does nothing, and is linked with the library of this version only: another one's functions may take other arguments.
+pub(crate) fn same_version() {
+    extern "C" {
+        fn @ABI@();
+    }
+    // SAFETY: it takes nothing and does nothing.
+    unsafe { @ABI@() }
+}
+
 /// The version of the library that this wrapper was made for.
 pub const VERSION: &str = "@VERSION@";
 

@@ -1,7 +1,7 @@
 """The Fortran module, bindings/fortran/puldeho.f90."""
 import textwrap
 
-from tables import GRID, MADE, RAW, WORLD, constant, filled, in_terms, is_list, is_written, largest, length_name, length_text, own, world_lists
+from tables import GRID, MADE, RAW, WORLD, abi, constant, filled, in_terms, is_list, is_written, largest, length_name, length_text, own, world_lists
 from tables import wrapped
 
 
@@ -132,6 +132,7 @@ def module(tables):
     return filled("puldeho.f90", {
         "MADE": MADE,
         "VERSION": tables.version,
+        "ABI": abi(tables),
         "LIMITS": "".join(
             "  ! %s\n  integer(c_int32_t), parameter, public :: puldeho_%s = %d\n" % (l.what, l.name.lower(), l.number)
             for l in tables.limits

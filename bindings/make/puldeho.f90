@@ -54,6 +54,12 @@ module puldeho
   ! PULDEHO_WHY_SIZE of the C header.
   integer, parameter :: why_size = 1024
 
+  ! Does nothing. A library of another version, whose functions may take other arguments, has no such name.
+  interface
+    subroutine @ABI@() bind(c)
+    end subroutine @ABI@
+  end interface
+
   ! The proved functions. Each returns refusal * 2**32 + count.
   interface
 @RAWS@  end interface
@@ -73,6 +79,7 @@ contains
 @DECLARED@    integer(c_int32_t), intent(out) :: refusal
     type(puldeho_world) :: loaded
 
+    call @ABI@()
     call copy_lists(loaded, grid, @LOADED@)
     refusal = refusal_of(puldeho_raw_load( &
         @GIVEN@))

@@ -47,6 +47,7 @@
 #define PULDEHO_VERSION_MAJOR @MAJOR@
 #define PULDEHO_VERSION_MINOR @MINOR@
 #define PULDEHO_VERSION_PATCH @PATCH@
+#define PULDEHO_ABI puldeho_abi_@MAJOR@_@MINOR@
 
 @LIMITS@
 
@@ -182,9 +183,14 @@ static inline struct puldeho_world puldeho_world_over(
  * which kept in an int is 0 for many a refused call; the calls above take it apart.
  */
 @RAWS@
+/* Does nothing. Its name has the version: the proved functions may take other arguments in another, and a program that is
+ * linked with the library of another version wants a name that is not there. */
+void PULDEHO_ABI(void);
+
 /* Takes apart what a proved function returned. */
 static inline enum puldeho_refusal puldeho_refusal_and_count(uint64_t returned, uint32_t *count)
 {
+    PULDEHO_ABI();
     if (count != NULL)
         *count = (uint32_t)returned;
     return (enum puldeho_refusal)(returned >> 32);

@@ -1,5 +1,5 @@
 """The Python package's made part, bindings/python/puldeho/calls.py."""
-from tables import MADE, WORLD, constant, filled, full_name, in_terms, largest, length_name, length_text, own, world_lists, wrapped
+from tables import MADE, WORLD, abi, constant, filled, full_name, in_terms, largest, length_name, length_text, own, world_lists, wrapped
 
 
 def table(tables, field):
@@ -51,6 +51,7 @@ def calls(tables):
     return filled("calls.py", {
         "MADE": MADE,
         "VERSION": tables.version,
+        "ABI": abi(tables),
         "SONAME": "libpuldeho.so.%s.%s" % (major, minor),
         "LIMITS": "".join("# %s\n%s = %d\n" % (l.what[0].upper() + l.what[1:], l.name, l.number) for l in tables.limits),
         "EXPORTED": ", ".join('"%s"' % l.name for l in tables.limits),

@@ -1,5 +1,5 @@
 """The Rust wrapper's made part, bindings/rust/src/calls.rs, and the comparison's calls, compare/src/library.rs."""
-from tables import GRID, MADE, RAW, WORLD, filled, in_terms, is_list, is_written, largest, length_name, length_text, own, world_lists
+from tables import GRID, MADE, RAW, WORLD, abi, filled, in_terms, is_list, is_written, largest, length_name, length_text, own, world_lists
 
 POINTERS = {"&[u32]": ("*const u32", "as_ptr"), "&mut [u32]": ("*mut u32", "as_mut_ptr"), "&[i32]": ("*const i32", "as_ptr")}
 
@@ -79,6 +79,7 @@ def wrapper(tables):
     return filled("calls.rs", {
         "MADE": MADE,
         "VERSION": tables.version,
+        "ABI": abi(tables),
         "LIMITS": "".join("/// %s\npub const %s: u32 = %d;\n" % (l.what[0].upper() + l.what[1:], l.name, l.number) for l in tables.limits),
         "REFUSALS": refusals(tables),
         "LENGTHS": "".join(map(length, tables.lists)),

@@ -187,6 +187,11 @@ def read_tables():
 # What the makers of the languages share.
 
 
+def abi(tables):
+    """The function whose name has the version, in which a program and its library must agree."""
+    return "puldeho_abi_%s_%s" % tuple(tables.version.split(".")[:2])
+
+
 def constant(name):
     """AirRange as AIR_RANGE."""
     return re.sub(r"(?<=[a-z])(?=[A-Z])", "_", name).upper()

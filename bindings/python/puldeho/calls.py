@@ -7,6 +7,7 @@ __all__ = ["Refusal", "AIR_LIMIT", "TOTAL_LIMIT", "ZONAL_LIMIT", "MERIDIONAL_LIM
 VERSION = "0.1.0"
 # The shared library of this version. Another version's functions may take other arguments.
 SONAME = "libpuldeho.so.0.1"
+ABI = "puldeho_abi_0_1"
 
 # The most air of a cell; the least is 1
 AIR_LIMIT = 65535

@@ -3,7 +3,7 @@ import ctypes
 import functools
 import os
 
-from .calls import OWN, SIGNATURES, SONAME, WORLD
+from .calls import ABI, OWN, SIGNATURES, SONAME, WORLD
 
 HERE = os.path.dirname(os.path.abspath(__file__))
 
@@ -32,9 +32,12 @@ def library():
     """The library, loaded once."""
     for place in places():
         try:
-            return ctypes.CDLL(place)
+            found = ctypes.CDLL(place)
         except OSError:
-            pass
+            continue
+        if not hasattr(found, ABI):
+            raise OSError("%s is the library of another version; this package wants %s" % (place, SONAME))
+        return found
     raise OSError(
         "%s is not found: tools/library builds it in the repository, tools/install PREFIX puts it under a prefix, "
         "and PULDEHO_LIBRARY may name the file" % SONAME

@@ -2,6 +2,15 @@
 
 use crate::{outcome, Grid};
 
+/// Does nothing, and is linked with the library of this version only: another one's functions may take other arguments.
+pub(crate) fn same_version() {
+    extern "C" {
+        fn puldeho_abi_0_1();
+    }
+    // SAFETY: it takes nothing and does nothing.
+    unsafe { puldeho_abi_0_1() }
+}
+
 /// The version of the library that this wrapper was made for.
 pub const VERSION: &str = "0.1.0";
 

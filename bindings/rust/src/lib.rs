@@ -64,6 +64,7 @@ impl std::error::Error for Refusal {}
 
 /// What a call returned, answer · 2^32 + count, as a count or a refusal. A refusal has count 0.
 fn outcome(returned: u64) -> Result<u32, Refusal> {
+    calls::same_version();
     let refused = |refusal: &Refusal| (*refusal as u64) << 32 == returned;
     u32::try_from(returned).map_err(|_| {
         let refusal = Refusal::ALL.iter().copied().find(refused);
