@@ -29,7 +29,9 @@
  * Nothing is assumed of the numbers: any are answered. The library keeps nothing
  * between calls, and each call tests the whole world before it does anything. Several threads may call
  * it at once, each with a world of its own; a list that is only read may be shared. Between calls you
- * may read the lists. If you write into them, load again: what is promised of a run counts from there.
+ * may read the lists. If you write into them, load again: what is promised of a run counts from there,
+ * and later versions, which keep books of each gas, refuse other calls until then.
+ * Names that begin with puldeho or PULDEHO are the library's. Take sizes and limits by their names: they may grow.
  *
  * What is assumed of the stack: that it has room for the call, PULDEHO_STACK bytes or, of the proved
  * function under each call (return address and libc's functions included, arguments not):
@@ -102,7 +104,7 @@
 extern "C" {
 #endif
 
-/* What a call gives. Later versions have further refusals. */
+/* What a call gives. Later versions have further refusals, not all numbers between: a switch needs a default. */
 enum puldeho_refusal {
     /* the call was made */
     PULDEHO_ACCEPTED = 0,
@@ -276,9 +278,12 @@ static inline uint32_t puldeho_north_cap(struct puldeho_grid grid, uint32_t laye
 }
 
 /* The world: the grid, and the lists that the caller keeps and lends to each call, with their lengths
- * in numbers. Make it with puldeho_world_over, or by naming all its fields, as in {.grid = grid, ..}.
- * Later versions have further fields; 0 in them will mean what this version does. Start with
- * puldeho_load, and lend one struct to all calls: a copy of it is no second world. */
+ * in numbers. Make it with puldeho_world_over; in C, naming its fields, as in {.grid = grid, ..}, serves too.
+ * Later versions have further fields, which a load fills, and refuse what this one still answers. So:
+ * - load each world, once it is made, before any other call;
+ * - load again when you have written into its lists or set its fields, before the next call;
+ * - make all calls on the one struct, by its address: a copy of the struct is neither the same world nor
+ *   a second one. It may be moved, as by a function that returns it. puldeho_copy copies a state. */
 struct puldeho_world {
     struct puldeho_grid grid;
     /* the air of every cell; layer k starts at k*C: K*C numbers */
@@ -305,6 +310,22 @@ static inline struct puldeho_world puldeho_world_over(
     world.tracers = tracers;
     world.tracers_length = tracers_length;
     return world;
+}
+
+/* Copies a world's state, all its lists with whatever a later version adds, into another world over lists of the same
+ * lengths: to keep the state before a step, and to go back to it. Gives refusal 2 and copies nothing if a length differs. */
+PULDEHO_MUST_USE PULDEHO_NOT_NULL(1) PULDEHO_NOT_NULL(2)
+static inline enum puldeho_refusal puldeho_copy(struct puldeho_world *to, const struct puldeho_world *from)
+{
+    if (to->air_length != from->air_length
+        || to->tracers_length != from->tracers_length)
+        return PULDEHO_REFUSAL_LENGTHS;
+    to->grid = from->grid;
+    if (to->air_length > 0)
+        memcpy(to->air, from->air, to->air_length * sizeof *to->air);
+    if (to->tracers_length > 0)
+        memcpy(to->tracers, from->tracers, to->tracers_length * sizeof *to->tracers);
+    return PULDEHO_ACCEPTED;
 }
 
 /* The calls. A refused one changes nothing; puldeho_why_NAME, below, says more about why. */

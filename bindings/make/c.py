@@ -110,6 +110,22 @@ def own_list(lent):
     ).format(lent.name, lent.what)
 
 
+def lent_length(lent):
+    return "puldeho_lent_%s_length(%%s)" % lent.name if lent.kind == "own" else "%%s->%s_length" % lent.name
+
+
+def other_length(lent):
+    """Whether a list of two worlds has two lengths."""
+    return "%s != %s" % (lent_length(lent) % "to", lent_length(lent) % "from")
+
+
+def copied(lent):
+    """A list copied from one world to another."""
+    place = "({0}->{1} != NULL ? {0}->{1} : {0}->own_{1})" if lent.kind == "own" else "{0}->{1}"
+    return "    if (%s > 0)\n        memcpy(%s, %s, %s * sizeof *to->%s);\n" % (
+        lent_length(lent) % "to", place.format("to", lent.name), place.format("from", lent.name), lent_length(lent) % "to", lent.name)
+
+
 def texts(refusals, field):
     """The cases of a switch that gives a text for each refusal."""
     return "\n".join('    case PULDEHO_REFUSAL_%s:\n        return "%s";' % (constant(r.name), getattr(r, field)) for r in refusals)
@@ -142,6 +158,8 @@ def header(tables):
         "WORLDLISTS": " ".join("PULDEHO_LIST(write_only, %d, %d)" % (2 + 2 * i, 3 + 2 * i) for i in range(len(asked))),
         "SETS": "\n".join("    world.{0} = {0};\n    world.{0}_length = {0}_length;".format(l.name) for l in asked),
         "OWNLISTS": "".join(map(own_list, owned)),
+        "SAMELENGTHS": "\n        || ".join(map(other_length, lists)),
+        "COPIES": "".join(map(copied, lists)),
         "LENGTHS": "".join(map(length, tables.lists)),
         "RAWS": "\n".join(map(raw, tables.calls)),
         "CALLS": "".join(map(prototype, tables.calls)),

@@ -29,7 +29,9 @@
  * Nothing is assumed of the numbers: any are answered. The library keeps nothing
  * between calls, and each call tests the whole world before it does anything. Several threads may call
  * it at once, each with a world of its own; a list that is only read may be shared. Between calls you
- * may read the lists. If you write into them, load again: what is promised of a run counts from there.
+ * may read the lists. If you write into them, load again: what is promised of a run counts from there,
+ * and later versions, which keep books of each gas, refuse other calls until then.
+ * Names that begin with puldeho or PULDEHO are the library's. Take sizes and limits by their names: they may grow.
  *
  * What is assumed of the stack: that it has room for the call, PULDEHO_STACK bytes or, of the proved
  * function under each call (return address and libc's functions included, arguments not):
@@ -74,7 +76,7 @@
 extern "C" {
 #endif
 
-/* What a call gives. Later versions have further refusals. */
+/* What a call gives. Later versions have further refusals, not all numbers between: a switch needs a default. */
 enum puldeho_refusal {
     /* the call was made */
     PULDEHO_ACCEPTED = 0,
@@ -144,9 +146,12 @@ static inline uint32_t puldeho_north_cap(struct puldeho_grid grid, uint32_t laye
 }
 
 /* The world: the grid, and the lists that the caller keeps and lends to each call, with their lengths
- * in numbers. Make it with puldeho_world_over, or by naming all its fields, as in {.grid = grid, ..}.
- * Later versions have further fields; 0 in them will mean what this version does. Start with
- * puldeho_load, and lend one struct to all calls: a copy of it is no second world. */
+ * in numbers. Make it with puldeho_world_over; in C, naming its fields, as in {.grid = grid, ..}, serves too.
+ * Later versions have further fields, which a load fills, and refuse what this one still answers. So:
+ * - load each world, once it is made, before any other call;
+ * - load again when you have written into its lists or set its fields, before the next call;
+ * - make all calls on the one struct, by its address: a copy of the struct is neither the same world nor
+ *   a second one. It may be moved, as by a function that returns it. puldeho_copy copies a state. */
 struct puldeho_world {
     struct puldeho_grid grid;
 @FIELDS@
@@ -164,6 +169,17 @@ static inline struct puldeho_world puldeho_world_over(
     world.grid = grid;
 @SETS@
     return world;
+}
+@OWNLISTS@
+/* Copies a world's state, all its lists with whatever a later version adds, into another world over lists of the same
+ * lengths: to keep the state before a step, and to go back to it. Gives refusal 2 and copies nothing if a length differs. */
+PULDEHO_MUST_USE PULDEHO_NOT_NULL(1) PULDEHO_NOT_NULL(2)
+static inline enum puldeho_refusal puldeho_copy(struct puldeho_world *to, const struct puldeho_world *from)
+{
+    if (@SAMELENGTHS@)
+        return PULDEHO_REFUSAL_LENGTHS;
+    to->grid = from->grid;
+@COPIES@    return PULDEHO_ACCEPTED;
 }
 
 /* The calls. A refused one changes nothing; puldeho_why_NAME, below, says more about why. */
@@ -195,7 +211,7 @@ static inline enum puldeho_refusal puldeho_refusal_and_count(uint64_t returned, 
         *count = (uint32_t)returned;
     return (enum puldeho_refusal)(returned >> 32);
 }
-@OWNLISTS@@BODIES@
+@BODIES@
 #ifdef __cplusplus
 }
 #endif
