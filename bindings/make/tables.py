@@ -13,9 +13,6 @@ Limit = namedtuple("Limit", "name number what")
 Tables = namedtuple("Tables", "calls lists limits refusals programs stack version")
 
 GRID = ("w", "r", "k", "n")
-# The world's lists, and those among them that a user need not know of: each world has its own, which begins as zeros.
-WORLD = ("air", "tracers")
-OWN = ()
 # The limit of bindings/limits.txt that is the largest of each of the grid's numbers.
 MOST = {"w": "MOST_COLUMNS", "r": "MOST_ROWS", "k": "MOST_LAYERS", "n": "MOST_TRACERS"}
 TYPES = ("u32", "&[u32]", "&mut [u32]", "&[i32]")
@@ -31,6 +28,11 @@ def rows(path, fields):
             if len(row) != fields:
                 sys.exit("%s: not %d fields: %s" % (path, fields, line.rstrip()))
             yield row
+
+
+# The world's lists, and those among them that a user need not know of: each world has its own, which begins as zeros.
+WORLD = tuple(name for whose, name, *_ in rows("bindings/lists.txt", 4) if whose in ("world", "world own"))
+OWN = tuple(name for whose, name, *_ in rows("bindings/lists.txt", 4) if whose == "world own")
 
 
 def parameters(text):
@@ -99,8 +101,6 @@ def read_lists(calls):
     wanted += [(call.name, p.name) for call in calls for p in own(call) if is_list(p)]
     if [(lent.owner, lent.name) for lent in lists] != wanted:
         sys.exit("bindings/lists.txt: not the lists of bindings/calls.txt, in their order")
-    if [lent.name for lent in lists if lent.kind == "own"] != list(OWN) or any(lent.kind not in ("", "own") for lent in lists):
-        sys.exit("bindings/lists.txt: not the world's own lists of bindings/make/tables.py")
     return lists
 
 
