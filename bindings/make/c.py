@@ -73,8 +73,8 @@ def function(call):
 def why(call):
     """The declaration of the function that says why a call is refused."""
     listed = ["const struct puldeho_world *world"] + [declared(p) for p in own(call)] + ["char *text, size_t size"]
-    size = 4 + sum(2 if is_list(p) else 1 for p in own(call)) - 1
-    lists = access(own(call), 2) + "PULDEHO_LIST(write_only, %d, %d)" % (size - 1, size)
+    place = 2 + sum(2 if is_list(p) else 1 for p in own(call))
+    lists = access(own(call), 2) + "PULDEHO_LIST(write_only, %d, %d)" % (place, place + 1)
     return "PULDEHO_NOT_NULL(1) %s\nenum puldeho_refusal puldeho_why_%s(\n    %s);\n" % (lists, call.name, ",\n    ".join(listed))
 
 
@@ -111,6 +111,7 @@ def own_list(lent):
 
 
 def lent_length(lent):
+    """How many numbers of a list a world lends; %s is the world."""
     return "puldeho_lent_%s_length(%%s)" % lent.name if lent.kind == "own" else "%%s->%s_length" % lent.name
 
 

@@ -16,41 +16,38 @@ def quoted(text, indent):
     return (" // &\n" + indent).join('"%s"' % part for part in parts)
 
 
-def raw(call):
-    """The interface of a proved function."""
-    names = list(GRID)
-    declared = ["integer(c_int32_t), value :: %s" % ", ".join(GRID)]
-    for p in call.parameters:
+def arguments(parameters):
+    """Parameters of a function of C: their names, a list with its length, and their declarations."""
+    names, declared = [], ""
+    for p in parameters:
         names += [p.name, p.name + "_length"] if is_list(p) else [p.name]
         if is_list(p):
-            declared.append("integer(c_int32_t), intent(%s) :: %s(*)" % ("inout" if is_written(p) else "in", p.name))
-            declared.append("integer(c_size_t), value :: %s_length" % p.name)
+            declared += "      integer(c_int32_t), intent(%s) :: %s(*)\n" % ("inout" if is_written(p) else "in", p.name)
+            declared += "      integer(c_size_t), value :: %s_length\n" % p.name
         else:
-            declared.append("integer(c_int32_t), value :: %s" % p.name)
-    body = "".join("      %s\n" % line for line in declared)
+            declared += "      integer(c_int32_t), value :: %s\n" % p.name
+    return names, declared
+
+
+def raw(call):
+    """The interface of a proved function."""
+    names, declared = arguments(call.parameters)
     return (
         "    function {0}{1}( &\n        {2}) &\n        bind(c) result(returned)\n"
-        "      import :: c_int32_t, c_int64_t, c_size_t\n{3}      integer(c_int64_t) :: returned\n"
-        "    end function {0}{1}\n"
-    ).format(RAW, call.name, listed(names, "        "), body)
+        "      import :: c_int32_t, c_int64_t, c_size_t\n      integer(c_int32_t), value :: {3}\n{4}"
+        "      integer(c_int64_t) :: returned\n    end function {0}{1}\n"
+    ).format(RAW, call.name, listed(list(GRID) + names, "        "), ", ".join(GRID), declared)
 
 
 def why_interface(call):
     """The interface of the C function that says why a call is refused."""
-    names, declared = [], []
-    for p in own(call):
-        names += [p.name, p.name + "_length"] if is_list(p) else [p.name]
-        if is_list(p):
-            declared += ["integer(c_int32_t), intent(in) :: %s(*)" % p.name, "integer(c_size_t), value :: %s_length" % p.name]
-        else:
-            declared.append("integer(c_int32_t), value :: %s" % p.name)
-    body = "".join("      %s\n" % line for line in declared)
+    names, declared = arguments(own(call))
     return (
         "    function c_why_{0}( &\n        {1}) &\n        bind(c, name=\"puldeho_why_{0}\") result(refusal)\n"
         "      import :: c_char, c_int, c_int32_t, c_size_t, c_world\n      type(c_world), intent(in) :: world\n{2}"
         "      character(kind=c_char), intent(out) :: words(*)\n      integer(c_size_t), value :: words_size\n"
         "      integer(c_int) :: refusal\n    end function c_why_{0}\n"
-    ).format(call.name, listed(["world"] + names + ["words", "words_size"], "        "), body)
+    ).format(call.name, listed(["world"] + names + ["words", "words_size"], "        "), declared)
 
 
 def why_method(call):

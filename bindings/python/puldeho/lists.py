@@ -61,7 +61,7 @@ def copied(value):
     return array.array("I", value.tobytes()) if isinstance(value, memoryview) else copy.copy(value)
 
 
-def test_shape(name, view, shape):
+def check_shape(name, view, shape):
     """Fails at an array of several dimensions, as many numbers as wanted, in another order. Dimensions of 1 do not count."""
     has, wants = ([size for size in one if size != 1] for one in (view.shape, shape))
     if view.ndim > 1 and view.nbytes // 4 == math.prod(shape) and has != wants:
@@ -81,7 +81,7 @@ def lent(name, value, kind, shape):
         )
     if not view.c_contiguous:
         raise ValueError("%s: the numbers do not lie side by side; numpy.ascontiguousarray makes a copy that does" % name)
-    test_shape(name, view, shape)
+    check_shape(name, view, shape)
     length = view.nbytes // 4
     if kind.startswith("&mut") and view.readonly:
         raise ValueError("%s: the calls change it, and it is read-only; give a copy" % name)
