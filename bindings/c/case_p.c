@@ -100,8 +100,43 @@ static void refusals(void)
     expect_list("refusals, tracers after", tracers, first_tracers);
 }
 
+/* Lengths and cell numbers of a larger grid, and places that it has not. */
+static void numbers(void)
+{
+    struct puldeho_grid grid = {6, 3, 2, 5};
+    expect_number("length of air", (uint32_t)puldeho_air_length(grid), 40);
+    expect_number("length of tracers", (uint32_t)puldeho_tracers_length(grid), 200);
+    expect_number("length of zonal fluxes", (uint32_t)puldeho_zonal_fluxes_length(grid), 6);
+    expect_number("length of meridional fluxes", (uint32_t)puldeho_meridional_fluxes_length(grid), 24);
+    expect_number("length of a table", (uint32_t)puldeho_remap_table_length(grid), 6);
+    expect_number("the last cell of the last row", puldeho_cell_number(grid, 1, 2, 5), 38);
+    expect_number("a south cap", puldeho_south_cap(grid, 1), 20);
+    expect_number("a north cap", puldeho_north_cap(grid, 1), 39);
+    expect_number("an absent layer", puldeho_cell_number(grid, 2, 0, 0), PULDEHO_NO_CELL);
+    expect_number("an absent row", puldeho_cell_number(grid, 0, 3, 0), PULDEHO_NO_CELL);
+    expect_number("an absent column", puldeho_cell_number(grid, 0, 0, 6), PULDEHO_NO_CELL);
+    expect_number("an absent south cap", puldeho_south_cap(grid, 2), PULDEHO_NO_CELL);
+    expect_number("an absent north cap", puldeho_north_cap(grid, 2), PULDEHO_NO_CELL);
+}
+
+/* A state that is kept and brought back, and lists of another length. */
+static void copies(void)
+{
+    uint32_t kept_air[CELLS], kept_tracers[CELLS];
+    struct puldeho_world world = first_world();
+    struct puldeho_world kept = puldeho_world_over(world.grid, kept_air, CELLS, kept_tracers, CELLS);
+    expect("a state is kept", puldeho_copy(&kept, &world), PULDEHO_ACCEPTED);
+    expect("a withdrawal", puldeho_withdrawal(&world, 0, 3, 200), PULDEHO_ACCEPTED);
+    expect("the state is brought back", puldeho_copy(&world, &kept), PULDEHO_ACCEPTED);
+    expect_list("tracers after", tracers, first_tracers);
+    kept.tracers_length = CELLS - 1;
+    expect("lists of other lengths", puldeho_copy(&kept, &world), PULDEHO_REFUSAL_LENGTHS);
+}
+
 int main(void)
 {
+    numbers();
+    copies();
     case_p();
     lengths();
     refusals();

@@ -10,7 +10,7 @@
 
 #include "puldeho.h"
 
-enum { CALLS = 12000, MOST_LIST = 256, MOST_REFUSAL = 12 };
+enum { CALLS = 12000, MOST_LIST = 256, MOST_REFUSAL = PULDEHO_REFUSAL_REMAP };
 
 enum name { LOAD, EMISSION, WITHDRAWAL, ZONAL, MERIDIONAL, REMAP, TOTAL, CELL, NAMES };
 
@@ -596,6 +596,12 @@ static const struct fixed fixed[] = {
              "and 0 above 65535; parts of this sweep alone end at the same air: if a remap can bring the air back, "
              "make that first, or the whole step in smaller ones; if not, the fluxes themselves must diverge less at "
              "this cap"},
+    {SMALL, .air = {600, 900, 900, 900, 900, 900}, SWEEP_LAYER(201, 201, 201, -200, 0, 0, 0, 0), .refusal = PULDEHO_REFUSAL_MERIDIONAL,
+     .text = "cell 0 (south cap of layer 0) has air 600, its outflow 603, the sum through its 4 faces, is 1.01 times "
+             "its air, and it would end with air 197; of the layer's 6 cells 1 would be refused, with more outflow "
+             "than air; every cell of the layer would end within 1 to 65535, so a smaller time step helps: cut into 2 "
+             "sweeps, all are accepted (part s of 2 of a flux F is floor(s*|F|/2) - floor((s - 1)*|F|/2), with the "
+             "sign of F)"},
     {CASE_P, SWEEP_LAYER(60, 60, -60, -60, 60, 60, -60, -60), .refusal = PULDEHO_REFUSAL_MERIDIONAL,
      .text = "cell 0 (south cap of layer 0) has air 100, its outflow 120, the sum through its 4 faces, is 1.20 "
              "times its air, and it would end with air 100; of the layer's 6 cells 2 would be refused, with more "

@@ -399,7 +399,8 @@ contains
     integer(c_int32_t), intent(in) :: amount
     integer(c_int64_t) :: returned
 
-    call with_lists(world)
+    refusal = puldeho_refusal_grid_range
+    if (.not. has_lists(world)) return
     returned = puldeho_raw_emission( &
         world%grid%w, world%grid%r, world%grid%k, world%grid%n, world%air, size(world%air, kind=c_size_t), &
         world%tracers, size(world%tracers, kind=c_size_t), tracer, cell, amount)
@@ -416,7 +417,8 @@ contains
     integer(c_int32_t), intent(in) :: amount
     integer(c_int64_t) :: returned
 
-    call with_lists(world)
+    refusal = puldeho_refusal_grid_range
+    if (.not. has_lists(world)) return
     returned = puldeho_raw_withdrawal( &
         world%grid%w, world%grid%r, world%grid%k, world%grid%n, world%air, size(world%air, kind=c_size_t), &
         world%tracers, size(world%tracers, kind=c_size_t), tracer, cell, amount)
@@ -434,7 +436,9 @@ contains
     integer(c_int32_t), intent(out), optional :: substeps
     integer(c_int64_t) :: returned
 
-    call with_lists(world)
+    refusal = puldeho_refusal_grid_range
+    if (present(substeps)) substeps = 0
+    if (.not. has_lists(world)) return
     returned = puldeho_raw_zonal( &
         world%grid%w, world%grid%r, world%grid%k, world%grid%n, world%air, size(world%air, kind=c_size_t), &
         world%tracers, size(world%tracers, kind=c_size_t), layer, row, fluxes, size(fluxes, kind=c_size_t))
@@ -452,7 +456,9 @@ contains
     integer(c_int32_t), intent(out), optional :: substeps
     integer(c_int64_t) :: returned
 
-    call with_lists(world)
+    refusal = puldeho_refusal_grid_range
+    if (present(substeps)) substeps = 0
+    if (.not. has_lists(world)) return
     returned = puldeho_raw_meridional( &
         world%grid%w, world%grid%r, world%grid%k, world%grid%n, world%air, size(world%air, kind=c_size_t), &
         world%tracers, size(world%tracers, kind=c_size_t), layer, fluxes, size(fluxes, kind=c_size_t))
@@ -470,7 +476,9 @@ contains
     integer(c_int32_t), intent(out), optional :: overlaps
     integer(c_int64_t) :: returned
 
-    call with_lists(world)
+    refusal = puldeho_refusal_grid_range
+    if (present(overlaps)) overlaps = 0
+    if (.not. has_lists(world)) return
     returned = puldeho_raw_remap( &
         world%grid%w, world%grid%r, world%grid%k, world%grid%n, world%air, size(world%air, kind=c_size_t), &
         world%tracers, size(world%tracers, kind=c_size_t), table, size(table, kind=c_size_t))
@@ -481,13 +489,15 @@ contains
   ! Reads the total of one tracer. Refusals, in order: 1 2 3 4 5.
   ! units: the total of the tracer.
   subroutine world_total(world, tracer, refusal, units)
-    class(puldeho_world), intent(inout) :: world
+    class(puldeho_world), intent(in) :: world
     integer(c_int32_t), intent(out) :: refusal
     integer(c_int32_t), intent(in) :: tracer
     integer(c_int32_t), intent(out), optional :: units
     integer(c_int64_t) :: returned
 
-    call with_lists(world)
+    refusal = puldeho_refusal_grid_range
+    if (present(units)) units = 0
+    if (.not. has_lists(world)) return
     returned = puldeho_raw_total( &
         world%grid%w, world%grid%r, world%grid%k, world%grid%n, world%air, size(world%air, kind=c_size_t), &
         world%tracers, size(world%tracers, kind=c_size_t), tracer)
@@ -498,14 +508,16 @@ contains
   ! Reads one cell of one tracer. Cells are numbered over all layers. Refusals, in order: 1 2 3 4 5.
   ! units: the amount in the cell.
   subroutine world_cell(world, tracer, cell, refusal, units)
-    class(puldeho_world), intent(inout) :: world
+    class(puldeho_world), intent(in) :: world
     integer(c_int32_t), intent(out) :: refusal
     integer(c_int32_t), intent(in) :: tracer
     integer(c_int32_t), intent(in) :: cell
     integer(c_int32_t), intent(out), optional :: units
     integer(c_int64_t) :: returned
 
-    call with_lists(world)
+    refusal = puldeho_refusal_grid_range
+    if (present(units)) units = 0
+    if (.not. has_lists(world)) return
     returned = puldeho_raw_cell( &
         world%grid%w, world%grid%r, world%grid%k, world%grid%n, world%air, size(world%air, kind=c_size_t), &
         world%tracers, size(world%tracers, kind=c_size_t), tracer, cell)
@@ -515,7 +527,7 @@ contains
 
   ! Why a emission is refused in this world, in words; ask after the refusal, before the world changes.
   subroutine world_why_emission(world, tracer, cell, amount, text)
-    class(puldeho_world), intent(inout), target :: world
+    class(puldeho_world), intent(in), target :: world
     integer(c_int32_t), intent(in) :: tracer
     integer(c_int32_t), intent(in) :: cell
     integer(c_int32_t), intent(in) :: amount
@@ -523,16 +535,14 @@ contains
     character(kind=c_char) :: words(why_size)
     integer(c_int) :: refusal
 
-    call with_lists(world)
     refusal = c_why_emission( &
         world_of(world), tracer, cell, amount, words, int(why_size, c_size_t))
     text = text_of(words)
-    if (refusal == puldeho_accepted) text = "the call would be accepted"
   end subroutine world_why_emission
 
   ! Why a withdrawal is refused in this world, in words; ask after the refusal, before the world changes.
   subroutine world_why_withdrawal(world, tracer, cell, amount, text)
-    class(puldeho_world), intent(inout), target :: world
+    class(puldeho_world), intent(in), target :: world
     integer(c_int32_t), intent(in) :: tracer
     integer(c_int32_t), intent(in) :: cell
     integer(c_int32_t), intent(in) :: amount
@@ -540,16 +550,14 @@ contains
     character(kind=c_char) :: words(why_size)
     integer(c_int) :: refusal
 
-    call with_lists(world)
     refusal = c_why_withdrawal( &
         world_of(world), tracer, cell, amount, words, int(why_size, c_size_t))
     text = text_of(words)
-    if (refusal == puldeho_accepted) text = "the call would be accepted"
   end subroutine world_why_withdrawal
 
   ! Why a zonal is refused in this world, in words; ask after the refusal, before the world changes.
   subroutine world_why_zonal(world, layer, row, fluxes, text)
-    class(puldeho_world), intent(inout), target :: world
+    class(puldeho_world), intent(in), target :: world
     integer(c_int32_t), intent(in) :: layer
     integer(c_int32_t), intent(in) :: row
     integer(c_int32_t), intent(in) :: fluxes(:)
@@ -557,73 +565,63 @@ contains
     character(kind=c_char) :: words(why_size)
     integer(c_int) :: refusal
 
-    call with_lists(world)
     refusal = c_why_zonal( &
         world_of(world), layer, row, fluxes, size(fluxes, kind=c_size_t), words, int(why_size, c_size_t))
     text = text_of(words)
-    if (refusal == puldeho_accepted) text = "the call would be accepted"
   end subroutine world_why_zonal
 
   ! Why a meridional is refused in this world, in words; ask after the refusal, before the world changes.
   subroutine world_why_meridional(world, layer, fluxes, text)
-    class(puldeho_world), intent(inout), target :: world
+    class(puldeho_world), intent(in), target :: world
     integer(c_int32_t), intent(in) :: layer
     integer(c_int32_t), intent(in) :: fluxes(:)
     character(len=:), allocatable, intent(out) :: text
     character(kind=c_char) :: words(why_size)
     integer(c_int) :: refusal
 
-    call with_lists(world)
     refusal = c_why_meridional( &
         world_of(world), layer, fluxes, size(fluxes, kind=c_size_t), words, int(why_size, c_size_t))
     text = text_of(words)
-    if (refusal == puldeho_accepted) text = "the call would be accepted"
   end subroutine world_why_meridional
 
   ! Why a remap is refused in this world, in words; ask after the refusal, before the world changes.
   subroutine world_why_remap(world, table, text)
-    class(puldeho_world), intent(inout), target :: world
+    class(puldeho_world), intent(in), target :: world
     integer(c_int32_t), intent(in) :: table(:)
     character(len=:), allocatable, intent(out) :: text
     character(kind=c_char) :: words(why_size)
     integer(c_int) :: refusal
 
-    call with_lists(world)
     refusal = c_why_remap( &
         world_of(world), table, size(table, kind=c_size_t), words, int(why_size, c_size_t))
     text = text_of(words)
-    if (refusal == puldeho_accepted) text = "the call would be accepted"
   end subroutine world_why_remap
 
   ! Why a total is refused in this world, in words; ask after the refusal, before the world changes.
   subroutine world_why_total(world, tracer, text)
-    class(puldeho_world), intent(inout), target :: world
+    class(puldeho_world), intent(in), target :: world
     integer(c_int32_t), intent(in) :: tracer
     character(len=:), allocatable, intent(out) :: text
     character(kind=c_char) :: words(why_size)
     integer(c_int) :: refusal
 
-    call with_lists(world)
     refusal = c_why_total( &
         world_of(world), tracer, words, int(why_size, c_size_t))
     text = text_of(words)
-    if (refusal == puldeho_accepted) text = "the call would be accepted"
   end subroutine world_why_total
 
   ! Why a cell is refused in this world, in words; ask after the refusal, before the world changes.
   subroutine world_why_cell(world, tracer, cell, text)
-    class(puldeho_world), intent(inout), target :: world
+    class(puldeho_world), intent(in), target :: world
     integer(c_int32_t), intent(in) :: tracer
     integer(c_int32_t), intent(in) :: cell
     character(len=:), allocatable, intent(out) :: text
     character(kind=c_char) :: words(why_size)
     integer(c_int) :: refusal
 
-    call with_lists(world)
     refusal = c_why_cell( &
         world_of(world), tracer, cell, words, int(why_size, c_size_t))
     text = text_of(words)
-    if (refusal == puldeho_accepted) text = "the call would be accepted"
   end subroutine world_why_cell
 
   ! Why a load of these lists is refused, in words.
@@ -639,7 +637,6 @@ contains
     call copy_lists(world, grid, air, tracers)
     refusal = c_why_load(world_of(world), words, int(why_size, c_size_t))
     text = text_of(words)
-    if (refusal == puldeho_accepted) text = "the call would be accepted"
   end subroutine puldeho_why_load
 
   ! The world as C has it.
@@ -651,6 +648,7 @@ contains
     lent%r = world%grid%r
     lent%k = world%grid%k
     lent%n = world%grid%n
+    if (.not. has_lists(world)) return
     lent%air = c_loc(world%air)
     lent%air_length = size(world%air, kind=c_size_t)
     lent%tracers = c_loc(world%tracers)
@@ -673,13 +671,13 @@ contains
     end do
   end function text_of
 
-  ! A world that was never loaded gets empty lists, so that a call can be refused.
-  subroutine with_lists(world)
-    class(puldeho_world), intent(inout) :: world
+  ! Whether the world was ever loaded; before that it has neither grid nor lists.
+  pure function has_lists(world) result(has)
+    class(puldeho_world), intent(in) :: world
+    logical :: has
 
-    if (.not. allocated(world%air)) allocate (world%air(0))
-    if (.not. allocated(world%tracers)) allocate (world%tracers(0))
-  end subroutine with_lists
+    has = allocated(world%air) .and. allocated(world%tracers)
+  end function has_lists
 
   pure function refusal_of(returned) result(refusal)
     integer(c_int64_t), intent(in) :: returned

@@ -1,4 +1,5 @@
-! The words of the Fortran module that say why a call is refused, and a world that is kept and brought back.
+! The Fortran module: words that say why a call is refused, a world that is kept and brought back, a load that is refused,
+! readings of a world that is only read, lengths and cell numbers.
 ! The exit status is not 0 if anything differs.
 program test
   use puldeho
@@ -45,9 +46,44 @@ program test
   if (any(world%tracers /= [0, 0, 100, 150, 100, 0]) .or. any(world%air /= air)) error stop "loaded again, the world differs"
   world = kept
   if (any(world%tracers /= tracers) .or. lbound(world%air, 1) /= 0) error stop "the kept world differs"
+  call world%load(grid, [0, 0, 0, 0, 0, 0], tracers, refusal)
+  call gives(puldeho_refusal_air_range)
+  if (any(world%air /= air) .or. any(world%tracers /= tracers)) error stop "a refused load changed the world"
+  call world%emission(0, 0, 1000000, refusal)
+  call gives(puldeho_accepted)
+  call read_only(world)
+  call numbers(puldeho_grid(6, 3, 2, 5))
   print "(a)", "the Fortran module: as it should be"
 
 contains
+
+  ! Readings and words take a world that may not be written. A count may be above 65,535.
+  subroutine read_only(one)
+    type(puldeho_world), intent(in) :: one
+    integer :: units
+
+    call one%total(0, refusal, units)
+    if (refusal /= puldeho_accepted .or. units /= 1000400) error stop "the total differs"
+    call one%cell(0, 0, refusal, units)
+    if (refusal /= puldeho_accepted .or. units /= 1000000) error stop "the cell differs"
+    call one%why_zonal(0, 0, [0, 100, 0, 0], text)
+    if (index(text, "the fluxes themselves must diverge less at this cell") /= len(text) - 51) error stop "the words are cut"
+  end subroutine read_only
+
+  subroutine numbers(other)
+    type(puldeho_grid), intent(in) :: other
+    integer :: absent(7)
+
+    if (any([puldeho_air_length(other), puldeho_tracers_length(other), puldeho_zonal_fluxes_length(other), &
+        puldeho_meridional_fluxes_length(other), puldeho_remap_table_length(other)] /= [40, 200, 6, 24, 6])) &
+        error stop "a length differs"
+    if (any([puldeho_cell_number(other, 1, 2, 5), puldeho_south_cap(other, 1), puldeho_north_cap(other, 1)] /= [38, 20, 39])) &
+        error stop "a cell number differs"
+    absent = [puldeho_cell_number(other, 2, 0, 0), puldeho_cell_number(other, 0, 3, 0), puldeho_cell_number(other, 0, 0, 6), &
+        puldeho_cell_number(other, 0, 0, -1), puldeho_south_cap(other, 2), puldeho_north_cap(other, 2), &
+        puldeho_north_cap(other, -1)]
+    if (any(absent /= puldeho_no_cell)) error stop "an absent place has a number"
+  end subroutine numbers
 
   subroutine says(beginning)
     character(len=*), intent(in) :: beginning

@@ -1,5 +1,5 @@
 """The C header, bindings/puldeho.h, and the calls of the C reader of scripts, bindings/c/calls.c."""
-from tables import GRID, MADE, OWN, RAW, WORLD, constant, described, filled, in_terms, is_list, is_written, largest, length_name, length_text, own
+from tables import GRID, MADE, OWN, RAW, WHY_SIZE, WORLD, constant, described, filled, in_terms, is_list, is_written, largest, length_name, length_text, own
 from tables import world_lists, wrapped
 
 TYPES = {"u32": "uint32_t ", "&[u32]": "const uint32_t *", "&mut [u32]": "uint32_t *", "&[i32]": "const int32_t *"}
@@ -165,6 +165,7 @@ def header(tables):
         "RAWS": "\n".join(map(raw, tables.calls)),
         "CALLS": "".join(map(prototype, tables.calls)),
         "BODIES": "".join(map(function, tables.calls)),
+        "WHYSIZE": str(WHY_SIZE),
         "WHYS": "\n".join(map(why, tables.calls)),
     })
 

@@ -16,6 +16,9 @@ class Refusal(enum.IntEnum):
 
 @REFUSALS@
 
+# Bytes that are room enough for any text that says why a call is refused.
+WHY_SIZE = @WHYSIZE@
+
 # The condition of each refusal, in words.
 CONDITIONS = {
 @CONDITIONS@}

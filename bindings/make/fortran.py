@@ -1,7 +1,7 @@
 """The Fortran module, bindings/fortran/puldeho.f90."""
 import textwrap
 
-from tables import GRID, MADE, RAW, WORLD, abi, constant, filled, in_terms, is_list, is_written, largest, length_name, length_text, own, world_lists
+from tables import GRID, MADE, RAW, WHY_SIZE, WORLD, abi, constant, filled, in_terms, is_list, is_written, largest, length_name, length_text, own, world_lists
 from tables import wrapped
 
 
@@ -62,12 +62,10 @@ def why_method(call):
         arguments += [p.name, "size(%s, kind=c_size_t)" % p.name] if is_list(p) else [p.name]
     return (
         "\n  ! Why a {0} is refused in this world, in words; ask after the refusal, before the world changes.\n"
-        "  subroutine world_why_{0}({1})\n    class(puldeho_world), intent(inout), target :: world\n{2}"
+        "  subroutine world_why_{0}({1})\n    class(puldeho_world), intent(in), target :: world\n{2}"
         "    character(len=:), allocatable, intent(out) :: text\n"
         "    character(kind=c_char) :: words(why_size)\n    integer(c_int) :: refusal\n\n"
-        "    call with_lists(world)\n    refusal = c_why_{0}( &\n        {3})\n"
-        "    text = text_of(words)\n    if (refusal == puldeho_accepted) text = \"the call would be accepted\"\n"
-        "  end subroutine world_why_{0}\n"
+        "    refusal = c_why_{0}( &\n        {3})\n    text = text_of(words)\n  end subroutine world_why_{0}\n"
     ).format(call.name, ", ".join(names), declared, listed(arguments + ["words", "int(why_size, c_size_t)"], "        "))
 
 
@@ -90,15 +88,16 @@ def method(call):
     )
     if call.count:
         declared += "    integer(c_int32_t), intent(out), optional :: %s\n" % call.count.name
-    intent = "inout"
+    intent = "in" if call.world == "read" else "inout"
     comment = wrapped("%s Refusals, in order: %s." % (call.does, call.refusals), 110, "  ! ")
     return (
         "\n{0}\n{1}  subroutine world_{2}({3})\n    class(puldeho_world), intent({4}) :: world\n"
         "    integer(c_int32_t), intent(out) :: refusal\n{5}    integer(c_int64_t) :: returned\n\n"
-        "    call with_lists(world)\n    returned = {6}{2}( &\n        {7})\n"
-        "    refusal = refusal_of(returned)\n{8}  end subroutine world_{2}\n"
+        "    refusal = puldeho_refusal_grid_range\n{8}    if (.not. has_lists(world)) return\n"
+        "    returned = {6}{2}( &\n        {7})\n    refusal = refusal_of(returned)\n{9}  end subroutine world_{2}\n"
     ).format(
         comment, count, call.name, ", ".join(names), intent, declared, RAW, given(call, "world"),
+        "    if (present({0})) {0} = 0\n".format(call.count.name) if call.count else "",
         "    if (present({0})) {0} = count_of(returned)\n".format(call.count.name) if call.count else "",
     )
 
@@ -159,7 +158,8 @@ def module(tables):
             "    allocate (world%%%s(0:min(puldeho_%s(grid), %d) - 1), source=0)\n" % (l.name, length_name(l), largest(l, tables)) for l in owned
         ),
         "KEPT": "".join("    call move_alloc(loaded%{0}, world%{0})\n".format(l.name) for l in lists),
-        "EMPTY": "".join("    if (.not. allocated(world%{0})) allocate (world%{0}(0))\n".format(l.name) for l in lists),
+        "ALLOCATED": " .and. ".join("allocated(world%%%s)" % l.name for l in lists),
+        "WHYSIZE": str(WHY_SIZE),
         "CALLS": "".join(map(method, later)),
         "LENGTHS": "".join(map(length, tables.lists)),
         "CONDITIONS": texts(tables, "condition"),

@@ -1,24 +1,43 @@
-"""The table of refusals in docs/GUIDE.md, with causes and remedies."""
+"""The table of refusals in docs/GUIDE.md, with causes and remedies, and the table of calls in README.md."""
 import re
 import sys
 
-GUIDE = "docs/GUIDE.md"
-BEGIN = "<!-- refusals: made by tools/bindings -->\n"
-END = "<!-- refusals end -->\n"
+from tables import is_list, own
+
+GUIDE, README = "docs/GUIDE.md", "README.md"
 
 
-def table(tables):
-    """The table as lines."""
-    lines = ["| Refusal | Condition | Usual cause | What to do |", "|---|---|---|---|"]
-    for r in tables.refusals + tables.programs:
-        lines.append("| %d | %s | %s | %s |" % (r.number, r.condition, r.cause, r.remedy))
-    return "\n".join(lines) + "\n"
+def between(path, name, made):
+    """A file with something made between its two marks of a name."""
+    begin, end = "<!-- %s: made by tools/bindings -->\n" % name, "<!-- %s end -->\n" % name
+    text = open(path, encoding="utf-8").read()
+    if text.count(begin) != 1 or text.count(end) != 1:
+        sys.exit("%s: the marks of the table of %s do not stand there once" % (path, name))
+    return re.sub(re.escape(begin) + ".*?" + re.escape(end), lambda _: begin + "\n" + made + "\n" + end, text, flags=re.S)
+
+
+def table(heads, rows):
+    """A table of Markdown."""
+    lines = [heads, ["---"] * len(heads)] + rows
+    return "".join("| %s |\n" % " | ".join(line) for line in lines).replace("| --- ", "|---").replace("--- |", "---|")
 
 
 def guide(tables):
-    """docs/GUIDE.md, with the table between its two marks."""
-    text = open(GUIDE, encoding="utf-8").read()
-    if text.count(BEGIN) != 1 or text.count(END) != 1:
-        sys.exit("%s: the marks of the table of refusals do not stand there once" % GUIDE)
-    made = BEGIN + "\n" + table(tables) + "\n" + END
-    return re.sub(re.escape(BEGIN) + ".*?" + re.escape(END), lambda _: made, text, flags=re.S)
+    """docs/GUIDE.md."""
+    rows = [[str(r.number), r.condition, r.cause, r.remedy] for r in tables.refusals + tables.programs]
+    return between(GUIDE, "refusals", table(["Refusal", "Condition", "Usual cause", "What to do"], rows))
+
+
+def arguments(call, lengths):
+    """A call's own arguments, a list with its length."""
+    words = ["%s (%s numbers)" % (p.name, lengths[call.name, p.name]) if is_list(p) else p.name for p in own(call)]
+    return ", ".join(words) or "–"
+
+
+def readme(tables):
+    """README.md."""
+    lengths = {(lent.owner, lent.name): lent.length.upper().replace("*", "·") for lent in tables.lists}
+    rows = [
+        ["`%s`" % call.name, arguments(call, lengths), call.refusals, "%s: %s" % call.count if call.count else "–"] for call in tables.calls
+    ]
+    return between(README, "calls", table(["Call", "Arguments beside the world", "Refusals, in order", "Count"], rows))

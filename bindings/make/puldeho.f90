@@ -52,7 +52,7 @@ module puldeho
 @CFIELDS@  end type c_world
 
   ! PULDEHO_WHY_SIZE of the C header.
-  integer, parameter :: why_size = 1024
+  integer, parameter :: why_size = @WHYSIZE@
 
   ! Does nothing. A library of another version, whose functions may take other arguments, has no such name.
   interface
@@ -107,7 +107,6 @@ contains
     call copy_lists(world, grid, @LOADED@)
     refusal = c_why_load(world_of(world), words, int(why_size, c_size_t))
     text = text_of(words)
-    if (refusal == puldeho_accepted) text = "the call would be accepted"
   end subroutine puldeho_why_load
 
   ! The world as C has it.
@@ -119,6 +118,7 @@ contains
     lent%r = world%grid%r
     lent%k = world%grid%k
     lent%n = world%grid%n
+    if (.not. has_lists(world)) return
 @LENT@  end function world_of
 
   ! A text of C, which ends with a null character.
@@ -137,11 +137,13 @@ contains
     end do
   end function text_of
 
-  ! A world that was never loaded gets empty lists, so that a call can be refused.
-  subroutine with_lists(world)
-    class(puldeho_world), intent(inout) :: world
+  ! Whether the world was ever loaded; before that it has neither grid nor lists.
+  pure function has_lists(world) result(has)
+    class(puldeho_world), intent(in) :: world
+    logical :: has
 
-@EMPTY@  end subroutine with_lists
+    has = @ALLOCATED@
+  end function has_lists
 
   pure function refusal_of(returned) result(refusal)
     integer(c_int64_t), intent(in) :: returned

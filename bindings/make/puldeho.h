@@ -191,7 +191,7 @@ static inline enum puldeho_refusal puldeho_copy(struct puldeho_world *to, const 
  * refusal, before the world changes. `text` gets at most `size` bytes with the final 0;
  * PULDEHO_WHY_SIZE are enough for any. These functions are plain C and not proved; they only read.
  */
-#define PULDEHO_WHY_SIZE 1024
+#define PULDEHO_WHY_SIZE @WHYSIZE@
 
 @WHYS@
 /*

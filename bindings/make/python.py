@@ -1,5 +1,5 @@
 """The Python package's made part, bindings/python/puldeho/calls.py."""
-from tables import MADE, WORLD, abi, constant, filled, full_name, in_terms, largest, length_name, length_text, own, world_lists, wrapped
+from tables import MADE, WHY_SIZE, WORLD, abi, constant, filled, full_name, in_terms, largest, length_name, length_text, own, world_lists, wrapped
 
 
 def table(tables, field):
@@ -56,6 +56,7 @@ def calls(tables):
         "LIMITS": "".join("# %s\n%s = %d\n" % (l.what[0].upper() + l.what[1:], l.name, l.number) for l in tables.limits),
         "EXPORTED": ", ".join('"%s"' % l.name for l in tables.limits),
         "REFUSALS": "".join("    %s = %d\n" % (constant(r.name), r.number) for r in tables.refusals),
+        "WHYSIZE": str(WHY_SIZE),
         "CONDITIONS": table(tables, "condition"),
         "REMEDIES": table(tables, "remedy"),
         "WORLD": ", ".join('"%s"' % name for name in WORLD),

@@ -1,4 +1,4 @@
-"""The tables of bindings/: calls, lists, refusals, stacks, version. Each is read, and held to the crates that it speaks of."""
+"""The tables of bindings/: calls, lists, limits, refusals, stacks, version. Each is read, and held to the crates that it speaks of."""
 import re
 import sys
 import textwrap
@@ -18,6 +18,8 @@ MOST = {"w": "MOST_COLUMNS", "r": "MOST_ROWS", "k": "MOST_LAYERS", "n": "MOST_TR
 TYPES = ("u32", "&[u32]", "&mut [u32]", "&[i32]")
 MADE = "Made by tools/bindings from the tables of bindings/: not to be edited."
 RAW = "puldeho_raw_"
+# Bytes that are room enough for any text that says why a call is refused.
+WHY_SIZE = 1024
 
 
 def rows(path, fields):

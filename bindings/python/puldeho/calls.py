@@ -50,6 +50,9 @@ class Refusal(enum.IntEnum):
     REMAP = 12
 
 
+# Bytes that are room enough for any text that says why a call is refused.
+WHY_SIZE = 1024
+
 # The condition of each refusal, in words.
 CONDITIONS = {
     Refusal.GRID_RANGE: "W, R, K or N is outside its range",

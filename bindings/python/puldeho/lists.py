@@ -40,8 +40,15 @@ def flat(value):
         yield from flat(one) if isinstance(one, (list, tuple)) else [one]
 
 
-def owner(name, value, kind):
+def nesting(value):
+    """The shape of a list of lists, by the first entry of each."""
+    return (len(value),) + nesting(value[0]) if isinstance(value, (list, tuple)) and value else ()
+
+
+def owner(name, value, kind, shape):
     """The object whose memory is lent: the value itself if it has the buffer protocol, else an array with its numbers."""
+    if isinstance(value, (dict, set, frozenset)):
+        raise TypeError("%s: wants a list or an array, and has a %s" % (name, type(value).__name__))
     mask = getattr(value, "mask", None)
     if mask is not None and mask.any():
         raise ValueError("%s: has masked entries, whose numbers mean nothing" % name)
@@ -50,6 +57,7 @@ def owner(name, value, kind):
         return value
     except TypeError:
         pass
+    check_shape(name, nesting(value), shape)
     try:
         return array.array(NUMBERS[kind][0], flat(value))
     except (TypeError, OverflowError) as error:
@@ -61,11 +69,11 @@ def copied(value):
     return array.array("I", value.tobytes()) if isinstance(value, memoryview) else copy.copy(value)
 
 
-def check_shape(name, view, shape):
-    """Fails at an array of several dimensions, as many numbers as wanted, in another order. Dimensions of 1 do not count."""
-    has, wants = ([size for size in one if size != 1] for one in (view.shape, shape))
-    if view.ndim > 1 and view.nbytes // 4 == math.prod(shape) and has != wants:
-        raise ValueError("%s: has the shape %s, and wants %s, or one dimension" % (name, view.shape, shape))
+def check_shape(name, has, wants):
+    """Fails at several dimensions with as many numbers as wanted, in another order. Dimensions of 1 do not count."""
+    several = [[size for size in shape if size != 1] for shape in (has, wants)]
+    if len(has) > 1 and math.prod(has) == math.prod(wants) and several[0] != several[1]:
+        raise ValueError("%s: has the shape %s, and wants %s, or one dimension" % (name, tuple(has), wants))
 
 
 def lent(name, value, kind, shape):
@@ -81,7 +89,7 @@ def lent(name, value, kind, shape):
         )
     if not view.c_contiguous:
         raise ValueError("%s: the numbers do not lie side by side; numpy.ascontiguousarray makes a copy that does" % name)
-    check_shape(name, view, shape)
+    check_shape(name, view.shape, shape)
     length = view.nbytes // 4
     if kind.startswith("&mut") and view.readonly:
         raise ValueError("%s: the calls change it, and it is read-only; give a copy" % name)
@@ -95,7 +103,7 @@ def argument(name, value, kind, shape):
     """One of a call's own arguments: a number, or a list of some shape."""
     if kind == "u32":
         return u32(name, value)
-    return lent(name, owner(name, value, kind[-4:-1]), kind, shape)
+    return lent(name, owner(name, value, kind[-4:-1], shape), kind, shape)
 
 
 def parts(one):

@@ -16,32 +16,24 @@ class World(ctypes.Structure):
     ] + [("own_" + name, ctypes.c_uint32 * most) for name, most in OWN.items()]
 
 
-def places():
-    """Where the library may be: as PULDEHO_LIBRARY says, in the repository, installed (PREFIX/share/puldeho/python), on the loader's path."""
-    if "PULDEHO_LIBRARY" in os.environ:
-        return [os.environ["PULDEHO_LIBRARY"]]
-    return [
-        os.path.join(HERE, "..", "..", "..", "target", "lib", SONAME),
-        os.path.join(HERE, "..", "..", "..", "..", "lib", SONAME),
-        SONAME,
-    ]
+def place():
+    """Where the library is: as PULDEHO_LIBRARY says; in the repository, target/lib; installed, the prefix of this package."""
+    top = os.path.join(HERE, "..", "..", "..")
+    folder = os.path.join(top, "target", "lib") if os.path.exists(os.path.join(top, "crates.txt")) else os.path.join(top, "..", "lib")
+    return os.environ.get("PULDEHO_LIBRARY") or os.path.normpath(os.path.join(folder, SONAME))
 
 
 @functools.lru_cache(maxsize=None)
 def library():
     """The library, loaded once."""
-    for place in places():
-        try:
-            found = ctypes.CDLL(place)
-        except OSError:
-            continue
-        if not hasattr(found, ABI):
-            raise OSError("%s is the library of another version; this package wants %s" % (place, SONAME))
-        return found
-    raise OSError(
-        "%s is not found: tools/library builds it in the repository, tools/install PREFIX puts it under a prefix, "
-        "and PULDEHO_LIBRARY may name the file" % SONAME
-    )
+    try:
+        found = ctypes.CDLL(place())
+    except OSError as error:
+        advice = "tools/library builds it in the repository, tools/install PREFIX puts it under a prefix, and PULDEHO_LIBRARY may name the file"
+        raise OSError("%s cannot be loaded (%s): %s" % (place(), error, advice)) from None
+    if not hasattr(found, ABI):
+        raise OSError("%s is the library of another version; this package wants %s" % (place(), SONAME))
+    return found
 
 
 def types(parameters):

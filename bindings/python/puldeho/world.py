@@ -4,10 +4,8 @@ import collections
 import ctypes
 
 from . import lists, shared
-from .calls import CONDITIONS, OWN, REMEDIES, SHAPES, SIGNATURES, WORLD, Calls, Lengths, Refusal
+from .calls import CONDITIONS, OWN, REMEDIES, SHAPES, SIGNATURES, WHY_SIZE, WORLD, Calls, Lengths, Refusal
 
-# PULDEHO_WHY_SIZE of the header.
-WHY_SIZE = 1024
 # Where `why` says for the world at hand what would help, the general remedy is left out.
 CURED = (Refusal.ZONAL, Refusal.MERIDIONAL, Refusal.REMAP)
 
@@ -66,8 +64,8 @@ class World(Calls):
     """A world over air and tracers, made by a load; a load that is refused raises Refused.
 
     Each list is anything with the buffer protocol that holds 32-bit unsigned numbers side by side and may be
-    written, such as a numpy array of uint32, and is used without a copy: the calls change it in place. Arrays may
-    have any number of dimensions, such as grid.air_shape. A plain list of numbers is copied; the copy is world.air
+    written, such as a numpy array of uint32, and is used without a copy: the calls change it in place. Arrays have
+    one dimension or the shape grid.air_shape, grid.tracers_shape. A plain list of numbers is copied; the copy is world.air
     or world.tracers. Do not write the lists while a call runs. A world takes no attributes of yours: a later version
     may give a name to something of its own.
     """
@@ -83,10 +81,9 @@ class World(Calls):
     def _lend(self, grid, **given):
         """Takes the grid and the lists, untested."""
         self._grid = grid
-        self._kept = {name: lists.owner(name, value, "u32") for name, value in given.items()}
-        self._lists = {
-            name: lists.lent(name, value, "&mut [u32]", grid.shape("world", name)) for name, value in self._kept.items()
-        }
+        shapes = {name: grid.shape("world", name) for name in given}
+        self._kept = {name: lists.owner(name, value, "u32", shapes[name]) for name, value in given.items()}
+        self._lists = {name: lists.lent(name, value, "&mut [u32]", shapes[name]) for name, value in self._kept.items()}
         self._apart(self._lists)
 
     def copy(self):

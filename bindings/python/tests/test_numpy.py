@@ -66,6 +66,8 @@ class Arrays(unittest.TestCase):
     def test_other_shapes(self):
         with self.assertRaisesRegex(ValueError, r"air: has the shape \(20, 2\), and wants \(2, 20\), or one dimension"):
             puldeho.World(GRID, self.air.T.copy(), self.tracers)
+        with self.assertRaisesRegex(ValueError, r"tracers: has the shape \(20, 2, 2\), and wants \(2, 2, 20\)"):
+            puldeho.World(GRID, self.air, self.tracers.T.copy())
         with self.assertRaisesRegex(ValueError, r"fluxes: has the shape \(6, 4\), and wants \(4, 6\)"):
             self.world.meridional(0, numpy.zeros((GRID.w, GRID.r + 1), dtype=numpy.int32))
         with self.assertRaisesRegex(puldeho.Refused, "refused with 2"):

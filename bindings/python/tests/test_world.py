@@ -105,6 +105,13 @@ class NotTaken(unittest.TestCase):
         with self.assertRaisesRegex(ValueError, "air: the numbers do not lie side by side"):
             puldeho.World(GRID, every_other, TRACERS)
 
+    def test_other_lists(self):
+        with self.assertRaisesRegex(ValueError, r"fluxes: has the shape \(4, 2\), and wants \(2, 4\)"):
+            world().meridional(0, [[0, 0]] * 4)
+        self.assertEqual(world().meridional(0, [[0] * 4] * 2), 1)
+        with self.assertRaisesRegex(TypeError, "fluxes: wants a list or an array, and has a dict"):
+            world().zonal(0, 0, {0: 1, 1: 1, 2: 1, 3: 1})
+
     def test_shared_memory(self):
         both = memoryview(array.array("I", [100] * 11))
         with self.assertRaisesRegex(ValueError, "air and tracers share memory"):
@@ -138,6 +145,8 @@ class Refusals(unittest.TestCase):
         refused = self.refused(9, "zonal", 0, 0, [0, 100, 0, 0])
         self.assertIn("zonal refused with 9 (no count from 1 to 16 serves): cell 2", str(refused))
         self.assertNotIn("What to do", str(refused))
+        self.assertTrue(refused.why.endswith("must diverge less at this cell"))
+        self.assertNotIn("What to do", str(self.refused(10, "meridional", 0, [100, 0, 0, 0, 0, 0, 0, 0])))
         self.assertIn("What to do: count from 0", str(self.refused(5, "total", 1)))
         self.assertIn("column 1", refused.why)
         self.assertIn(refused.why, str(refused))

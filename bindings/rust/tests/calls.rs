@@ -44,6 +44,12 @@ fn every_method_makes_its_call() {
 }
 
 #[test]
+fn readings_take_a_world_that_is_only_read() {
+    let world = World::load(GRID, AIR, TRACERS).unwrap();
+    assert_eq!((world.total(0), world.cell(0, 3)), (Ok(400), Ok(200)));
+}
+
+#[test]
 fn lengths_and_cell_numbers() {
     let grid = Grid {
         w: 6,
