@@ -1,6 +1,19 @@
 // @MADE@
 
-use crate::{outcome, Grid};
+use crate::{outcome, words, Grid};
+use std::ffi::{c_char, c_int};
+
+/// Bytes that are room enough for any text that says why a call is refused.
+pub(crate) const WHY_SIZE: usize = @WHYSIZE@;
+
+/// struct puldeho_world of the C header.
+#[repr(C)]
+struct CWorld {
+    grid: Grid,
+@CFIELDS@}
+
+extern "C" {
+@WHYEXTERNS@}
 
 /// Does nothing, and is linked with the library of this version only: another one's functions may take other arguments.
 pub(crate) fn same_version() {
@@ -34,11 +47,26 @@ impl World {
         Ok(world)
     }
 
+    /// Why a load of these lists is refused, in words.
+    pub fn why_load(grid: Grid, @GIVEN@) -> String {
+        let given = World { grid, @MADEOF@ };
+        let world = given.lent();
+        // SAFETY: each pointer goes with its list's length, and nothing but the text is written.
+        words(|text, size| unsafe { puldeho_why_load(&world, text, size) })
+    }
+
+    /// The world as C has it.
+    fn lent(&self) -> CWorld {
+        CWorld {
+            grid: self.grid,
+@CVALUES@        }
+    }
+
     /// The grid.
     pub fn grid(&self) -> Grid {
         self.grid
     }
-@READ@@METHODS@}
+@READ@@METHODS@@WHYS@}
 
 /// The calls over lists that the caller keeps and lends, each with the grid: any numbers and lengths are answered.
 /// A later version may lend further lists; programs over [`World`] do not change then.

@@ -1,5 +1,6 @@
 """The Rust wrapper's made part, bindings/rust/src/calls.rs, and the comparison's calls, compare/src/library.rs."""
-from tables import GRID, MADE, RAW, WORLD, abi, filled, in_terms, is_list, is_written, largest, length_name, length_text, own, world_lists
+from tables import GRID, MADE, RAW, WHY_SIZE, WORLD, abi, filled, in_terms, is_list, is_written, largest, length_name, length_text, own
+from tables import world_lists
 
 POINTERS = {"&[u32]": ("*const u32", "as_ptr"), "&mut [u32]": ("*mut u32", "as_mut_ptr"), "&[i32]": ("*const i32", "as_ptr")}
 
@@ -70,6 +71,25 @@ def method(call):
     )
 
 
+def why_extern(call):
+    """The C function that says why a call is refused."""
+    listed = ["world: *const CWorld"]
+    for p in own(call):
+        listed.append("%s: %s, %s_length: usize" % (p.name, POINTERS[p.type][0], p.name) if is_list(p) else p.name + ": u32")
+    return "    fn puldeho_why_%s(%s) -> c_int;\n" % (call.name, ", ".join(listed + ["text: *mut c_char", "size: usize"]))
+
+
+def why_method(call):
+    """The same as a method of the world."""
+    given = ["%s.as_ptr(), %s.len()" % (p.name, p.name) if is_list(p) else p.name for p in own(call)]
+    return (
+        "\n    /// Why the call is refused in this world, in words; ask after the refusal, before the world changes.\n"
+        "    pub fn why_%s(&self%s) -> String {\n        let world = self.lent();\n"
+        "        // SAFETY: each pointer goes with its list's length, and nothing but the text is written.\n"
+        "        words(|text, size| unsafe { puldeho_why_%s(%s) })\n    }\n"
+    ) % (call.name, "".join(", %s: %s" % p for p in own(call)), call.name, ", ".join(["&world"] + given + ["text", "size"]))
+
+
 def wrapper(tables):
     """bindings/rust/src/calls.rs."""
     lists, asked, owned = world_lists(tables)
@@ -93,6 +113,13 @@ def wrapper(tables):
             for l in lists
         ),
         "METHODS": "".join(method(call) for call in tables.calls if call.name != "load"),
+        "WHYS": "".join(why_method(call) for call in tables.calls if call.name != "load"),
+        "WHYEXTERNS": "".join(map(why_extern, tables.calls)),
+        "WHYSIZE": str(WHY_SIZE),
+        "CFIELDS": "".join("    {0}: *const u32,\n    {0}_length: usize,\n".format(l.name) for l in lists)
+        + "".join("    own_%s: [u32; %d],\n" % (l.name, largest(l, tables)) for l in owned),
+        "CVALUES": "".join("            {0}: self.{0}.as_ptr(),\n            {0}_length: self.{0}.len(),\n".format(l.name) for l in lists)
+        + "".join("            own_%s: [0; %d],\n" % (l.name, largest(l, tables)) for l in owned),
         "EXTERNS": "".join(map(extern, tables.calls)).replace("\n", "\n    ").rstrip(" "),
         "RAWS": "".join(map(raw, tables.calls)),
     })

@@ -1,6 +1,31 @@
 // Made by tools/bindings from the tables of bindings/: not to be edited.
 
-use crate::{outcome, Grid};
+use crate::{outcome, words, Grid};
+use std::ffi::{c_char, c_int};
+
+/// Bytes that are room enough for any text that says why a call is refused.
+pub(crate) const WHY_SIZE: usize = 1024;
+
+/// struct puldeho_world of the C header.
+#[repr(C)]
+struct CWorld {
+    grid: Grid,
+    air: *const u32,
+    air_length: usize,
+    tracers: *const u32,
+    tracers_length: usize,
+}
+
+extern "C" {
+    fn puldeho_why_load(world: *const CWorld, text: *mut c_char, size: usize) -> c_int;
+    fn puldeho_why_emission(world: *const CWorld, tracer: u32, cell: u32, amount: u32, text: *mut c_char, size: usize) -> c_int;
+    fn puldeho_why_withdrawal(world: *const CWorld, tracer: u32, cell: u32, amount: u32, text: *mut c_char, size: usize) -> c_int;
+    fn puldeho_why_zonal(world: *const CWorld, layer: u32, row: u32, fluxes: *const i32, fluxes_length: usize, text: *mut c_char, size: usize) -> c_int;
+    fn puldeho_why_meridional(world: *const CWorld, layer: u32, fluxes: *const i32, fluxes_length: usize, text: *mut c_char, size: usize) -> c_int;
+    fn puldeho_why_remap(world: *const CWorld, table: *const u32, table_length: usize, text: *mut c_char, size: usize) -> c_int;
+    fn puldeho_why_total(world: *const CWorld, tracer: u32, text: *mut c_char, size: usize) -> c_int;
+    fn puldeho_why_cell(world: *const CWorld, tracer: u32, cell: u32, text: *mut c_char, size: usize) -> c_int;
+}
 
 /// Does nothing, and is linked with the library of this version only: another one's functions may take other arguments.
 pub(crate) fn same_version() {
@@ -166,6 +191,25 @@ impl World {
         Ok(world)
     }
 
+    /// Why a load of these lists is refused, in words.
+    pub fn why_load(grid: Grid, air: impl Into<Vec<u32>>, tracers: impl Into<Vec<u32>>) -> String {
+        let given = World { grid, air: air.into(), tracers: tracers.into() };
+        let world = given.lent();
+        // SAFETY: each pointer goes with its list's length, and nothing but the text is written.
+        words(|text, size| unsafe { puldeho_why_load(&world, text, size) })
+    }
+
+    /// The world as C has it.
+    fn lent(&self) -> CWorld {
+        CWorld {
+            grid: self.grid,
+            air: self.air.as_ptr(),
+            air_length: self.air.len(),
+            tracers: self.tracers.as_ptr(),
+            tracers_length: self.tracers.len(),
+        }
+    }
+
     /// The grid.
     pub fn grid(&self) -> Grid {
         self.grid
@@ -240,6 +284,55 @@ impl World {
     /// Refusals, in order: 1 2 3 4 5.
     pub fn cell(&self, tracer: u32, cell: u32) -> Result<u32, Refusal> {
         raw::cell(self.grid, &self.air, &self.tracers, tracer, cell)
+    }
+
+    /// Why the call is refused in this world, in words; ask after the refusal, before the world changes.
+    pub fn why_emission(&self, tracer: u32, cell: u32, amount: u32) -> String {
+        let world = self.lent();
+        // SAFETY: each pointer goes with its list's length, and nothing but the text is written.
+        words(|text, size| unsafe { puldeho_why_emission(&world, tracer, cell, amount, text, size) })
+    }
+
+    /// Why the call is refused in this world, in words; ask after the refusal, before the world changes.
+    pub fn why_withdrawal(&self, tracer: u32, cell: u32, amount: u32) -> String {
+        let world = self.lent();
+        // SAFETY: each pointer goes with its list's length, and nothing but the text is written.
+        words(|text, size| unsafe { puldeho_why_withdrawal(&world, tracer, cell, amount, text, size) })
+    }
+
+    /// Why the call is refused in this world, in words; ask after the refusal, before the world changes.
+    pub fn why_zonal(&self, layer: u32, row: u32, fluxes: &[i32]) -> String {
+        let world = self.lent();
+        // SAFETY: each pointer goes with its list's length, and nothing but the text is written.
+        words(|text, size| unsafe { puldeho_why_zonal(&world, layer, row, fluxes.as_ptr(), fluxes.len(), text, size) })
+    }
+
+    /// Why the call is refused in this world, in words; ask after the refusal, before the world changes.
+    pub fn why_meridional(&self, layer: u32, fluxes: &[i32]) -> String {
+        let world = self.lent();
+        // SAFETY: each pointer goes with its list's length, and nothing but the text is written.
+        words(|text, size| unsafe { puldeho_why_meridional(&world, layer, fluxes.as_ptr(), fluxes.len(), text, size) })
+    }
+
+    /// Why the call is refused in this world, in words; ask after the refusal, before the world changes.
+    pub fn why_remap(&self, table: &[u32]) -> String {
+        let world = self.lent();
+        // SAFETY: each pointer goes with its list's length, and nothing but the text is written.
+        words(|text, size| unsafe { puldeho_why_remap(&world, table.as_ptr(), table.len(), text, size) })
+    }
+
+    /// Why the call is refused in this world, in words; ask after the refusal, before the world changes.
+    pub fn why_total(&self, tracer: u32) -> String {
+        let world = self.lent();
+        // SAFETY: each pointer goes with its list's length, and nothing but the text is written.
+        words(|text, size| unsafe { puldeho_why_total(&world, tracer, text, size) })
+    }
+
+    /// Why the call is refused in this world, in words; ask after the refusal, before the world changes.
+    pub fn why_cell(&self, tracer: u32, cell: u32) -> String {
+        let world = self.lent();
+        // SAFETY: each pointer goes with its list's length, and nothing but the text is written.
+        words(|text, size| unsafe { puldeho_why_cell(&world, tracer, cell, text, size) })
     }
 }
 

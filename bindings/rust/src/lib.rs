@@ -13,6 +13,7 @@ pub use calls::*;
 
 /// The grid: W columns (4 to 72), R rows (1 to 44), K layers (1 to 32), N tracers (1 to 8).
 #[derive(Clone, Copy, Debug, PartialEq, Eq)]
+#[repr(C)]
 pub struct Grid {
     pub w: u32,
     pub r: u32,
@@ -29,11 +30,8 @@ impl Grid {
     /// The number of a cell over all layers, if the grid has it.
     pub fn cell_number(self, layer: u32, row: u32, column: u32) -> Option<u32> {
         let present = layer < self.k && row < self.r && column < self.w;
-        let number = layer as usize * self.cells_in_layer()
-            + 1
-            + (row as usize * self.w as usize)
-            + column as usize;
-        present.then_some(number as u32)
+        let in_layer = 1 + row as usize * self.w as usize + column as usize;
+        present.then(|| (layer as usize * self.cells_in_layer() + in_layer) as u32)
     }
 
     /// The number of a layer's south cap, if the grid has the layer.
@@ -43,8 +41,7 @@ impl Grid {
 
     /// The number of a layer's north cap, if the grid has the layer.
     pub fn north_cap(self, layer: u32) -> Option<u32> {
-        let after = (layer as usize + 1) * self.cells_in_layer();
-        (layer < self.k).then(|| (after - 1) as u32)
+        (layer < self.k).then(|| ((layer as usize + 1) * self.cells_in_layer() - 1) as u32)
     }
 }
 
@@ -61,6 +58,18 @@ impl std::fmt::Display for Refusal {
 }
 
 impl std::error::Error for Refusal {}
+
+/// A text that C writes, at most so many bytes with the final 0.
+fn words(ask: impl FnOnce(*mut std::ffi::c_char, usize) -> std::ffi::c_int) -> String {
+    calls::same_version();
+    let mut text = [0u8; calls::WHY_SIZE];
+    ask(text.as_mut_ptr().cast(), text.len());
+    let length = text
+        .iter()
+        .position(|&byte| byte == 0)
+        .unwrap_or(text.len());
+    String::from_utf8_lossy(&text[..length]).into_owned()
+}
 
 /// What a call returned, answer · 2^32 + count, as a count or a refusal. A refusal has count 0.
 fn outcome(returned: u64) -> Result<u32, Refusal> {

@@ -44,6 +44,21 @@ fn every_method_makes_its_call() {
 }
 
 #[test]
+fn why_says_which_cell_and_what_helps() {
+    let world = World::load(GRID, AIR, TRACERS).unwrap();
+    let why = world.why_zonal(0, 0, &[0, 100, 0, 0]);
+    assert!(why.starts_with("cell 2 (layer 0, row 0, column 1) has air 100"));
+    assert!(why.ends_with("must diverge less at this cell"));
+    let accepted = world.why_zonal(0, 0, &[0, 50, 0, 0]);
+    assert_eq!(accepted, "the call would be accepted");
+    assert!(world
+        .why_emission(0, 6, 1)
+        .starts_with("there is no cell 6"));
+    let thin = World::why_load(GRID, [100, 100, 0, 100, 100, 100], TRACERS);
+    assert!(thin.starts_with("cell 2 (layer 0, row 0, column 1) has air 0"));
+}
+
+#[test]
 fn readings_take_a_world_that_is_only_read() {
     let world = World::load(GRID, AIR, TRACERS).unwrap();
     assert_eq!((world.total(0), world.cell(0, 3)), (Ok(400), Ok(200)));
