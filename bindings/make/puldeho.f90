@@ -7,9 +7,8 @@
 !     type(puldeho_world) :: world
 !     integer :: refusal, substeps
 !     call world%load(puldeho_grid(4, 1, 1, 1), [100, 100, 100, 100, 100, 100], [0, 0, 100, 200, 100, 0], refusal)
-!     if (refusal /= puldeho_accepted) error stop puldeho_refusal_text(refusal)
-!     call world%zonal(0, 0, [0, 50, 0, 0], refusal, substeps)
-!     if (refusal /= puldeho_accepted) error stop puldeho_refusal_text(refusal)
+!     if (refusal == puldeho_accepted) call world%zonal(0, 0, [0, 50, 0, 0], refusal, substeps)
+!     if (refusal /= puldeho_accepted) print *, "refused: ", puldeho_refusal_text(refusal)
 !
 ! Layers, rows, columns, tracers and cells are counted from 0, and world%air(0) is the first cell's air.
 ! Each call sets refusal: 0 (puldeho_accepted) or the number of the first refusal that applies. A refused call

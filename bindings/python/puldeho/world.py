@@ -65,12 +65,12 @@ class World(Calls):
 
     Each list is anything with the buffer protocol that holds 32-bit unsigned numbers side by side and may be
     written, such as a numpy array of uint32, and is used without a copy: the calls change it in place. Arrays have
-    one dimension or the shape grid.air_shape, grid.tracers_shape. A plain list of numbers is copied; the copy is world.air
-    or world.tracers. Do not write the lists while a call runs. A world takes no attributes of yours: a later version
+    one dimension or the shape grid.air_shape, grid.tracers_shape. A plain list of numbers is copied; the copy is
+    world.air or world.tracers. Do not write the lists while a call runs. A world takes no attributes of yours: a later version
     may give a name to something of its own.
     """
 
-    __slots__ = ("_grid", "_kept", "_lists", "_numbers", "__weakref__")
+    __slots__ = ("_grid", "_kept", "_lists", "__weakref__")
 
     def __init__(self, grid, air, tracers):
         grid = Grid(*grid)
