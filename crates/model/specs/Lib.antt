@@ -4,6 +4,7 @@ pub mod World
 pub mod Scheme
 pub mod Sweep
 pub mod Remap
+pub mod Long
 pub mod Range
 pub mod Step
 pub mod Lists

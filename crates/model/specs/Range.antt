@@ -1,14 +1,16 @@
--- Document 01, "Range", and what "Lists" says it holds of: every cell after each substep of a sweep, and after a remap.
+-- Document 01, "Range", and what "Lists" says it holds of: every cell after each substep of a sweep, and after a remap; and of document 02 the range of a long sweep.
 -- Tests that compute, so that a claim with a smaller e can be shown to fail.
-use Prim.Native.Nat.{ℕ, suc, _+_, _*_, _-_, _<_}
+use Prim.Native.Nat.{ℕ, suc, _+_, _*_, _-_, _<_, min, max}
 use mathlib.Core.List.{List}
 use mathlib.Core.Bool.{Bool, true, _&&_, _||_}
 use mathlib.Core.Path.{_≡_}
 use lib.Dec.{ltb, eqb}
+use lib.IntN.{ℤ}
 use Rattle.model.specs.Basic.{at, part, some}
 use Rattle.model.specs.World.{Grid, World, layerCells, layerStart, gas}
-use Rattle.model.specs.Sweep.{Mesh, Sides, between, southCap, northCap}
+use Rattle.model.specs.Sweep.{Mesh, Sides, between, southCap, northCap, ring}
 use Rattle.model.specs.Remap.{column, columnAir, shareAir}
+use Rattle.model.specs.Long.{lineAir, turns, departure}
 
 -- "some cell there, with air M and tracer T, has T·M' < (T' + e)·M, and some cell there has T'·M < T·M' + e·M": `there` tells the cells, of n, that are in the neighbourhood; M' and T' are `newM` and `newT`
 unfoldable pub inRange : ℕ → (ℕ → Bool) → List ℕ → List ℕ → ℕ → ℕ → ℕ → Bool
@@ -63,3 +65,27 @@ abbrev pub RemapInRange : World → World → List ℕ → ℕ → Type 0
 RemapInRange w next table t =
     (c j : ℕ) → c < layerCells (w .grid) → j < w .grid .K →
     layerInRange (w .grid) table (w .air) (gas w t) (next .air) (gas next t) c j ≡ true
+
+-- Document 02, Slip 1: "the cells it overlaps": old cell c of the row shares some air with the part of the line that new cell i takes, at one of the three times that it lies there
+unfoldable pub overlaps : ℕ → List ℤ → List ℕ → ℕ → ℕ → Bool
+overlaps W fluxes air i c =
+    some turns
+    (λ turn.
+    ltb (max (lineAir W air (turn * W + c)) (departure W fluxes air i))
+    (min (lineAir W air (suc (turn * W + c))) (departure W fluxes air (suc i))))
+
+-- "the cells it overlaps and their neighbours"
+unfoldable pub isNearOverlap : ℕ → (ℕ → Bool) → ℕ → Bool
+isNearOverlap W overlapped d = some W (λ c. overlapped c && isNear (ring W) c d)
+
+-- "A cell then lies within two units of the range": cell i of a row, from the air and a tracer's amounts before a long sweep to those afterwards
+unfoldable pub longCellInRange : ℕ → List ℤ → List ℕ → List ℕ → List ℕ → List ℕ → ℕ → Bool
+longCellInRange W fluxes air gas newAir newGas i =
+    inRange W (isNearOverlap W (overlaps W fluxes air i)) air gas 2 (at newAir i) (at newGas i)
+
+-- every cell of the row that starts at cell a, of tracer t, in the world `next` that a long sweep of the world w leaves
+abbrev pub LongInRange : World → World → ℕ → List ℤ → ℕ → Type 0
+LongInRange w next a fluxes t =
+    let row : List ℕ → List ℕ = λ l. part l a (w .grid .W) in
+    (i : ℕ) → i < w .grid .W →
+    longCellInRange (w .grid .W) fluxes (row (w .air)) (row (gas w t)) (row (next .air)) (row (gas next t)) i ≡ true

@@ -11,8 +11,9 @@ use Rattle.model.specs.Basic.{at, part, every}
 use Rattle.model.specs.World.{Grid, World, layerCells, worldCells, layerStart, rowStart, tracerStart, withAmounts, gas, gasTotal, airFits}
 use Rattle.model.specs.Scheme.{ruleOf}
 use Rattle.model.specs.Sweep.{Mesh, ring, layer, flux, airAfter, gasAfter, serves, substepCount, swept}
-use Rattle.model.specs.Remap.{remapServes, remapCount, remapped}
-use Rattle.model.specs.Range.{SweepInRange, RemapInRange}
+use Rattle.model.specs.Remap.{airAbove, remapServes, remapCount, remapped}
+use Rattle.model.specs.Long.{longAirFits, longSwept}
+use Rattle.model.specs.Range.{SweepInRange, RemapInRange, LongInRange}
 
 -- A call, with its arguments as lent
 pub data Call : Type 0 where
@@ -20,6 +21,7 @@ pub data Call : Type 0 where
   emission : (t c amount : ℕ) → Call
   withdrawal : (t c amount : ℕ) → Call
   zonal : (k r : ℕ) → List ℤ → Call
+  longZonal : (k r : ℕ) → List ℤ → Call
   meridional : (k : ℕ) → List ℤ → Call
   remap : List ℕ → Call
   total : (t : ℕ) → Call
@@ -51,10 +53,13 @@ gridFits g =
 abbrev pub absent : ℕ → (Grid → ℕ) → Place
 absent i many = place 5 (λ w. not (ltb i (many (w .grid))))
 
+-- no flux's size exceeds a limit
+abbrev pub fluxesWithin : List ℤ → ℕ → Bool
+fluxesWithin fluxes limit = every (length fluxes) (λ f. leb (natAbs (flux fluxes f)) limit)
+
 -- 8: "size above 1,048,560 (zonal) or 65,535 (meridional)"
 abbrev pub fluxTooLarge : List ℤ → ℕ → Place
-fluxTooLarge fluxes limit =
-    place 8 (λ w. not (every (length fluxes) (λ f. leb (natAbs (flux fluxes f)) limit)))
+fluxTooLarge fluxes limit = place 8 (λ w. not (fluxesWithin fluxes limit))
 
 -- 11: "first pair not (0, 0), last not (0, 65,536), an a above 2,097,120, a b above 65,536"
 abbrev pub tableFits : ℕ → List ℕ → Bool
@@ -166,6 +171,20 @@ meaning (withdrawal t c amount) =
 meaning (zonal k r fluxes) =
     sweeps (λ g. ring (g .W)) (λ g. rowStart g k r) fluxes (λ w. zonalCount w k r fluxes) (λ g. eqb (length fluxes) (g .W))
     (absent k (λ g. g .K) ∷ absent r (λ g. g .R) ∷ fluxTooLarge fluxes zonalLimit ∷ place 9 (λ w. eqb (zonalCount w k r fluxes) 0) ∷ [])
+-- 16: "when a flux's size exceeds the row's air", 17: "when air afterwards leaves 1 to 65,535", "in that order after 8, with its zonal limit, in a long sweep"
+meaning (longZonal k r fluxes) =
+    record {
+      lent = λ g. eqb (length fluxes) (g .W);
+      places =
+          absent k (λ g. g .K) ∷ absent r (λ g. g .R) ∷ fluxTooLarge fluxes zonalLimit ∷
+          place 16 (λ w. not (fluxesWithin fluxes (airAbove (rowAir w k r) (w .grid .W)))) ∷
+          place 17 (λ w. not (longAirFits (w .grid .W) fluxes (rowAir w k r))) ∷ [];
+      count = λ w. 0;
+      next = λ w. longSwept w (rowStart (w .grid) k r) fluxes;
+      names = nobody;
+      exchange = λ w t. noExchange;
+      range = λ w next t. LongInRange w next (rowStart (w .grid) k r) fluxes t;
+    }
 -- 10: "its substep is not allowed": a meridional sweep "is one substep under the same rules, with count 1"
 meaning (meridional k fluxes) =
     sweeps (λ g. layer (g .W) (g .R)) (λ g. layerStart g k) fluxes (λ w. 1) (λ g. eqb (length fluxes) (g .W * (g .R + 1)))

@@ -7,8 +7,8 @@ use lib.Dec.{leb, ltb, eqb}
 use lib.ListN.{getD}
 use lib.IntN.{ℤ, pos, negsuc}
 use Rattle.model.specs.Limits.{mostSubsteps}
-use Rattle.model.specs.Basic.{at, sum, tab, every, smallest, part, written}
-use Rattle.model.specs.World.{World, airFits, moved}
+use Rattle.model.specs.Basic.{at, sum, tab, every, smallest, part}
+use Rattle.model.specs.World.{World, airFits, movedPart}
 use Rattle.model.specs.Scheme.{Mismatch, Rule, ruleOf, ratio, plain, highPiece, lowPiece}
 
 -- The faces of a cell: a low and a high one; or, of a cap, n faces from face k on, all on its high side (south) or all on its low side (north)
@@ -157,6 +157,4 @@ substepCount mesh fluxes air = smallest mostSubsteps (serves mesh fluxes air)
 unfoldable pub swept : World → Mesh → ℕ → List ℤ → ℕ → World
 swept w mesh a fluxes n =
     let old : List ℕ = part (w .air) a (mesh .cells) in
-    moved w
-    (written (w .air) a (airAfter mesh fluxes n old n))
-    (λ t l. written l a (gasAfter (ruleOf w t) mesh fluxes n old (part l a (mesh .cells)) n))
+    movedPart w a (mesh .cells) (airAfter mesh fluxes n old n) (λ t had. gasAfter (ruleOf w t) mesh fluxes n old had n)

@@ -4,7 +4,7 @@ use mathlib.Core.List.{List}
 use mathlib.Core.Bool.{Bool, _&&_}
 use lib.Dec.{leb}
 use Rattle.model.specs.Limits.{airLimit}
-use Rattle.model.specs.Basic.{at, part, sum, tab, joined}
+use Rattle.model.specs.Basic.{at, part, written, sum, tab, joined}
 
 -- "W columns round the globe .., R rows from south to north .., K layers from the top down .. and N tracers"
 pub record Grid : Type 0 where
@@ -61,3 +61,7 @@ airFits M = leb 1 M && leb M airLimit
 -- a world after a call that moves air: new air, and the amounts of each tracer t changed by a function of themselves alone
 abbrev pub moved : World → List ℕ → (ℕ → List ℕ → List ℕ) → World
 moved w air change = withAmounts w air (joined (tab (w .grid .N) (λ t. change t (gas w t))))
+
+-- after one that moves air among the n cells from cell a on, and writes no others: their new air, and the change of their amounts of each tracer
+abbrev pub movedPart : World → ℕ → ℕ → List ℕ → (ℕ → List ℕ → List ℕ) → World
+movedPart w a n air change = moved w (written (w .air) a air) (λ t l. written l a (change t (part l a n)))
