@@ -5,14 +5,14 @@ use mathlib.Core.List.{List, _∷_}
 use mathlib.Core.Bool.{Bool, true, false, not}
 use mathlib.Core.Logic.{⊎-elim}
 use mathlib.Core.Path.{_≡_, refl, sym, _∙_, ap, ap₂}
-use native.Mathlib.Nat.{zero-add, add-zero, min-eq-left, min-eq-right}
+use native.Mathlib.Nat.{zero-add, add-zero, le-trans, mul-sub, min-eq-left, min-eq-right}
 use native.Mathlib.Omega.{arith}
 use borrow.Author.Tests.{leb-true, leb-false, lt-leb}
 use lib.Dec.{leb}
 use Rattle.model.specs.Basic.{sum, tab, tabFrom}
 use Rattle.model.specs.Scheme.{opposite, lowPiece}
 use Rattle.model.specs.Remap.{ColumnLayer, amountAbove}
-use Rattle.model.specs.Laws.Basic.{le-or-lt, sum-ext, sum-first, sum-fewer, sum-zero, sum-le, sum-times}
+use Rattle.model.specs.Laws.Basic.{le-or-lt, sum-ext, sum-split, sum-first, sum-fewer, sum-zero, sum-le, sum-times, sum-steps, steps-rise}
 use Rattle.model.specs.Laws.Fractions.{CellRoom, lost, LeavesInRange, leaves-same, leaves-join, leaves-near, Near, two-floors, middle-leaves, low-leaves, high-leaves, all-leaves}
 use Rattle.model.specs.Laws.Scheme.{Safe, piece-none, piece-whole, piece-rises, piece-constant}
 
@@ -133,6 +133,22 @@ module _ (f : ℕ → ColumnLayer) where
         sum-times n z (λ k. min (x - airOf k) (f k .air)) ∙
         ap (λ (y : ℕ). z * y) (omega (arith, air-above x n))
 
+    -- ---- the parts of the line between edges that rise: together they have what lies between the first and the last; a whole-number ratio stays
+    module _ (e : ℕ → ℕ) (m : ℕ) (rises : (j : ℕ) → j < m → e j ≤ e (suc j)) where
+      pub between-sum :
+          ((k : ℕ) → k < n → Safe (f k .slope) (f k .air) (f k .tracer)) →
+          sum m (λ j. amountAbove (tab n f) (e (suc j)) - amountAbove (tab n f) (e j)) + amountAbove (tab n f) (e 0) ≡ amountAbove (tab n f) (e m)
+      between-sum safe =
+          sum-steps m (λ j. amountAbove (tab n f) (e j)) (λ j h. amount-rises safe (e j) (e (suc j)) (rises j h))
+
+      pub between-even :
+          e m ≤ airOf n → (z : ℕ) → ((k : ℕ) → k < n → (f k .slope .size ≡ 0) × (f k .tracer ≡ z * f k .air)) → (j : ℕ) → j < m →
+          amountAbove (tab n f) (e (suc j)) - amountAbove (tab n f) (e j) ≡ z * (e (suc j) - e j)
+      between-even reaches z even j h = ap₂ _-_ (at-edge (suc j) h) (at-edge j (omega arith)) ∙ sym (mul-sub z _ _)
+        where
+          at-edge : (j : ℕ) → j ≤ m → amountAbove (tab n f) (e j) ≡ z * e j
+          at-edge j h = amount-even z even (e j) (le-trans (steps-rise m e rises j h) reaches)
+
     -- between two points lies some of a layer
     pub layer-between : (m x y : ℕ) → m ≤ n → x < y → y ≤ airOf m → (k : ℕ) × (k < m) × (max (airOf k) x < min (airOf (suc k)) y)
     unfolding sum
@@ -210,3 +226,37 @@ module _ (f : ℕ → ColumnLayer) where
       amount-between x y lt le leans =
           leaves-near b H L (y - x) _ _ 1 (amount-rises safe x y (omega arith))
           (rw (amount-is x, amount-is y) (between-leaves n x y (omega arith) lt le leans))
+
+  -- ---- G of fewer layers is the same, as far as they reach
+  pub amount-longer :
+      (m n x : ℕ) → ((k : ℕ) → k < n → 1 ≤ f k .air) → m ≤ n → x ≤ airOf m →
+      amountAbove (tab m f) x ≡ amountAbove (tab n f) x
+  amount-longer m n x has le reaches =
+      let more : n ≡ m + (n - m) = omega arith in
+      amount-is m (λ k h. has k (omega arith)) x ∙
+      omega (arith, sum-split m (n - m) (λ k. layerPart k x), sum-ext (n - m) (λ i. layerPart (m + i) x) (λ i. 0) past, sum-zero (n - m)) ∙
+      ap (λ (i : ℕ). sum i (λ k. layerPart k x)) (sym more) ∙
+      sym (amount-is n has x)
+    where
+      past : (i : ℕ) → i < n - m → layerPart (m + i) x ≡ 0
+      past i h =
+          part-none n has (m + i) x (omega arith) (le-trans reaches (sum-fewer (λ i. f i .air) m (m + i) (omega arith)))
+
+  -- ---- G of layers that come again after w of them: it has what these have, and G of what is left
+  module _ (w : ℕ) (round : (i : ℕ) → f (w + i) ≡ f i) where
+    round-air : (i : ℕ) → airOf (w + i) ≡ airOf w + airOf i
+    round-air i = sum-split w i (λ i. f i .air) ∙ ap (λ (x : ℕ). airOf w + x) (sum-ext i _ _ (λ k h. ap (λ (l : ColumnLayer). l .air) (round k)))
+
+    round-part : (x i : ℕ) → layerPart (w + i) (airOf w + x) ≡ layerPart i x
+    round-part x i =
+        let left : airOf w + x - airOf (w + i) ≡ x - airOf i = omega (arith, round-air i) in
+        ap₂ (λ (l : ColumnLayer) (y : ℕ). layerPiece l (min y (l .air))) (round i) left
+
+    pub amount-turn :
+        (n : ℕ) → ((k : ℕ) → k < w + n → 1 ≤ f k .air) → (x : ℕ) →
+        amountAbove (tab (w + n) f) (airOf w + x) ≡ tracerOf w + amountAbove (tab n f) x
+    amount-turn n has x =
+        amount-is (w + n) has (airOf w + x) ∙
+        sum-split w n (λ k. layerPart k (airOf w + x)) ∙
+        ap₂ _+_ (parts-whole (w + n) has w (airOf w + x) (omega arith) (omega arith))
+        (sum-ext n _ _ (λ i h. round-part x i) ∙ sym (amount-is n (λ k h. has k (omega arith)) x))

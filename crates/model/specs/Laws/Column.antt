@@ -4,8 +4,8 @@ use Prim.Native.Nat.{ℕ, suc, _+_, _*_, _-_, _/_, _≤_, _<_, min, max}
 use mathlib.Core.List.{List}
 use mathlib.Core.Bool.{Bool, true, false, or-true}
 use mathlib.Core.Logic.{_⊎_, inl, inr, ⊎-elim}
-use mathlib.Core.Path.{_≡_, refl, sym, _∙_, ap₂}
-use native.Mathlib.Nat.{zero-mul, zero-div, zero-add, mul-div-right, mul-sub}
+use mathlib.Core.Path.{_≡_, refl, _∙_, ap, ap₂}
+use native.Mathlib.Nat.{zero-mul, zero-div, zero-add, mul-div-right}
 use native.Mathlib.Omega.{arith}
 use borrow.Author.Tests.{ltb-true, lt-ltb, leb-true, eqb-true, eqb-false}
 use lib.Dec.{eqb, leb, ltb}
@@ -18,7 +18,7 @@ use Rattle.model.specs.Step.{tableFits}
 use Rattle.model.specs.Laws.Basic.{both, every-at, sum-steps, steps-rise}
 use Rattle.model.specs.Laws.Scheme.{Limited, Safe, ratio-safe, plain-safe, ratio-constant}
 use Rattle.model.specs.Laws.Fractions.{Inside, room-level, room-between, Monotone, Bounded, in-range}
-use Rattle.model.specs.Laws.Above.{Leans, amount-none, amount-whole, amount-rises, amount-even, layer-between, amount-between}
+use Rattle.model.specs.Laws.Above.{Leans, amount-none, amount-whole, amount-rises, between-sum, between-even, layer-between, amount-between}
 
 -- ---- edges that serve, of a table that fits
 pub record Edges (K : ℕ) (table : List ℕ) (P : ℕ) : Type 0 where
@@ -150,10 +150,7 @@ module _ {rule : Rule} (limited : Limited rule) (cap : Bool) (K : ℕ) (table ai
       (layer-slope rule cap K air gas k h)
 
   module _ (edges : Edges K table (airAbove air K)) where
-    -- G at the edges: it never falls, so no new tracer is cut off
-    above : ℕ → ℕ
-    above j = amountAbove (layers rule cap K air gas) (edge table (airAbove air K) j)
-
+    -- G never falls from edge to edge, so no new tracer is cut off
     pub new-tracer-not-cut :
         (j : ℕ) → j < K →
         amountAbove (layers rule cap K air gas) (edge table (airAbove air K) j) ≤ amountAbove (layers rule cap K air gas) (edge table (airAbove air K) (suc j))
@@ -163,25 +160,20 @@ module _ {rule : Rule} (limited : Limited rule) (cap : Bool) (K : ℕ) (table ai
 
     -- together the new layers have the column's tracer
     pub new-tracer-sum : sum K (newTracer table (airAbove air K) (layers rule cap K air gas)) ≡ sum K (at gas)
-    unfolding above
-    new-tracer-sum = omega (arith, sum-steps K above new-tracer-not-cut, start, end)
-      where
-        start : above 0 ≡ 0
-        start = rw (edges .first, layers-are rule cap K air gas) (amount-none (layerOf rule cap K air gas) K has)
-
-        end : above K ≡ sum K (at gas)
-        end = rw (edges .last, layers-are rule cap K air gas) (amount-whole (layerOf rule cap K air gas) K has)
+    new-tracer-sum =
+        let f = layerOf rule cap K air gas in
+        let all = between-sum f K has (edge table (airAbove air K)) K (edge-rises K table _ edges) layer-safe in
+        let start = ap (amountAbove (tab K f)) (edges .first) ∙ amount-none f K has in
+        let end = ap (amountAbove (tab K f)) (edges .last) ∙ amount-whole f K has in
+        rw (layers-are rule cap K air gas) (omega (arith, all, start, end))
 
     -- a whole-number ratio stays
     pub new-tracer-even :
         (z : ℕ) → ((k : ℕ) → k < K → at gas k ≡ z * at air k) → (j : ℕ) → j < K →
         newTracer table (airAbove air K) (layers rule cap K air gas) j ≡ z * newAir table (airAbove air K) j
-    new-tracer-even z even j h = ap₂ _-_ (at-edge (suc j) h) (at-edge j (omega arith)) ∙ sym (mul-sub z _ _)
-      where
-        at-edge : (j : ℕ) → j ≤ K → amountAbove (layers rule cap K air gas) (edge table (airAbove air K) j) ≡ z * edge table (airAbove air K) j
-        at-edge j h =
-            rw (layers-are rule cap K air gas)
-            (amount-even (layerOf rule cap K air gas) K has z (λ k p. (layer-level z even k p, even k p)) _ (edge-le K table _ edges j h))
+    new-tracer-even z even j h =
+        rw (layers-are rule cap K air gas)
+        (between-even (layerOf rule cap K air gas) K has _ K (edge-rises K table _ edges) (edge-le K table _ edges K (omega arith)) z (λ k p. (layer-level z even k p, even k p)) j h)
 
     -- ---- the range: a new layer passes no fraction that bounds the layers near it, but for 1/scale and a unit
     shared :

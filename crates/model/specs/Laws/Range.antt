@@ -71,7 +71,7 @@ module _ {rule : Rule} (monotone : Monotone rule) (mesh : Mesh) (air gas : List 
 
 -- ---- the cells across a cell's faces are near it, and what passes a face leaves the cell on its other side
 module _ (mesh : Mesh) (c : ℕ) where
-  near-self : isNear mesh c c ≡ true
+  pub near-self : isNear mesh c c ≡ true
   unfolding isNear
   near-self = rw (eq-eqb c c refl)
 

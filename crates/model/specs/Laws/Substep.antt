@@ -158,7 +158,7 @@ module _
     even-ratio : (c : ℕ) → c < mesh .cells → cellRatio air gas c ≡ scale * z
     even-ratio c h = ratio-constant (at air c) (at gas c) z (air-bounds (at air c) (fits c h) .0) (even c h)
 
-    even-mismatch : (c : ℕ) → c < mesh .cells → cellMismatch rule mesh air gas c .size ≡ 0
+    pub even-mismatch : (c : ℕ) → c < mesh .cells → cellMismatch rule mesh air gas c .size ≡ 0
     even-mismatch c inside = go (mesh .sides c) refl (regular .meets c inside)
       where
         go : (s : Sides) → mesh .sides c ≡ s → Meets mesh c s → cellMismatch rule mesh air gas c .size ≡ 0
