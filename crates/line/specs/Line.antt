@@ -1,5 +1,5 @@
 -- A line of cells, and edges on it that count air from its low end: what the functions require and ensure.
-use Prim.Native.Nat.{ℕ, suc, _-_, _*_, _%_, _≤_, _<_}
+use Prim.Native.Nat.{ℕ, suc, _+_, _-_, _*_, _%_, _≤_, _<_}
 use mathlib.Core.List.{List}
 use mathlib.Core.Bool.{Bool, false, _&&_}
 use mathlib.Core.Path.{_≡_}
@@ -51,7 +51,7 @@ abbrev pub lineAir : ℕ → List ℕ → ℕ → ℕ
 lineAir n air cells = sum cells (λ i. at air (i % n))
 
 -- lists of 1 to 72 cells with air in range, tracer within the limit and slopes of at most twice the ratio;
--- m + 1 edges that rise from 0 to at most three times the lists' air, two of them at the same place or not; and room for m amounts
+-- up to 74 edges that never fall, from 0 to at most three times the lists' air; and room for the amounts between them
 pub record LineNeed (n : ℕ) (air gas size : List ℕ) (rising : List Bool) (e : List ℕ) (m : ℕ) (newgas : List ℕ) : Type 0 where
   pub some : 1 ≤ n
   pub fit : n ≤ mostColumns
@@ -63,6 +63,7 @@ pub record LineNeed (n : ℕ) (air gas size : List ℕ) (rising : List Bool) (e 
   pub most : (c : ℕ) → c < n → at air c ≤ airLimit
   pub total : sum n (at gas) ≤ totalLimit
   pub small : (c : ℕ) → c < n → at size c ≤ 2 * ratio (at air c) (at gas c)
+  pub few : m ≤ mostColumns + 1
   pub roomEdges : m < length e
   pub first : at e 0 ≡ 0
   pub rises : (j : ℕ) → j < m → at e j ≤ at e (suc j)

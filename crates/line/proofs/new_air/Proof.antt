@@ -1,18 +1,18 @@
--- `column::new_air` meets its contract. The loop's invariant: the layers passed have the air between their edges.
-use Prim.Native.Nat.{ℕ, _+_, _-_, _≤_, _<_}
+-- `line::new_air` meets its contract. The loop's invariant: the cells passed have the air between their edges.
+use Prim.Native.Nat.{ℕ, suc, _-_, _≤_, _<_}
 use mathlib.Core.Path.{_≡_}
 use native.Mathlib.Omega.{arith}
 use lib.ListN.{length}
 use Rattle.model.specs.Basic.{at}
 use Rattle.model.specs.Laws.Entries.{entries-more}
-use Rattle.column.specs.Laws.{new-air-is, edge-steps}
+use native.Mathlib.Numerals.{add-one}
 use Rattle.units.specs.The.{the}
 use borrow.Author.Needs.{needs}
-use Rattle.column.proofs.new_air.Statement.{statement}
-use Rattle.column.proofs.new_air.Tie as tie
+use Rattle.line.proofs.new_air.Statement.{statement}
+use Rattle.line.proofs.new_air.Tie as tie
 
 abbrev Inv-loop : tie.InvT-loop
-Inv-loop e k newair₀ j₀ newair j = (j ≤ k) × (length newair ≡ length newair₀) × ((t : ℕ) → t < j → at newair t ≡ at e (t + 1) - at e t)
+Inv-loop e k newair₀ j₀ newair j = (j ≤ k) × (length newair ≡ length newair₀) × ((t : ℕ) → t < j → at newair t ≡ at e (suc t) - at e t)
 
 abbrev μ-loop : tie.MeasureT-loop
 μ-loop e k newair₀ j₀ newair j = k - j
@@ -24,8 +24,7 @@ air-between-requires : tie.Need-air-between-requires Inv-loop μ-loop
 air-between-requires c κs =
     let start : tie.Start Inv-loop μ-loop = search in
     let l = the (tie.At-loop Inv-loop μ-loop) (search) .loop in
-    let steps = edge-steps (start .pre .0) (l .j) (omega arith) in
-    (omega arith, steps .1)
+    rw add-one (omega (arith, start .pre .0 .rises (l .j) (omega arith)), start .pre .0 .most (l .j) (omega arith))
 
 loop-again : tie.Need-loop-again Inv-loop μ-loop
 loop-again c =
@@ -33,15 +32,14 @@ loop-again c =
     let l = the (tie.At-loop Inv-loop μ-loop) (search) .loop in (
       search needs,
       search needs,
-      entries-more 0 (l .newair) (l .j) _ (λ t x. x ≡ at (a .e .now) (t + 1) - at (a .e .now) t) (search needs) (l .inv .2)
-          (c .air-between .ensures),
+      entries-more 0 (l .newair) (l .j) _ (λ t x. x ≡ at (a .e .now) (suc t) - at (a .e .now) t) (search needs) (l .inv .2)
+          (rw add-one at (c .air-between .ensures)),
     )
 
 returns : tie.Need-returns Inv-loop μ-loop
 returns c =
-    let a = the (tie.Start Inv-loop μ-loop) (search) .args in
     let l = the (tie.At-loop Inv-loop μ-loop) (search) .loop in
-    new-air-is (a .k) (a .e .now) (l .newair) (λ t h. l .inv .2 t (omega arith))
+    record { is = λ t h. l .inv .2 t (omega arith) }
 
 pub new-air-spec : {M : Type 1} → statement M
 new-air-spec =

@@ -1,15 +1,16 @@
--- `column::edges_serve` meets its contract. The loop's invariant: the tests passed, of the edges passed.
+-- `line::edges_serve` meets its contract. The loop's invariant: the tests passed, of the edges passed.
 use Prim.Native.Nat.{ℕ, _-_, _≤_}
 use mathlib.Core.Bool.{_&&_}
 use mathlib.Core.Path.{_≡_, sym, ap, ap₂, _∙_}
 use native.Mathlib.Omega.{arith}
 use Rattle.model.specs.Basic.{every}
 use Rattle.model.specs.Laws.Basic.{every-none, every-more}
-use Rattle.column.specs.Laws.{servesAt, serving-is}
+use native.Mathlib.Numerals.{add-one}
+use Rattle.line.specs.Line.{servesAt}
 use Rattle.units.specs.The.{the}
 use borrow.Author.Needs.{needs}
-use Rattle.column.proofs.edges_serve.Statement.{statement}
-use Rattle.column.proofs.edges_serve.Tie as tie
+use Rattle.line.proofs.edges_serve.Statement.{statement}
+use Rattle.line.proofs.edges_serve.Tie as tie
 
 abbrev Inv-loop : tie.InvT-loop
 Inv-loop e k ok₀ j₀ ok j = (j ≤ k) × (ok ≡ every j (servesAt e))
@@ -25,7 +26,7 @@ loop-again c =
     let a = the (tie.Start Inv-loop μ-loop) (search) .args in
     let l = the (tie.At-loop Inv-loop μ-loop) (search) .loop in (
       search needs,
-      ap₂ _&&_ (l .inv .1) (c .layer-serves .ensures) ∙ sym (every-more (l .j) (servesAt (a .e .now))),
+      ap₂ _&&_ (l .inv .1) (rw add-one at (c .cell-serves .ensures)) ∙ sym (every-more (l .j) (servesAt (a .e .now))),
     )
 
 returns : tie.Need-returns Inv-loop μ-loop
@@ -33,8 +34,7 @@ returns c =
     let a = c .before .before .before .args in
     let l = c .before .loop in
     let done : l .j ≡ a .k = omega arith in
-    let is : l .ok ≡ every (a .k) (servesAt (a .e .now)) = l .inv .1 ∙ ap (λ (n : ℕ). every n (servesAt (a .e .now))) done in
-    rw is (serving-is (a .k) (a .e .now))
+    l .inv .1 ∙ ap (λ (n : ℕ). every n (servesAt (a .e .now))) done
 
 pub edges-serve-spec : {M : Type 1} → statement M
 edges-serve-spec =
@@ -43,12 +43,12 @@ edges-serve-spec =
     Inv-loop
     μ-loop
     loop-holds
-    (λ c. search needs)  -- mul-layer-serves
-    (λ c. search needs)  -- shared-slice-read-layer-serves
-    (λ c. search needs)  -- add-layer-serves
-    (λ c. search needs)  -- mul-layer-serves-2
-    (λ c. search needs)  -- shared-slice-read-layer-serves-2
-    (λ c κs. search needs)  -- layer-serves-requires
+    (λ c. search needs)  -- mul-cell-serves
+    (λ c. search needs)  -- shared-slice-read-cell-serves
+    (λ c. search needs)  -- add-cell-serves
+    (λ c. search needs)  -- mul-cell-serves-2
+    (λ c. search needs)  -- shared-slice-read-cell-serves-2
+    (λ c κs. search needs)  -- cell-serves-requires
     (λ c. search needs)  -- add-j
     (λ c. search needs)  -- loop-less
     loop-again
