@@ -9,13 +9,14 @@ use lib.ListN.{take, replicate}
 use Rattle.model.specs.Basic.{tab}
 use Rattle.model.specs.World.{World, layerStart, rowStart, gasTotal, airTotal}
 use Rattle.model.specs.Sweep.{ring, layer}
-use Rattle.model.specs.Step.{Call, load, emission, withdrawal, zonal, meridional, remap, total, cell, firstOf, meaning, lentFits, ownPlaces, refusal, accepted, step}
+use Rattle.model.specs.Step.{Call, load, emission, withdrawal, zonal, longZonal, meridional, remap, total, cell, firstOf, meaning, lentFits, ownPlaces, refusal, accepted, step}
 use Rattle.model.specs.Lists.{Loaded, loadedWorld, callAt, after, point, history, HasRatio, CallInRange, Alike, namesNoOther, SameReply}
 use Rattle.model.specs.Laws.Step.{Fits, Reached, own-refusal, loaded-reached, step-accepted, answer-is}
 use Rattle.model.specs.Laws.Keeps.{Kept, MeaningKeeps, StepKeeps, step-keeps, names-grid}
 use Rattle.model.specs.Laws.Lists.{point-range, list-kept, list-alike, points-ratio}
 use Rattle.model.specs.Laws.Amounts.{load-keeps, emission-keeps, withdrawal-keeps, total-keeps, cell-keeps}
 use Rattle.model.specs.Laws.Zonal.{zonal-keeps}
+use Rattle.model.specs.Laws.LongZonal.{long-keeps}
 use Rattle.model.specs.Laws.Meridional.{meridional-keeps}
 use Rattle.model.specs.Laws.Remap.{remap-keeps}
 use Rattle.model.specs.Cases.{computes}
@@ -47,6 +48,7 @@ call-keeps load = load-keeps
 call-keeps (emission t c amount) = emission-keeps t c amount
 call-keeps (withdrawal t c amount) = withdrawal-keeps t c amount
 call-keeps (zonal k r fluxes) = zonal-keeps k r fluxes
+call-keeps (longZonal k r fluxes) = long-keeps k r fluxes
 call-keeps (meridional k fluxes) = meridional-keeps k fluxes
 call-keeps (remap table) = remap-keeps table
 call-keeps (total t) = total-keeps t

@@ -43,6 +43,15 @@ module _ (W : ℕ) (air : List ℕ) where
       let e : turns * W ≡ W + (W + W) = omega arith in
       ap (lineAir W air) e ∙ omega (arith, line-turn (W + W), line-turn W, line-first W (le-refl W))
 
+-- ---- as many amounts as columns
+pub length-long-air : (W : ℕ) (fluxes : List ℤ) (air : List ℕ) → length (longAir W fluxes air) ≡ W
+unfolding longAir ring
+length-long-air W fluxes air = length-after-flow (ring W) (wholeFlow fluxes) air
+
+pub length-long-gas : (rule : Rule) (W : ℕ) (fluxes : List ℤ) (air gas : List ℕ) → length (longGas rule W fluxes air gas) ≡ W
+unfolding longGas
+length-long-gas rule W fluxes air gas = length-tab W _
+
 -- ---- a flux by its two directions
 forward-le : (F : ℤ) → forward F ≤ natAbs F
 forward-le (pos n) = omega arith
@@ -150,14 +159,10 @@ module _ (W : ℕ) (fluxes : List ℤ) (air : List ℕ) (serves : LongServes W f
   reaches : (j : ℕ) → j ≤ W → departure W fluxes air j ≤ lineAir W air (turns * W)
   reaches = departure-most W fluxes air (serves .some) (serves .oneTurn)
 
-  pub length-long-air : length (longAir W fluxes air) ≡ W
-  unfolding longAir ring
-  length-long-air = length-after-flow (ring W) (wholeFlow fluxes) air
-
   pub long-air : KeepsAir W air (longAir W fluxes air)
   long-air =
       record {
-        airLength = length-long-air;
+        airLength = length-long-air W fluxes air;
         airIn = serves .airIn;
         airKept =
             sum-ext W _ _ (air-between W fluxes air (serves .some) (serves .oneTurn)) ∙
@@ -242,10 +247,9 @@ module _ (W : ℕ) (fluxes : List ℤ) (air : List ℕ) (serves : LongServes W f
           (rw new at (fit .0)) (rw new at (fit .1)) (long-bounded monotone i h))
 
     pub long-gas : KeepsGas W air (longAir W fluxes air) (longGas rule W fluxes air)
-    unfolding longGas
     long-gas =
         record {
-          gasLength = λ had e. length-tab W _;
+          gasLength = λ had e. length-long-gas rule W fluxes air had;
           gasKept = λ had e. long-total had;
           evenKept = λ had z e. long-even had z;
         }
