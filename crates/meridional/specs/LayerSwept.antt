@@ -14,7 +14,8 @@ use Rattle.model.specs.Sweep.{Mesh, layer, parts, allowed, afterFlow, airAfter,
 use Rattle.model.specs.Step.{layerAir, meridional}
 use Rattle.model.specs.Laws.Grid.{InRange, in-range, cells-most}
 use Rattle.model.specs.Laws.Layer.{layer-regular}
-use Rattle.model.specs.Laws.Sweep.{Sweeps, cells-in}
+use Rattle.model.specs.Laws.Part.{cells-in}
+use Rattle.model.specs.Laws.Sweep.{Sweeps}
 use Rattle.model.specs.Laws.Meridional.{meridional-sweeps}
 use Rattle.model.specs.Laws.Substep.{AirIn, length-after-flow}
 use Rattle.units.specs.declared.Answer.the-variants.{Accepted}

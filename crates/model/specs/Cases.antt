@@ -2,6 +2,7 @@
 pub mod Marked
 pub mod Further
 pub mod RangeEnds
+pub mod Long
 use Prim.Native.Nat.{ℕ}
 use Prim.Native.String.{String}
 use mathlib.Core.List.{List, [], _∷_, cons≢nil}
@@ -14,6 +15,7 @@ use Rattle.model.specs.World.{Grid, World}
 use Rattle.model.specs.Scheme.{ratio, mismatch, highPiece}
 use Rattle.model.specs.Sweep.{ring, layer, leaving, afterFlow, fluxPart, parts, allowed, cellMismatch, pieces, airAfter, gasAfter, serves, substepCount, swept}
 use Rattle.model.specs.Remap.{column, edge, layerMismatch, layers, amountAbove, edgesServe, shareAir, columnCount, remappedAir, remappedGas, remapServes, remapCount, remapped}
+use Rattle.model.specs.Long.{carried, departure, longGas, longAir, longAirFits, longSwept}
 use Rattle.model.specs.Step.{Call, Result, firstOf, commonPlaces, ownPlaces, accepted, refused, refusal, step}
 
 pub record Case : Type 0 where
@@ -51,7 +53,7 @@ failing (c ∷ cs) =
 
 -- Opens every definition that a case computes with
 unfoldable pub computes : ℕ
-unfolding sum howMany every some smallest tabFrom joined ratio mismatch highPiece ring layer leaving afterFlow fluxPart parts allowed cellMismatch pieces airAfter gasAfter serves substepCount swept column edge layerMismatch layers amountAbove edgesServe shareAir columnCount remappedAir remappedGas remapServes remapCount remapped firstOf commonPlaces ownPlaces accepted refused refusal step sameList sameGrid sameResult failing
+unfolding sum howMany every some smallest tabFrom joined ratio mismatch highPiece ring layer leaving afterFlow fluxPart parts allowed cellMismatch pieces airAfter gasAfter serves substepCount swept column edge layerMismatch layers amountAbove edgesServe shareAir columnCount remappedAir remappedGas remapServes remapCount remapped carried departure longGas longAir longAirFits longSwept firstOf commonPlaces ownPlaces accepted refused refusal step sameList sameGrid sameResult failing
 computes = 0
 
 -- every case of the table holds

@@ -10,16 +10,17 @@ use borrow.Author.Tests.{ltb-true, eqb-true, eq-eqb}
 use lib.Dec.{eqb}
 use lib.IntN.{ℤ}
 use lib.ListN.{take}
-use Rattle.model.specs.Basic.{at, sum}
-use Rattle.model.specs.World.{Grid, World, layerCells, worldCells, layerStart, gas, gasTotal, airTotal}
+use Rattle.model.specs.Basic.{at, part, sum}
+use Rattle.model.specs.World.{Grid, World, layerCells, worldCells, layerStart, rowStart, gas, gasTotal, airTotal}
 use Rattle.model.specs.Sweep.{Mesh, layer}
-use Rattle.model.specs.Range.{inRange, faceCount, substepInRange, SweepInRange, layerInRange}
-use Rattle.model.specs.Step.{Call, meridional, remap, total, step}
+use Rattle.model.specs.Range.{inRange, faceCount, substepInRange, SweepInRange, layerInRange, longCellInRange}
+use Rattle.model.specs.Step.{Call, longZonal, meridional, remap, total, step}
 use Rattle.model.specs.Lists.{Loaded, loadedWorld, callAt, point, history, CallInRange, Alike, namesNoOther}
 use Rattle.model.specs.Laws.Basic.{some-at, at-part}
 use Rattle.model.specs.Laws.Lists.{callsBetween, calls-between, history-append}
 use Rattle.model.specs.Laws.Step.{answer-is}
 use Rattle.model.specs.Laws.Keeps.{names-present}
+use Rattle.model.specs.Laws.LongZonal.{long-sweeps}
 use Rattle.model.specs.Laws.Meridional.{meridional-sweeps}
 use Rattle.model.specs.Laws.Remap.{at-column, cell-in}
 use Rattle.model.specs.Demand3.{demand-3}
@@ -107,7 +108,7 @@ module _ (w : World) (calls : List Call) (loaded : Loaded w) where
   promised t i call h made accepted =
       rw made at (demand-3 w calls loaded i .inRange t h (rw made accepted))
 
-  -- where all ratios of a gas are from lo to hi, a remap leaves every cell of the world at the next point within two units of that, and a meridional sweep every cell of its layer within one unit for each of its faces and one more
+  -- where all ratios of a gas are from lo to hi, a remap leaves every cell of the world at the next point within two units of that, a long sweep every cell of its row, and a meridional sweep every cell of its layer within one unit for each of its faces and one more
   module _ (t i lo hi : ℕ) (h : t < start .grid .N) (between : Between lo hi (worldCells (at-point i .grid)) (at-point i .air) (gas (at-point i) t)) where
     abbrev g : Grid
     g = at-point i .grid
@@ -124,6 +125,20 @@ module _ (w : World) (calls : List Call) (loaded : Loaded w) where
         in-range-near (g .K) _ _ _ lo hi 2 _ _
         (λ j hj. rw (at-column g (at-point i .air) c j hj, at-column g (gas (at-point i) t) c j hj) (between _ (cell-in g j c hj hc)))
         (promised t i (remap table) h made accepted c k hc hk)
+
+    pub long-stays-near :
+        (k r : ℕ) (fluxes : List ℤ) → callAt calls i ≡ longZonal k r fluxes → step (at-point i) (longZonal k r fluxes) .answer ≡ 0 →
+        (c : ℕ) → c < g .W →
+        Near lo hi 2 (at (next .air) (rowStart g k r + c)) (at (gas next t) (rowStart g k r + c))
+    unfolding longCellInRange
+    long-stays-near k r fluxes made accepted c hc =
+        let a = rowStart g k r in
+        let inside = long-sweeps k r fluxes (at-point i) (sym (answer-is _ _) ∙ accepted) .inside in
+        let near =
+        in-range-near (g .W) _ (part (at-point i .air) a (g .W)) (part (gas (at-point i) t) a (g .W)) lo hi 2 _ _
+        (λ d hd. rw (at-part (at-point i .air) a (g .W) d hd, at-part (gas (at-point i) t) a (g .W) d hd) (between (a + d) (omega arith)))
+        (promised t i (longZonal k r fluxes) h made accepted c hc) in
+        rw (at-part (next .air) a (g .W) c hc, at-part (gas next t) a (g .W) c hc) at near
 
     pub meridional-stays-near :
         (k : ℕ) (fluxes : List ℤ) → callAt calls i ≡ meridional k fluxes → step (at-point i) (meridional k fluxes) .answer ≡ 0 →

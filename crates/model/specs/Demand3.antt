@@ -9,13 +9,14 @@ use lib.ListN.{take, replicate}
 use Rattle.model.specs.Basic.{tab}
 use Rattle.model.specs.World.{World, layerStart, rowStart, gasTotal, airTotal}
 use Rattle.model.specs.Sweep.{ring, layer}
-use Rattle.model.specs.Step.{Call, load, emission, withdrawal, zonal, meridional, remap, total, cell, firstOf, meaning, lentFits, ownPlaces, refusal, accepted, step}
+use Rattle.model.specs.Step.{Call, load, emission, withdrawal, zonal, longZonal, meridional, remap, total, cell, firstOf, meaning, lentFits, ownPlaces, refusal, accepted, step}
 use Rattle.model.specs.Lists.{Loaded, loadedWorld, callAt, after, point, history, HasRatio, CallInRange, Alike, namesNoOther, SameReply}
 use Rattle.model.specs.Laws.Step.{Fits, Reached, own-refusal, loaded-reached, step-accepted, answer-is}
 use Rattle.model.specs.Laws.Keeps.{Kept, MeaningKeeps, StepKeeps, step-keeps, names-grid}
 use Rattle.model.specs.Laws.Lists.{point-range, list-kept, list-alike, points-ratio}
 use Rattle.model.specs.Laws.Amounts.{load-keeps, emission-keeps, withdrawal-keeps, total-keeps, cell-keeps}
 use Rattle.model.specs.Laws.Zonal.{zonal-keeps}
+use Rattle.model.specs.Laws.LongZonal.{long-keeps}
 use Rattle.model.specs.Laws.Meridional.{meridional-keeps}
 use Rattle.model.specs.Laws.Remap.{remap-keeps}
 use Rattle.model.specs.Cases.{computes}
@@ -32,7 +33,7 @@ pub record HoldsAt (start : World) (calls : List Call) (i : ℕ) : Type 0 where
   pub ratioKept :
       (t z j : ℕ) → t < start .grid .N → i ≤ j → HasRatio (point start calls i) t z →
       history start t (take j calls) ≡ history start t (take i calls) → HasRatio (point start calls j) t z
-  -- "Each substep of a sweep leaves each cell it writes within its old neighbourhood's range of ratios, .. and a remap": the call made at this point, if it is accepted; it leads to the next point
+  -- "Each substep of a sweep leaves each cell it writes within its old neighbourhood's range of ratios, .. and a remap", and a long sweep: the call made at this point, if it is accepted; it leads to the next point
   pub inRange :
       (t : ℕ) → t < start .grid .N → step (point start calls i) (callAt calls i) .answer ≡ 0 →
       CallInRange (point start calls i) (point start calls (suc i)) t (callAt calls i)
@@ -47,6 +48,7 @@ call-keeps load = load-keeps
 call-keeps (emission t c amount) = emission-keeps t c amount
 call-keeps (withdrawal t c amount) = withdrawal-keeps t c amount
 call-keeps (zonal k r fluxes) = zonal-keeps k r fluxes
+call-keeps (longZonal k r fluxes) = long-keeps k r fluxes
 call-keeps (meridional k fluxes) = meridional-keeps k fluxes
 call-keeps (remap table) = remap-keeps table
 call-keeps (total t) = total-keeps t
@@ -88,7 +90,7 @@ reached w calls start i =
       λ call lent. own-refusal (point (loadedWorld w) calls i) call (kept .reached .fits) (rw (kept .sameGrid) lent),
     )
 
--- A list that meets the premise, its answers, counts and totals by computation, so that the theorem is not empty: the world of m9, and calls of every kind, three of them refused.
+-- A list that meets the premise, its answers, counts and totals by computation, so that the theorem is not empty: the world of m9, and calls of every kind, four of them refused.
 -- A load in a list tests the world as it stands and leaves it as it is: no call brings in other numbers than those lent.
 abbrev worked : List Call
 worked =
@@ -96,6 +98,8 @@ worked =
     zonal 1 0 (four (pos 0) (pos 50) (pos 0) (pos 0)) ∷
     meridional 2 (four (pos 30) (pos 0) (pos 7) (negℤ (pos 20)) ++ four (pos 10) (pos 10) (pos 0) (negℤ (pos 5))) ∷
     zonal 1 0 (four (pos 0) (pos 1000) (pos 0) (pos 0)) ∷
+    longZonal 1 0 (four (negℤ (pos 330)) (negℤ (pos 300)) (negℤ (pos 310)) (negℤ (pos 320))) ∷
+    longZonal 1 0 (four (pos 0) (pos 1000) (pos 0) (pos 0)) ∷
     remap (0 ∷ 0 ∷ 0 ∷ 32768 ∷ 200 ∷ 0 ∷ 0 ∷ 65536 ∷ []) ∷
     remap (0 ∷ 0 ∷ 200 ∷ 0 ∷ 200 ∷ 0 ∷ 0 ∷ 65536 ∷ []) ∷
     load ∷
@@ -107,27 +111,27 @@ pub worked-start : Loaded stair
 unfolding computes
 worked-start = refl
 
-pub worked-answers : tab 12 (λ i. step (point (loadedWorld stair) worked i) (callAt worked i) .answer) ≡ 0 ∷ 6 ∷ 0 ∷ 0 ∷ 0 ∷ 0 ∷ 9 ∷ 0 ∷ 12 ∷ 0 ∷ 0 ∷ 0 ∷ []
+pub worked-answers : tab 14 (λ i. step (point (loadedWorld stair) worked i) (callAt worked i) .answer) ≡ 0 ∷ 6 ∷ 0 ∷ 0 ∷ 0 ∷ 0 ∷ 9 ∷ 0 ∷ 16 ∷ 0 ∷ 12 ∷ 0 ∷ 0 ∷ 0 ∷ []
 unfolding computes after
 worked-answers = refl
 
-pub worked-counts : tab 12 (λ i. step (point (loadedWorld stair) worked i) (callAt worked i) .count) ≡ 0 ∷ 0 ∷ 0 ∷ 0 ∷ 1 ∷ 1 ∷ 0 ∷ 26 ∷ 0 ∷ 0 ∷ 1875 ∷ 136 ∷ []
+pub worked-counts : tab 14 (λ i. step (point (loadedWorld stair) worked i) (callAt worked i) .count) ≡ 0 ∷ 0 ∷ 0 ∷ 0 ∷ 1 ∷ 1 ∷ 0 ∷ 0 ∷ 0 ∷ 28 ∷ 0 ∷ 0 ∷ 1875 ∷ 177 ∷ []
 unfolding computes after
 worked-counts = refl
 
-pub worked-totals : tab 13 (λ i. gasTotal (point (loadedWorld stair) worked i) 0) ≡ 1800 ∷ 268435455 ∷ 268435455 ∷ 1855 ∷ replicate 9 1875
+pub worked-totals : tab 15 (λ i. gasTotal (point (loadedWorld stair) worked i) 0) ≡ 1800 ∷ 268435455 ∷ 268435455 ∷ 1855 ∷ replicate 11 1875
 unfolding computes after
 worked-totals = refl
 
-pub worked-air : tab 13 (λ i. airTotal (point (loadedWorld stair) worked i)) ≡ replicate 13 1800
+pub worked-air : tab 15 (λ i. airTotal (point (loadedWorld stair) worked i)) ≡ replicate 15 1800
 unfolding computes after
 worked-air = refl
 
-pub worked-emitted : tab 13 (λ i. history (loadedWorld stair) 0 (take i worked) .emitted) ≡ 0 ∷ replicate 3 268433655 ++ replicate 9 268433675
+pub worked-emitted : tab 15 (λ i. history (loadedWorld stair) 0 (take i worked) .emitted) ≡ 0 ∷ replicate 3 268433655 ++ replicate 11 268433675
 unfolding computes history
 worked-emitted = refl
 
-pub worked-withdrawn : tab 13 (λ i. history (loadedWorld stair) 0 (take i worked) .withdrawn) ≡ replicate 3 0 ++ replicate 10 268433600
+pub worked-withdrawn : tab 15 (λ i. history (loadedWorld stair) 0 (take i worked) .withdrawn) ≡ replicate 3 0 ++ replicate 12 268433600
 unfolding computes history
 worked-withdrawn = refl
 

@@ -44,7 +44,7 @@ history w t (call ∷ calls) = added (exchanged w t call) (history (step w call 
 abbrev pub HasRatio : World → ℕ → ℕ → Type 0
 HasRatio w t z = (c : ℕ) → c < worldCells (w .grid) → at (gas w t) c ≡ z * at (w .air) c
 
--- "in every cell of the row, or of the layer if meridional, after each substep of an accepted sweep .. and in every cell after an accepted remap": for tracer t, of a call that is accepted in the world w and leaves the world `next`
+-- "in every cell of the row, or of the layer if meridional, after each substep of an accepted sweep .. and in every cell after an accepted remap", and of the row after an accepted long sweep: for tracer t, of a call that is accepted in the world w and leaves the world `next`
 abbrev pub CallInRange : World → World → ℕ → Call → Type 0
 CallInRange w next t call = meaning call .range w next t
 

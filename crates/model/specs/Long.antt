@@ -10,14 +10,14 @@ use Rattle.model.specs.Scheme.{Rule, ruleOf}
 use Rattle.model.specs.Sweep.{Flow, ring, westOf, flux, forward, backward, afterFlow, cellMismatch}
 use Rattle.model.specs.Remap.{ColumnLayer, amountAbove}
 
--- "Lay the row's air out on a line from column 0": cell j of the line is column j mod W, a layer as in the remap, "with the row's ring mismatches"
+-- a cell of the row as a layer of the remap, "with the row's ring mismatches"
+abbrev pub rowCell : Rule → ℕ → List ℕ → List ℕ → ℕ → ColumnLayer
+rowCell rule W air gas c =
+    record { air = at air c; tracer = at gas c; slope = cellMismatch rule (ring W) air gas c }
+
+-- "Lay the row's air out on a line from column 0": cell j of the line is column j mod W
 abbrev pub lineCell : Rule → ℕ → List ℕ → List ℕ → ℕ → ColumnLayer
-lineCell rule W air gas j =
-    record {
-      air = at air (j % W);
-      tracer = at gas (j % W);
-      slope = cellMismatch rule (ring W) air gas (j % W);
-    }
+lineCell rule W air gas j = rowCell rule W air gas (j % W)
 
 -- the air of the first j cells of the line
 abbrev pub lineAir : ℕ → List ℕ → ℕ → ℕ

@@ -1,4 +1,4 @@
--- Document 01, "Refusals by place of checking" and "Emission, withdrawal, load, readings": a call, what it means, and `step`, what it answers and leaves.
+-- Document 01, "Refusals by place of checking" and "Emission, withdrawal, load, readings", and the long sweep of document 02: a call, what it means, and `step`, what it answers and leaves.
 -- Total in any world and any arguments. A place's test is computed only when it is reached.
 use Prim.Native.Nat.{ℕ, zero, suc, _+_, _*_, _-_}
 use mathlib.Core.List.{List, [], _∷_, _++_}

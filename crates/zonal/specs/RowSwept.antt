@@ -15,7 +15,8 @@ use Rattle.model.specs.Sweep.{ring, airAfter, gasAfter, serves, swept}
 use Rattle.model.specs.Step.{rowAir, zonalCount, zonal}
 use Rattle.model.specs.Laws.Chain.{length-air-after}
 use Rattle.model.specs.Laws.Grid.{InRange, in-range, cells-most}
-use Rattle.model.specs.Laws.Sweep.{Sweeps, cells-in}
+use Rattle.model.specs.Laws.Part.{cells-in}
+use Rattle.model.specs.Laws.Sweep.{Sweeps}
 use Rattle.model.specs.Laws.Zonal.{zonal-sweeps}
 use Rattle.model.specs.Laws.Entries.{joined-ext, part-part, part-sum-le}
 use Rattle.model.specs.Scheme.{mismatch}

@@ -12,7 +12,7 @@ use Rattle.model.specs.Cases.{Case, Hold, hold, computes}
 use Rattle.model.specs.Cases.Marked.{grid, world, four, six, row, gives, refuses, hundreds, peak, sweep, stair}
 
 -- a case that is accepted and changes nothing
-abbrev keeps : String → World → Call → ℕ → Case
+abbrev pub keeps : String → World → Call → ℕ → Case
 keeps label w call count = gives label w call count (w .air) (w .tracers)
 
 -- a grid with air 100 and tracer 1 in every cell
@@ -45,10 +45,10 @@ abbrev middle : ℕ → ℕ → Call
 middle a b = remap (0 ∷ 0 ∷ a ∷ b ∷ 0 ∷ 65536 ∷ [])
 
 -- two rows, two layers and two tracers: a layer of ten amounts, south cap, row 0, row 1, north cap
-abbrev ten : ℕ → ℕ → ℕ → ℕ → ℕ → ℕ → ℕ → ℕ → ℕ → ℕ → List ℕ
+abbrev pub ten : ℕ → ℕ → ℕ → ℕ → ℕ → ℕ → ℕ → ℕ → ℕ → ℕ → List ℕ
 ten s a b c d e f g h n = s ∷ a ∷ b ∷ c ∷ d ∷ e ∷ f ∷ g ∷ h ∷ n ∷ []
 
-abbrev twos : World
+abbrev pub twos : World
 twos =
     world (grid 4 2 2 2)
     (ten 120 101 97 133 88 140 92 111 105 150 ++ ten 160 99 118 76 131 94 127 83 109 145)

@@ -13,7 +13,8 @@ use Rattle.model.specs.Laws.Grid.{layer-inside}
 use Rattle.model.specs.Laws.Layer.{layer-regular}
 use Rattle.model.specs.Laws.Step.{passed, found, accepted-passed}
 use Rattle.model.specs.Laws.Keeps.{air-alike, MeaningKeeps}
-use Rattle.model.specs.Laws.Sweep.{Sweeps, sweeps-keep, ChangesOnly, swept-changes-only, step-changes-only}
+use Rattle.model.specs.Laws.Part.{ChangesOnly, step-changes-only}
+use Rattle.model.specs.Laws.Sweep.{Sweeps, sweeps-keep, swept-changes-only}
 
 -- what its own places tell, where they are passed
 own-sweeps :

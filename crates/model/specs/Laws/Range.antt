@@ -19,7 +19,7 @@ use Rattle.model.specs.Laws.Basic.{sum-ext, both, every-at, some-true, a
 use Rattle.model.specs.Laws.Scheme.{Limited}
 use Rattle.model.specs.Laws.Substep.{cell-safe}
 use Rattle.model.specs.Laws.Mesh.{Regular, Meets, OnHighSide, OnLowSide}
-use Rattle.model.specs.Laws.Fractions.{lost, Towards, Monotone, level-towards, Inside, Near, near-add, near-sum, LeavesInRange, piece-near, ends-leave, plains-leave, replaced, Bounded, in-range}
+use Rattle.model.specs.Laws.Fractions.{lost, Towards, Monotone, level-towards, Inside, CellRoom, room-level, room-between, Near, near-add, near-sum, LeavesInRange, piece-near, ends-leave, plains-leave, replaced, Bounded, in-range}
 
 -- face f is one of the n faces from face k on
 among : (cell : ℕ → ℕ) (k n f : ℕ) → k ≤ f → f < k + n → some n (λ i. eqb (cell f) (cell (k + i))) ≡ true
@@ -114,6 +114,29 @@ module _ (mesh : Mesh) (c : ℕ) where
       go (northCap k n) e on =
           let i : k + (f - k) ≡ f = omega arith in
           rw (e, leaving) (rw i at (term-le-sum n (λ i. flow .toLow (k + i)) (f - k) (omega arith)))
+
+-- ---- a cell near which none passes a fraction may lean by its slope
+pub cell-leans :
+    {rule : Rule} → Monotone rule → (mesh : Mesh) → Regular mesh → (air gas : List ℕ) →
+    ((c : ℕ) → c < mesh .cells → 1 ≤ at air c) → (b : Bool) (H L c : ℕ) → c < mesh .cells →
+    ((d : ℕ) → d < mesh .cells → isNear mesh c d ≡ true → Inside b H L (at air d) (at gas d)) →
+    CellRoom b H L (at air c) (at gas c) (cellMismatch rule mesh air gas c .size)
+cell-leans {rule} monotone mesh regular air gas has b H L c hc inside = go (mesh .sides c) refl (regular .meets c hc)
+  where
+    here : Inside b H L (at air c) (at gas c)
+    here = inside c hc (near-self mesh c)
+
+    go : (s : Sides) → mesh .sides c ≡ s → Meets mesh c s → CellRoom b H L (at air c) (at gas c) (cellMismatch rule mesh air gas c .size)
+    go (between l h) e m =
+        let hl : mesh .lowCell l < mesh .cells = regular .lowIn l (m .0) in
+        let hh : mesh .highCell h < mesh .cells = regular .highIn h (m .1) in
+        room-between b H L (at air c) (at gas c) (has c hc) here (cellMismatch rule mesh air gas c) _ _ _ _ (has _ hl) (has _ hh)
+        (inside _ hl (near-low mesh c l (rw e refl)))
+        (inside _ hh (near-high mesh c h (rw e refl)))
+        (towards-low monotone mesh air gas c l (rw e refl))
+        (towards-high monotone mesh air gas c h (rw e refl))
+    go (southCap k n) e m = rw (cap-level monotone mesh air gas c (rw e tt)) (room-level b H L _ _ here)
+    go (northCap k n) e m = rw (cap-level monotone mesh air gas c (rw e tt)) (room-level b H L _ _ here)
 
 -- ---- a substep: air in every cell, and no cell gives more than it has
 module _

@@ -17,7 +17,8 @@ use Rattle.model.specs.Laws.Ring.{ring-regular}
 use Rattle.model.specs.Laws.Chain.{count-smallest}
 use Rattle.model.specs.Laws.Step.{Fits, firstOf-same, passed, found, step-accepted, step-refused, answer-is, own-refusal, common-passed, accepted-passed}
 use Rattle.model.specs.Laws.Keeps.{air-alike, MeaningKeeps}
-use Rattle.model.specs.Laws.Sweep.{Sweeps, sweeps-keep, SameCells, swept-same, ChangesOnly, swept-changes-only, step-changes-only}
+use Rattle.model.specs.Laws.Part.{ChangesOnly, step-changes-only, SameCells}
+use Rattle.model.specs.Laws.Sweep.{Sweeps, sweeps-keep, swept-same, swept-changes-only}
 
 -- what its own places tell, where they are passed
 own-sweeps :
