@@ -8,17 +8,16 @@ use borrow.Author.Tests.{le-leb, lt-leb, ltb-true, ltb-false}
 use lib.Dec.{leb, ltb}
 use lib.IntN.{ℤ}
 use lib.ListN.{length, set, length-set}
-use lib.Seq.{ext-getD}
 use Rattle.model.specs.Limits.{airLimit}
-use Rattle.model.specs.Basic.{at, part, sum, every}
+use Rattle.model.specs.Basic.{at, part, sum, tab, every}
 use Rattle.model.specs.World.{airFits}
-use Rattle.model.specs.Sweep.{ring, westOf, flux, forward, backward}
+use Rattle.model.specs.Sweep.{westOf, flux, forward, backward}
 use Rattle.model.specs.Remap.{airAbove}
 use Rattle.model.specs.Long.{departure, longAir, longAirFits}
-use Rattle.model.specs.Laws.Basic.{every-at, every-ext, length-part, at-part, sum-le, sum-same, sum-fewer}
+use Rattle.model.specs.Laws.Basic.{every-ext, length-part, at-part, tab-at, tab-ext, sum-le, sum-same, sum-fewer}
 use Rattle.model.specs.Laws.Entries.{entries-more}
-use Rattle.model.specs.Laws.Substep.{AirIn, air-bounds, length-after-flow}
-use Rattle.model.specs.Laws.Long.{OneTurn, line-all, departure-is, departure-most, air-between}
+use Rattle.model.specs.Laws.Substep.{AirIn, air-bounds}
+use Rattle.model.specs.Laws.Long.{OneTurn, LongServes, line-all, departure-is, departure-most, air-between, departures-rise, length-long-air}
 use Rattle.line.specs.Line.{AirNeed, servesAt, Served, IsNewAir}
 
 -- 1 to 72 columns with air in range, a flux for each, and none above the row's air: what place 16 tests
@@ -52,9 +51,9 @@ pub record Departed (air e : List ℕ) : Type 0 where
   pub most : (j : ℕ) → j < length air → at e (suc (suc j)) - at e (suc j) ≤ airLimit
   pub last : at e (suc (length air)) ≤ 3 * airAbove air (length air)
 
--- r is the air afterwards, whatever fluxes the departures are of
-pub record IsMovedAir (air e r : List ℕ) : Type 0 where
-  pub is : (fluxes : List ℤ) → LongNeed air fluxes → AreDepartures air fluxes e → r ≡ longAir (length air) fluxes air
+-- the air between the departures of each cell's two faces
+abbrev pub airBy : ℕ → List ℕ → List ℕ
+airBy W e = tab W (λ i. at e (suc (suc i)) - at e (suc i))
 
 -- ---- the row's air
 pub air-need : {air : List ℕ} → length air ≤ 72 → AirIn (length air) air → AirNeed (length air) air
@@ -121,43 +120,38 @@ module _ {air : List ℕ} {fluxes : List ℤ} (need : LongNeed air fluxes) where
 
   -- ---- the air between them
   module _ {e : List ℕ} (are : AreDepartures air fluxes e) where
-    face-at : (j : ℕ) → j ≤ W → at (faces W e) j ≡ departure W fluxes air j
-    face-at j h = lent-at W e j h ∙ are .is (suc j) (omega arith)
+    edge-at : (j : ℕ) → j ≤ W → at e (suc j) ≡ departure W fluxes air j
+    edge-at j h = are .is (suc j) (omega arith)
 
-    between : (j : ℕ) → j < W → at (faces W e) (suc j) - at (faces W e) j ≡ at (longAir W fluxes air) j
+    between : (j : ℕ) → j < W → at e (suc (suc j)) - at e (suc j) ≡ at (longAir W fluxes air) j
     between j h =
-        ap₂ _-_ (face-at (suc j) h) (face-at j (omega arith)) ∙ sym (air-between W fluxes air (need .some) (need .oneTurn) j h)
+        ap₂ _-_ (edge-at (suc j) h) (edge-at j (omega arith)) ∙ sym (air-between W fluxes air (need .some) (need .oneTurn) j h)
+
+    pub air-by-is : airBy W e ≡ longAir W fluxes air
+    air-by-is = tab-ext W _ _ between ∙ tab-at W (longAir W fluxes air) (length-long-air W fluxes air)
 
     pub serves-is : every W (servesAt (faces W e)) ≡ longAirFits W fluxes air
     unfolding longAirFits
     serves-is =
         every-ext W _ _
-        (λ j h. ap (λ (b : Bool). b && leb (at (faces W e) (suc j) - at (faces W e) j) airLimit) (some-between (at (faces W e) j) (at (faces W e) (suc j))) ∙ ap airFits (between j h))
+        (λ j h.
+        ap₂ (λ (x y : ℕ). ltb x y && leb (y - x) airLimit) (lent-at W e j (omega arith)) (lent-at W e (suc j) h) ∙
+        ap (λ (b : Bool). b && leb (at e (suc (suc j)) - at e (suc j)) airLimit) (some-between (at e (suc j)) (at e (suc (suc j)))) ∙
+        ap airFits (between j h))
 
-    pub moved-air-is : (r : List ℕ) → length r ≡ W → IsNewAir W (faces W e) r → r ≡ longAir W fluxes air
-    unfolding longAir ring
-    moved-air-is r long new =
-        ext-getD 0 r (longAir W fluxes air) (long ∙ sym (length-after-flow (ring W) _ air))
-        (λ j h. let p : j < W = omega (arith, long) in new .is j p ∙ between j p)
-
-    pub departed : W + 1 < length e → longAirFits W fluxes air ≡ true → Departed air e
-    unfolding longAirFits
+    pub departed : W + 1 < length e → AirIn W (longAir W fluxes air) → Departed air e
     departed room serves =
-        let edge : (j : ℕ) → j ≤ W → at e (suc j) ≡ departure W fluxes air j = λ j h. are .is (suc j) (omega arith) in
-        let new : (j : ℕ) → j < W → (1 ≤ at e (suc (suc j)) - at e (suc j)) × (at e (suc (suc j)) - at e (suc j) ≤ airLimit) =
-        λ j h.
-        rw (edge (suc j) h, edge j (omega arith), ← air-between W fluxes air (need .some) (need .oneTurn) j h)
-        (air-bounds (at (longAir W fluxes air) j) (every-at W _ serves j h)) in
+        let all : LongServes W fluxes air = record { some = need .some; oneTurn = need .oneTurn; airIn = serves } in
         record {
           some = need .some;
           wide = need .wide;
           airIn = need .airIn;
           room = room;
           first = are .is 0 (omega arith);
-          rises = λ j h. omega (arith, new j h .0);
-          most = λ j h. new j h .1;
+          rises = λ j h. rw (edge-at j (omega arith), edge-at (suc j) h) (departures-rise W fluxes air all j h);
+          most = λ j h. rw (between j h) (air-bounds (at (longAir W fluxes air) j) (serves j h) .1);
           last =
-              rw (edge W (omega arith), ← line-all W air)
+              rw (edge-at W (omega arith), ← line-all W air)
               (departure-most W fluxes air (need .some) (need .oneTurn) W (omega arith));
         }
 
@@ -171,3 +165,8 @@ module _ {air e : List ℕ} (gone : Departed air e) where
         rises = λ j h. rw (at-face j (omega arith), at-face (suc j) h) (gone .rises j h);
         most = λ j h. rw (at-face j (omega arith), at-face (suc j) h) (gone .most j h);
       }
+
+  pub air-by : {r : List ℕ} → length r ≡ length air → IsNewAir (length air) (faces (length air) e) r → r ≡ airBy (length air) e
+  air-by {r} long new =
+      sym (tab-at (length air) r long) ∙
+      tab-ext (length air) _ _ (λ j h. new .is j h ∙ ap₂ _-_ (lent-at (length air) e (suc j) h) (lent-at (length air) e j (omega arith)))

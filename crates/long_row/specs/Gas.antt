@@ -7,14 +7,13 @@ use native.Mathlib.Nat.{mod-lt}
 use native.Mathlib.Omega.{arith}
 use lib.IntN.{ℤ}
 use lib.ListN.{length, getD, set}
-use lib.Seq.{ext-getD}
 use Rattle.model.specs.Limits.{totalLimit}
 use Rattle.model.specs.Basic.{at, part, sum, tabFrom, tab}
 use Rattle.model.specs.Scheme.{Mismatch, mismatch}
 use Rattle.model.specs.Sweep.{ring, westOf, eastOf, cellRatio, cellMismatch}
 use Rattle.model.specs.Remap.{ColumnLayer, airAbove, amountAbove}
 use Rattle.model.specs.Long.{lineCell, lineAir, turns, carried, departure, longGas}
-use Rattle.model.specs.Laws.Basic.{length-part, at-part, length-tab, at-tab}
+use Rattle.model.specs.Laws.Basic.{length-part, at-part, tab-at, tab-ext}
 use Rattle.model.specs.Laws.Entries.{entries-more}
 use Rattle.model.specs.Laws.Ring.{west-in, east-in}
 use Rattle.model.specs.Laws.Scheme.{mismatch-twice}
@@ -66,9 +65,17 @@ pub record LongGasNeed (gas air e : List ℕ) : Type 0 where
   pub long : length gas ≡ length air
   pub total : sum (length air) (at gas) ≤ totalLimit
 
--- r has the amounts afterwards, whatever fluxes the departures are of
-pub record IsMovedGas (gas air e r : List ℕ) : Type 0 where
-  pub is : (fluxes : List ℤ) → AreDepartures air fluxes e → r ≡ longGas mismatch (length air) fluxes air gas
+-- the amounts on the line between the departures of each cell's two faces
+abbrev pub gasBy : List ℕ → List ℕ → List ℕ → List ℕ
+gasBy e air gas =
+    tab (length air) (λ i. carried mismatch (length air) air gas (at e (suc (suc i))) - carried mismatch (length air) air gas (at e (suc i)))
+
+pub gas-by-is : {air e : List ℕ} {fluxes : List ℤ} → AreDepartures air fluxes e → (gas : List ℕ) → gasBy e air gas ≡ longGas mismatch (length air) fluxes air gas
+unfolding longGas
+gas-by-is {air} {e} {fluxes} are gas =
+    let mark : (j : ℕ) → j ≤ length air → carried mismatch (length air) air gas (at e (suc j)) ≡ carried mismatch (length air) air gas (departure (length air) fluxes air j) =
+    λ j h. ap (carried mismatch (length air) air gas) (are .is (suc j) (omega arith)) in
+    tab-ext (length air) _ _ (λ i h. ap₂ _-_ (mark (suc i) h) (mark i (omega arith)))
 
 tab-same : {A : Type 0} (i n : ℕ) (f g : ℕ → A) → ((t : ℕ) → f t ≡ g t) → tabFrom i n f ≡ tabFrom i n g
 unfolding tabFrom
@@ -133,29 +140,23 @@ module _ {gas air e : List ℕ} (need : LongGasNeed gas air e) where
         sym (near .is air gas) in
         ap (λ (d : Mismatch). record { air = at air c; tracer = at gas c; slope = d }) slope
 
-    pub line-is : (x : ℕ) → amountAbove (tab (turns * W) (cellAt W air gas size rising)) x ≡ carried mismatch W air gas x
+    line-is : (x : ℕ) → amountAbove (tab (turns * W) (cellAt W air gas size rising)) x ≡ carried mismatch W air gas x
     unfolding carried
     line-is x =
         ap (λ (l : List ColumnLayer). amountAbove l x)
         (tab-same 0 (turns * W) (cellAt W air gas size rising) (lineCell mismatch W air gas) cell-is)
 
     -- the amounts between the departures, lent as `&between[1..end]` with end = W + 1
-    pub moved-is :
+    pub gas-by :
         {between : List ℕ} → W + 1 ≤ length between → IsBetween W air gas size rising e (W + 1) between →
-        IsMovedGas gas air e (part between 1 (W + 1 - 1))
-    unfolding longGas
-    moved-is {between} room is =
-        record {
-          is =
-              λ fluxes are.
-              ext-getD 0 (part between 1 (W + 1 - 1)) (longGas mismatch W fluxes air gas)
-              (long ∙ sym (length-tab W _))
-              (λ i h.
-              let p : i < W = omega (arith, long) in
-              let next : 1 + i ≡ suc i = omega arith in
-              at-part between 1 (W + 1 - 1) i (omega arith) ∙ ap (at between) next ∙ is .is (turns * W) reach (suc i) (omega arith) ∙
-              ap₂ _-_ (mark fluxes are (suc i) p) (mark fluxes are i (omega arith)) ∙ sym (at-tab W _ i p));
-        }
+        part between 1 (W + 1 - 1) ≡ gasBy e air gas
+    gas-by {between} room is =
+        sym (tab-at W (part between 1 (W + 1 - 1)) long) ∙
+        tab-ext W _ _
+        (λ i h.
+        let next : 1 + i ≡ suc i = omega arith in
+        at-part between 1 (W + 1 - 1) i (omega arith) ∙ ap (at between) next ∙ is .is (turns * W) reach (suc i) (omega arith) ∙
+        ap₂ _-_ (line-is (at e (suc (suc i)))) (line-is (at e (suc i))))
       where
         long : length (part between 1 (W + 1 - 1)) ≡ W
         long = length-part between 1 (W + 1 - 1) (omega arith) ∙ omega arith
@@ -164,7 +165,3 @@ module _ {gas air e : List ℕ} (need : LongGasNeed gas air e) where
         reach =
             let next : W + 1 ≡ suc W = omega arith in
             rw (next, line-all W air) (need .gone .last)
-
-        mark : (fluxes : List ℤ) → AreDepartures air fluxes e → (j : ℕ) → j ≤ W →
-            amountAbove (tab (turns * W) (cellAt W air gas size rising)) (at e (suc j)) ≡ carried mismatch W air gas (departure W fluxes air j)
-        mark fluxes are j h = line-is (at e (suc j)) ∙ ap (carried mismatch W air gas) (are .is (suc j) (omega arith))

@@ -7,8 +7,8 @@ ghost use Rattle.model.specs.Remap.{airAbove};
 ghost use Rattle.model.specs.Sweep.{forward, backward};
 ghost use Rattle.model.specs.Long.{longAirFits};
 ghost use Rattle.line.specs.Line.{AirNeed};
-ghost use Rattle.long_row.specs.Air.{LongNeed, AreDepartures, Departed, IsMovedAir};
-ghost use Rattle.long_row.specs.Gas.{SlopesNeed, AreSlopes, LongGasNeed, IsMovedGas};
+ghost use Rattle.long_row.specs.Air.{LongNeed, AreDepartures, Departed, airBy};
+ghost use Rattle.long_row.specs.Gas.{SlopesNeed, AreSlopes, LongGasNeed, gasBy};
 use line::air_sum;
 use line::edges_serve;
 use line::new_air;
@@ -84,7 +84,7 @@ pub fn air_serves(air: &[u32], fluxes: &[i32]) -> bool
 // The row's air afterwards.
 pub fn move_air(e: &[u64], air: &mut [u32])
     requires { ⌜ Departed (now air) (now e) ⌝ }
-    ensures { λ r. ⌜ IsMovedAir (now (air .entry)) (now (e .entry)) (now (air .exit)) ⌝ }
+    ensures { λ r. ⌜ now (air .exit) ≡ airBy (length (now (air .entry))) (now (e .entry)) ⌝ }
 {
     let w = air.len();
     let end = w + 2;
@@ -113,7 +113,7 @@ fn fill_slopes(q: &[u64], w: usize, size: &mut [u64], rising: &mut [bool])
 // A tracer's amounts in the row afterwards: those on the line between the departures of each cell's two faces.
 pub fn move_gas(gas: &mut [u32], air: &[u32], e: &[u64])
     requires { ⌜ LongGasNeed (now gas) (now air) (now e) ⌝ }
-    ensures { λ r. ⌜ IsMovedGas (now (gas .entry)) (now (air .entry)) (now (e .entry)) (now (gas .exit)) ⌝ }
+    ensures { λ r. ⌜ now (gas .exit) ≡ gasBy (now (e .entry)) (now (air .entry)) (now (gas .entry)) ⌝ }
 {
     let w = air.len();
     let end = w + 1;

@@ -1,7 +1,5 @@
--- `long_row::move_air` meets its contract: the air between the departures of a cell's faces is its air afterwards.
-use mathlib.Core.Path.{_≡_}
-use native.Mathlib.Omega.{arith}
-use Rattle.long_row.specs.Air.{faces-serve, moved-air-is}
+-- `long_row::move_air` meets its contract: the air between the departures.
+use Rattle.long_row.specs.Air.{faces-serve, air-by}
 use borrow.Author.Needs.{needs}
 use Rattle.long_row.proofs.move_air.Statement.{statement}
 use Rattle.long_row.proofs.move_air.Tie as tie
@@ -15,7 +13,7 @@ returns : tie.Need-returns
 returns c =
     let s : tie.Start = search needs in
     let new : tie.After-new-air = search needs in
-    record { is = λ fluxes need are. moved-air-is need are _ (search needs) (new .new-air .ensures) }
+    air-by (s .pre) (search needs) (new .new-air .ensures)
 
 pub move-air-spec : {M : Type 1} → statement M
 move-air-spec =

@@ -1,5 +1,6 @@
 -- `long_row::move_gas` meets its contract: the amounts between the departures on the line of the row's cells.
-use Rattle.long_row.specs.Gas.{IsMovedGas, ratios-need, line-need, moved-is}
+use mathlib.Core.Path.{_∙_}
+use Rattle.long_row.specs.Gas.{ratios-need, line-need, gas-by}
 use borrow.Author.Needs.{needs}
 use Rattle.long_row.proofs.move_gas.Statement.{statement}
 use Rattle.long_row.proofs.move_gas.Tie as tie
@@ -23,8 +24,8 @@ returns c =
     let slopes : tie.After-fill-slopes = search needs in
     let line : tie.After-tracer-between = search needs in
     let copied : tie.After-copy = search needs in
-    rw (copied .copy .ensures)
-    (moved-is (s .pre) (ratios .fill-ratios .ensures) (slopes .fill-slopes .ensures) (search needs) (line .tracer-between .ensures))
+    copied .copy .ensures ∙
+    gas-by (s .pre) (ratios .fill-ratios .ensures) (slopes .fill-slopes .ensures) (search needs) (line .tracer-between .ensures)
 
 pub move-gas-spec : {M : Type 1} → statement M
 move-gas-spec =
