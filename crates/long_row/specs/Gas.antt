@@ -10,8 +10,8 @@ use lib.ListN.{length, getD, set}
 use Rattle.model.specs.Limits.{totalLimit}
 use Rattle.model.specs.Basic.{at, part, sum, tabFrom, tab}
 use Rattle.model.specs.Scheme.{Mismatch, mismatch}
-use Rattle.model.specs.Sweep.{ring, westOf, eastOf, cellRatio, cellMismatch}
-use Rattle.model.specs.Remap.{ColumnLayer, airAbove, amountAbove}
+use Rattle.model.specs.Sweep.{ring, westOf, eastOf, cellMismatch}
+use Rattle.model.specs.Remap.{ColumnLayer, amountAbove}
 use Rattle.model.specs.Long.{lineCell, lineAir, turns, carried, departure, longGas}
 use Rattle.model.specs.Laws.Basic.{length-part, at-part, tab-at, tab-ext}
 use Rattle.model.specs.Laws.Entries.{entries-more}

@@ -4,7 +4,6 @@ use mathlib.Core.List.{List, [], _∷_}
 use mathlib.Core.Path.{_≡_, refl, sym, ap₂, _∙_}
 use lib.Dec.{eqb}
 use lib.IntN.{ℤ}
-use lib.ListN.{length}
 use Rattle.model.specs.Limits.{mostSubsteps}
 use Rattle.model.specs.World.{World, rowStart}
 use Rattle.model.specs.Sweep.{ring, substepCount}

@@ -3,8 +3,6 @@ use mathlib.Core.Path.{_≡_}
 use native.Mathlib.Omega.{arith}
 use mir.Syntax.{w32}
 use mir.Val.{toZ, ofZ}
-use Rattle.model.specs.Sweep.{forward, backward}
-use Rattle.scheme.specs.declared.Flux.{Flux}
 use Rattle.scheme.specs.Leaves.{IsSplit}
 use borrow.Author.Needs.{needs}
 use Rattle.long_row.proofs.departure_of.Statement.{statement}
