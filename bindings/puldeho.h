@@ -208,7 +208,7 @@ static inline const char *puldeho_refusal_remedy(enum puldeho_refusal refusal)
     case PULDEHO_REFUSAL_REMAP:
         return "use a = 0, and choose the b so that every layer gets 1 to 65,535 units in the column with the least air and in the one with the most";
     case PULDEHO_REFUSAL_LONG_FLUX:
-        return "take the row's air off every flux, which changes nothing else, since a whole turn brings every cell back; or divide the step";
+        return "take whole turns, each the sum of the row's air, off every flux (add them if the fluxes are negative): a whole turn brings every cell back, so nothing else changes; or divide the step";
     case PULDEHO_REFUSAL_LONG_AIR:
         return "give fluxes that leave every cell 1 to 65,535; if the other sweeps of the step would bring the air back, make the whole step (zonal, meridional, remap) in parts, or make the meridional sweep or a remap first";
     }

@@ -937,8 +937,9 @@ contains
       text = "use a = 0, and choose the b so that every layer gets 1 to 65,535 units in the column with " // &
           "the least air and in the one with the most"
     case (puldeho_refusal_long_flux)
-      text = "take the row's air off every flux, which changes nothing else, since a whole turn brings " // &
-          "every cell back; or divide the step"
+      text = "take whole turns, each the sum of the row's air, off every flux (add them if the fluxes " // &
+          "are negative): a whole turn brings every cell back, so nothing else changes; or divide the" // &
+          " step"
     case (puldeho_refusal_long_air)
       text = "give fluxes that leave every cell 1 to 65,535; if the other sweeps of the step would bring" // &
           " the air back, make the whole step (zonal, meridional, remap) in parts, or make the " // &
