@@ -1,7 +1,7 @@
 // The public calls for C and Rust. Each takes the grid's four numbers and the lent buffers, and returns one number: answer · 2^32 + count.
 ghost use mathlib.Core.Path.{_≡_};
 ghost use Prim.Native.Nat.{_+_, _*_};
-ghost use Rattle.model.specs.Step.{load, emission, withdrawal, zonal, meridional, remap, total, cell as cell-call};
+ghost use Rattle.model.specs.Step.{load, emission, withdrawal, zonal, longZonal, meridional, remap, total, cell as cell-call};
 ghost use Rattle.boundary.specs.Returned.{packedOf, Returns, lentWorld};
 use units::Answer;
 use units::Grid;
@@ -109,6 +109,23 @@ pub extern "C" fn puldeho_raw_zonal(
     ensures { λ x. ⌜ Returns (lentWorld w r k n (now (air .entry)) (now (tracers .entry))) (zonal layer row (now (fluxes .entry))) x (lentWorld w r k n (now (air .exit)) (now (tracers .exit))) ⌝ }
 {
     packed(zonal::zonal(Grid { w, r, k, n }, air, tracers, layer, row, fluxes))
+}
+
+#[no_mangle]
+pub extern "C" fn puldeho_raw_long_zonal(
+    w: u32,
+    r: u32,
+    k: u32,
+    n: u32,
+    air: &mut [u32],
+    tracers: &mut [u32],
+    layer: u32,
+    row: u32,
+    fluxes: &[i32],
+) -> u64
+    ensures { λ x. ⌜ Returns (lentWorld w r k n (now (air .entry)) (now (tracers .entry))) (longZonal layer row (now (fluxes .entry))) x (lentWorld w r k n (now (air .exit)) (now (tracers .exit))) ⌝ }
+{
+    packed(long_zonal::long_zonal(Grid { w, r, k, n }, air, tracers, layer, row, fluxes))
 }
 
 #[no_mangle]

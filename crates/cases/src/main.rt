@@ -1,4 +1,4 @@
-// Marked cases m1 to m10 and further cases x1 to x5, run through the sweeps and the remap: name, answer, count, all air, all tracers.
+// Marked cases m1 to m10, further cases x1 to x5, and cases y1-1 to y1-7 of the long sweep, run through the sweeps and the remap: name, answer, count, all air, all tracers.
 // In grids of one row of four columns; the first and the last amount of a layer are the caps'.
 use libc::STDOUT_FILENO;
 
@@ -39,6 +39,13 @@ fn case(name: &[u8], from: [u32; 6], had: [u32; 6], fluxes: [i32; 4]) {
     let mut air = from;
     let mut gas = had;
     let answer = zonal::zonal(layers(1), &mut air, &mut gas, 0, 0, &fluxes);
+    report(name, answer, &air, &gas);
+}
+
+fn long_case(name: &[u8], fluxes: [i32; 4]) {
+    let mut air = [100u32; 6];
+    let mut gas = [0, 0, 100, 200, 100, 0];
+    let answer = long_zonal::long_zonal(layers(1), &mut air, &mut gas, 0, 0, &fluxes);
     report(name, answer, &air, &gas);
 }
 
@@ -121,6 +128,13 @@ fn main() {
         [0u32; 6],
         [20, 0, 0, 21],
     );
+    long_case(b"y1-1", [0, 50, 0, 0]);
+    long_case(b"y1-2", [400, 400, 400, 400]);
+    long_case(b"y1-3", [0 - 400, 0 - 400, 0 - 400, 0 - 400]);
+    long_case(b"y1-4", [0 - 250, 0 - 250, 0 - 230, 0 - 270]);
+    long_case(b"y1-5", [401, 400, 400, 400]);
+    long_case(b"y1-6", [100, 0, 0, 0]);
+    long_case(b"y1-7", [401, 0, 0, 0]);
     from_south(b"x3", 100);
     from_south(b"x4", 170);
     columns();

@@ -4,12 +4,11 @@ use mathlib.Core.List.{List}
 use mathlib.Core.Bool.{Bool, true, false, _||_}
 use mathlib.Core.Path.{_≡_}
 use lib.Dec.{eqb}
-use lib.ListN.{length}
+use lib.ListN.{length, getD}
 use Rattle.model.specs.Limits.{airLimit, totalLimit}
-use Rattle.model.specs.Basic.{at, sum, tab}
+use Rattle.model.specs.Basic.{at, sum}
 use Rattle.model.specs.Scheme.{Mismatch, mismatch, plain}
 use Rattle.model.specs.Remap.{airAbove, layers, newTracer, columnCount}
-use Rattle.substep.specs.Pieces.{AreRatios}
 use Rattle.column.specs.Column.{firsts, AreEdges}
 
 -- ---- mismatches
@@ -21,7 +20,21 @@ slopeAt cap k q i =
       | false ↦ mismatch (at q (i - 1)) (at q i) (at q (suc i))
     ]
 
--- ---- the walk
+-- room for the mismatches of up to 32 layers
+pub record SlopesNeed (k : ℕ) (q size : List ℕ) (rising : List Bool) : Type 0 where
+  pub fit : k ≤ 32
+  pub roomRatios : k ≤ length q
+  pub roomSize : k ≤ length size
+  pub roomRising : k ≤ length rising
+
+-- the lists hold them
+pub record AreSlopes (cap : Bool) (k : ℕ) (q size : List ℕ) (rising : List Bool) : Type 0 where
+  pub longSize : k ≤ length size
+  pub longRising : k ≤ length rising
+  pub isSize : (i : ℕ) → i < k → at size i ≡ slopeAt cap k q i .size
+  pub isSign : (i : ℕ) → i < k → getD rising i false ≡ slopeAt cap k q i .positive
+
+-- ---- a tracer's remap
 -- 1 to 32 layers with air in range, and edges that rise from 0 to their sum
 pub record Spans (k : ℕ) (air e : List ℕ) : Type 0 where
   pub some : 1 ≤ k
@@ -34,25 +47,21 @@ pub record Spans (k : ℕ) (air e : List ℕ) : Type 0 where
   pub last : at e k ≡ airAbove (firsts k air) k
   pub rises : (j : ℕ) → j < k → at e j < at e (suc j)
 
--- ---- a tracer's remap
--- such layers and edges, tracer within the limit, and room for the ratios and the new amounts
-pub record ColumnGasNeed (k : ℕ) (air gas q e newgas : List ℕ) : Type 0 where
+-- such layers and edges, tracer within the limit, and room for the ratios, the mismatches and the new amounts
+pub record ColumnGasNeed (k : ℕ) (air gas q size : List ℕ) (rising : List Bool) (e newgas : List ℕ) : Type 0 where
   pub spans : Spans k air e
   pub total : sum k (at gas) ≤ totalLimit
   pub roomGas : k ≤ length gas
   pub roomRatios : k ≤ length q
+  pub roomSize : k ≤ length size
+  pub roomRising : k ≤ length rising
   pub room : k ≤ length newgas
-
--- the same, with the ratios in q
-pub record WalkNeed (k : ℕ) (air gas q e newgas : List ℕ) : Type 0 where
-  pub column : ColumnGasNeed k air gas q e newgas
-  pub ratios : AreRatios k air gas q
 
 -- r has the new layers' tracer, whatever table the edges are of
 pub record IsRemapped (cap : Bool) (k : ℕ) (air gas e r : List ℕ) : Type 0 where
   pub is :
-      (table : List ℕ) → AreEdges table (airAbove (firsts k air) k) k e →
-      firsts k r ≡ tab k (newTracer table (airAbove (firsts k air) k) (layers mismatch cap k (firsts k air) (firsts k gas)))
+      (table : List ℕ) → AreEdges table (airAbove (firsts k air) k) k e → (j : ℕ) → j < k →
+      at r j ≡ newTracer table (airAbove (firsts k air) k) (layers mismatch cap k (firsts k air) (firsts k gas)) j
 
 -- ---- pairs
 -- r counts the pairs of an old and a new layer that share air, whatever table the edges are of

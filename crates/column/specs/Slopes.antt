@@ -1,25 +1,23 @@
 -- A column's layers, with the mismatches by their ratios, as the model has them.
-use Prim.Native.Nat.{ℕ, zero, suc, _+_, _-_, _*_, _≤_, _<_}
+use Prim.Native.Nat.{ℕ, zero, suc, _+_, _-_, _*_, _%_, _≤_, _<_}
 use mathlib.Core.List.{List, _∷_}
 use mathlib.Core.Bool.{Bool, true, false, or-true, _||_, true≢false}
 use mathlib.Core.Path.{_≡_, refl, sym, ap, ap₂, _∙_}
+use native.Mathlib.Nat.{mod-eq-of-lt}
 use native.Mathlib.Numerals.{add-one}
 use native.Mathlib.Omega.{arith}
 use borrow.Author.Tests.{eqb-false, eq-eqb, ne-eqb}
 use lib.Dec.{eqb}
 use Rattle.model.specs.Basic.{at, tabFrom, tab}
 use Rattle.model.specs.Scheme.{ratio, mismatch, plain}
-use Rattle.model.specs.Remap.{ColumnLayer, layerMismatch, layers}
+use Rattle.model.specs.Remap.{layerMismatch, layers}
 use Rattle.model.specs.Laws.Basic.{at-tab}
 use Rattle.model.specs.Laws.Scheme.{mismatch-twice}
 use Rattle.model.specs.Laws.Column.{layerOf}
-use Rattle.column.specs.Column.{firsts}
 use Rattle.substep.specs.Pieces.{AreRatios}
-use Rattle.column.specs.Gas.{slopeAt}
-
--- the layers that the lists hold
-abbrev pub layerAt : Bool → ℕ → List ℕ → List ℕ → List ℕ → ℕ → ColumnLayer
-layerAt cap k air gas q i = record { air = at air i; tracer = at gas i; slope = slopeAt cap k q i }
+use Rattle.line.specs.Line.{slopeIn, cellAt}
+use Rattle.column.specs.Column.{firsts}
+use Rattle.column.specs.Gas.{slopeAt, AreSlopes}
 
 tab-same : {A : Type 0} (i n : ℕ) (f g : ℕ → A) → ((t : ℕ) → t < i + n → f t ≡ g t) → tabFrom i n f ≡ tabFrom i n g
 unfolding tabFrom
@@ -51,7 +49,9 @@ module _ (cap : Bool) (k : ℕ) (q : List ℕ) (i : ℕ) where
         (ap (λ (n : ℕ). mismatch (at q (i - 1)) (at q i) (at q n)) (add-one i))
 
 -- ---- the model's layers
-module _ (cap : Bool) (k : ℕ) (air gas q : List ℕ) (ratios : AreRatios k air gas q) where
+module _
+    {cap : Bool} {k : ℕ} {air gas q size : List ℕ} {rising : List Bool} (ratios : AreRatios k air gas q)
+    (slopes : AreSlopes cap k q size rising) where
   own : (i : ℕ) → i < k → at q i ≡ ratio (at (firsts k air) i) (at (firsts k gas) i)
   own i h = ratios .is i h ∙ sym (ap₂ ratio (at-tab k (at air) i h) (at-tab k (at gas) i h))
 
@@ -66,23 +66,25 @@ module _ (cap : Bool) (k : ℕ) (air gas q : List ℕ) (ratios : AreRatios k air
           rw (e, slopeAt, layerMismatch)
           (λ n. mismatch (own (i - 1) (omega arith) n) (own i h n) (own (suc i) (omega arith) n))
 
-  pub layers-are : tab k (layerAt cap k air gas q) ≡ layers mismatch cap k (firsts k air) (firsts k gas)
+  pub layers-are : tab k (cellAt k air gas size rising) ≡ layers mismatch cap k (firsts k air) (firsts k gas)
   unfolding layers
   layers-are =
-      tab-same 0 k (layerAt cap k air gas q) (layerOf mismatch cap k (firsts k air) (firsts k gas))
+      tab-same 0 k (cellAt k air gas size rising) (layerOf mismatch cap k (firsts k air) (firsts k gas))
       (λ t h.
       let p : t < k = omega arith in
+      let own : t % k ≡ t = mod-eq-of-lt p in
+      let listed : slopeIn size rising t ≡ slopeAt cap k q t = λ n. record { size = slopes .isSize t p n; positive = slopes .isSign t p n } in
       λ n.
       record {
-        air = sym (at-tab k (at air) t p) n;
-        tracer = sym (at-tab k (at gas) t p) n;
-        slope = slope-is t p n;
+        air = (ap (at air) own ∙ sym (at-tab k (at air) t p)) n;
+        tracer = (ap (at gas) own ∙ sym (at-tab k (at gas) t p)) n;
+        slope = (ap (slopeIn size rising) own ∙ listed ∙ slope-is t p) n;
       })
 
   -- at most twice the layer's ratio
-  pub slope-small : (i : ℕ) → i < k → slopeAt cap k q i .size ≤ 2 * ratio (at air i) (at gas i)
+  pub slope-small : (i : ℕ) → i < k → at size i ≤ 2 * ratio (at air i) (at gas i)
   unfolding slopeAt
-  slope-small i h = rw (← ratios .is i h) (go (cap || eqb i 0 || eqb (suc i) k) refl)
+  slope-small i h = rw (slopes .isSize i h, ← ratios .is i h) (go (cap || eqb i 0 || eqb (suc i) k) refl)
     where
       go : (b : Bool) → cap || eqb i 0 || eqb (suc i) k ≡ b → slopeAt cap k q i .size ≤ 2 * at q i
       go true e = rw (e, slopeAt) (omega arith)

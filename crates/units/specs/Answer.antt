@@ -6,7 +6,7 @@ use Rattle.model.specs.Step.{Call, step}
 use Rattle.units.specs.declared.Answer.{Answer}
 use Rattle.units.specs.declared.Answer.the-variants.{Accepted, Refused}
 use Rattle.units.specs.declared.Refusal.{Refusal}
-use Rattle.units.specs.declared.Refusal.the-variants.{GridRange, Lengths, AirRange, Totals, Index, Emission, Withdrawal, Fluxes, Zonal, Meridional, Table, Remap}
+use Rattle.units.specs.declared.Refusal.the-variants.{GridRange, Lengths, AirRange, Totals, Index, Emission, Withdrawal, Fluxes, Zonal, Meridional, Table, Remap, LongFlux, LongAir}
 
 -- "Refusals by place of checking": the number of each place
 abbrev pub refusalNumber : Refusal → ℕ
@@ -22,6 +22,8 @@ refusalNumber Zonal = 9
 refusalNumber Meridional = 10
 refusalNumber Table = 11
 refusalNumber Remap = 12
+refusalNumber LongFlux = 16
+refusalNumber LongAir = 17
 
 -- "answer (0 if accepted)", else the refusal's number
 abbrev pub numberOf : Answer → ℕ

@@ -86,6 +86,8 @@ pub enum Refusal {
     Meridional,
     Table,
     Remap,
+    LongFlux,
+    LongAir,
 }
 
 // What a call answers: accepted, with its count, or refused.
@@ -126,6 +128,8 @@ pub fn refusal_number(r: Refusal) -> u32
         Refusal::Meridional => 10,
         Refusal::Table => 11,
         Refusal::Remap => 12,
+        Refusal::LongFlux => 16,
+        Refusal::LongAir => 17,
     }
 }
 

@@ -28,10 +28,11 @@ use Rattle.places.specs.declared.Placed.{Placed}
 use Rattle.places.specs.Walk.{none}
 use Rattle.substep.specs.Lent.{put-back}
 use Rattle.row.specs.Substeps.{rowMesh, RowNeed, chain}
+use Rattle.row_place.specs.RowPlace.{lentRow, row-lent}
 use Rattle.rows.specs.Gas.{rowOf}
 use Rattle.rows.specs.Rows.{RowsFit, AreRows, StoreNeed, storedRows}
 use Rattle.rows.specs.Swept.{SweepNeed, AreSwept}
-use Rattle.zonal.specs.RowPlace.{RowFound, lentRow, row-lent, row-need}
+use Rattle.zonal.specs.ZonalPlace.{ZonalFound, row-need}
 
 -- tracer t's amounts
 abbrev gasOf : Grid → List ℕ → ℕ → List ℕ
@@ -120,7 +121,7 @@ module _
           }
 
 -- ---- the call, once its row is found
-module _ {w : World} {k r : ℕ} {fluxes : List ℤ} {p : Placed} (found : RowFound w k r fluxes p) where
+module _ {w : World} {k r : ℕ} {fluxes : List ℤ} {p : Placed} (found : ZonalFound w k r fluxes p) where
   sweeps : Sweeps w (ring (w .grid .W)) (rowStart (w .grid) k r) fluxes (zonalCount w k r fluxes)
   sweeps = zonal-sweeps k r fluxes w (none (found .left))
 

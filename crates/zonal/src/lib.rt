@@ -2,45 +2,38 @@
 ghost use Rattle.model.specs.Step.{zonal as zonal-call};
 ghost use Rattle.units.specs.Answer.{Agrees};
 ghost use Rattle.units.specs.Grid.{gridOf, worldOf};
-ghost use Rattle.zonal.specs.RowPlace.{IsRowPlace};
+ghost use Rattle.zonal.specs.ZonalPlace.{IsZonalPlace};
 ghost use Rattle.zonal.specs.RowSwept.{RowReady, IsSwept};
-use places::Lent;
 use places::Placed;
-use places::common_places;
-use places::fluxes_fit;
 use places::not_placed;
 use row::count;
+use row_place::row_place;
 use rows::load_rows;
 use rows::store_rows;
 use rows::sweep_rows;
-use units::Air;
 use units::Answer;
 use units::Grid;
 use units::Refusal;
-use units::ZONAL_LIMIT;
 use units::number;
-use units::row_start;
 use units::world_cells;
 
 // Places 1 to 9: where the row starts, and its substep count.
-fn row_place(g: Grid, air: &[u32], tracers: &[u32], layer: u32, row: u32, fluxes: &[i32]) -> Placed
-    ensures { λ p. ⌜ IsRowPlace (worldOf g (now (air .entry)) (now (tracers .entry))) layer row (now (fluxes .entry)) p ⌝ }
+fn zonal_place(
+    g: Grid,
+    air: &[u32],
+    tracers: &[u32],
+    layer: u32,
+    row: u32,
+    fluxes: &[i32],
+) -> Placed
+    ensures { λ p. ⌜ IsZonalPlace (worldOf g (now (air .entry)) (now (tracers .entry))) layer row (now (fluxes .entry)) p ⌝ }
 {
-    let tested = common_places(g, air, tracers, Lent::RowFluxes(fluxes.len()));
-    let answer = tested.answer;
+    let place = row_place(g, air, tracers, layer, row, fluxes);
+    let answer = place.answer;
     if number(answer) == 0 {} else {
-        return not_placed(answer);
+        return place;
     }
-    if layer < g.k {} else {
-        return not_placed(Answer::Refused(Refusal::Index));
-    }
-    if row < g.r {} else {
-        return not_placed(Answer::Refused(Refusal::Index));
-    }
-    if fluxes_fit(fluxes, Air(ZONAL_LIMIT)) {} else {
-        return not_placed(Answer::Refused(Refusal::Fluxes));
-    }
-    let first = row_start(g, layer, row) as usize;
+    let first = place.first;
     let end = first + (g.w as usize);
     let n = count(&air[first..end], fluxes);
     if 0 < n {} else {
@@ -85,7 +78,7 @@ pub fn zonal(
 ) -> Answer
     ensures { λ x. ⌜ Agrees (worldOf g (now (air .entry)) (now (tracers .entry))) (zonal-call layer row (now (fluxes .entry))) x (worldOf g (now (air .exit)) (now (tracers .exit))) ⌝ }
 {
-    let place = row_place(g, air, tracers, layer, row, fluxes);
+    let place = zonal_place(g, air, tracers, layer, row, fluxes);
     let answer = place.answer;
     if number(answer) == 0 {} else {
         return answer;

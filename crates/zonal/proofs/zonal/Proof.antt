@@ -1,9 +1,10 @@
--- `zonal::zonal` meets its contract: the row found by `row_place`, swept in the air and in all tracers.
+-- `zonal::zonal` meets its contract: the row found by `zonal_place`, swept in the air and in all tracers.
 use mathlib.Core.Path.{sym, _∙_}
 use native.Mathlib.Omega.{arith}
 use Rattle.units.specs.Grid.{worldOf}
 use Rattle.places.specs.Walk.{itself, refuses}
-use Rattle.zonal.specs.RowPlace.{RowFound, row-near, row-in-air}
+use Rattle.row_place.specs.RowPlace.{row-near, row-in-air}
+use Rattle.zonal.specs.ZonalPlace.{ZonalFound}
 use Rattle.zonal.specs.RowSwept.{row-ready, zonal-agrees}
 use borrow.Author.Needs.{needs}
 use Rattle.zonal.proofs.zonal.Statement.{statement}
@@ -11,17 +12,17 @@ use Rattle.zonal.proofs.zonal.Tie as tie
 
 returns : tie.Need-returns
 returns c =
-    let place : tie.After-row-place = search needs in
-    refuses (place .row-place .ensures) (λ z. c .if1 .left (c .before .number .ensures ∙ z)) itself
+    let place : tie.After-zonal-place = search needs in
+    refuses (place .zonal-place .ensures) (λ z. c .if1 .left (c .before .number .ensures ∙ z)) itself
 
 found : (c : tie.Then1) →
     let s : tie.Start = search needs in
-    let place : tie.After-row-place = search needs in
-    RowFound (worldOf (s .args .g) (s .args .air .now) (s .args .tracers .now)) (s .args .layer) (s .args .row) (s .args .fluxes .now)
-    (place .row-place .result)
+    let place : tie.After-zonal-place = search needs in
+    ZonalFound (worldOf (s .args .g) (s .args .air .now) (s .args .tracers .now)) (s .args .layer) (s .args .row) (s .args .fluxes .now)
+    (place .zonal-place .result)
 found c =
-    let place : tie.After-row-place = search needs in
-    place .row-place .ensures .found (sym (c .before .number .ensures) ∙ c .if1 .taken)
+    let place : tie.After-zonal-place = search needs in
+    place .zonal-place .ensures .found (sym (c .before .number .ensures) ∙ c .if1 .taken)
 
 cast-substeps : tie.Need-cast-substeps
 cast-substeps c =
@@ -58,7 +59,7 @@ pub zonal-spec : {M : Type 1} → statement M
 zonal-spec =
     tie.close
     (tie.spec
-    (λ c κs. search needs)  -- row-place-requires
+    (λ c κs. search needs)  -- zonal-place-requires
     (λ c κs. search needs)  -- number-requires
     (λ c. search needs)  -- same-length
     (λ c. search needs)  -- same-length-2

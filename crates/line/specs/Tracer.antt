@@ -1,0 +1,149 @@
+-- A tracer's amounts on a line: G of a longer line, three turns of the lists, and G at the edge that the walk passes.
+use Prim.Native.Nat.{ℕ, suc, _+_, _*_, _-_, _%_, _≤_, _<_}
+use mathlib.Core.List.{List}
+use mathlib.Core.Bool.{Bool}
+use mathlib.Core.Logic.{⊎-elim}
+use mathlib.Core.Path.{_≡_, sym, ap, ap₂, _∙_}
+use native.Mathlib.Nat.{le-trans, mod-lt, mod-eq-of-lt, mul-add-mod-self-right}
+use native.Mathlib.Numerals.{add-one}
+use native.Mathlib.Omega.{arith}
+use Rattle.units.specs.declared.Air.{Air}
+use Rattle.units.specs.declared.Tracer.{Tracer}
+use Rattle.units.specs.declared.Mismatch as code
+use Rattle.model.specs.Limits.{totalLimit}
+use Rattle.model.specs.Basic.{at, sum, tab}
+use Rattle.model.specs.Scheme.{Mismatch, lowPiece}
+use Rattle.model.specs.Remap.{ColumnLayer, amountAbove}
+use Rattle.model.specs.Laws.Basic.{le-or-lt, steps-rise, term-le-sum}
+use Rattle.model.specs.Laws.Basic.{sum-more, sum-ext, sum-zero, sum-same, sum-times, sum-split, sum-fewer, sum-columns}
+use Rattle.model.specs.Laws.Scheme.{Safe, ratio-safe}
+use Rattle.model.specs.Laws.Above.{layerPiece, airOf, tracerOf, layerPart, amount-is, amount-none, amount-rises, part-is, part-none, parts-whole}
+use Rattle.scheme.specs.Leaves.{mismatchOf, Giver}
+use Rattle.line.specs.Line.{slopeIn, cellAt, lineAir, LineNeed, IsBetween}
+use Rattle.line.specs.Walk.{Within, WalkPlace, rises-next, edge-most, end-is}
+
+-- ---- G
+module _ (f : ℕ → ColumnLayer) where
+  module _ (n : ℕ) (has : (k : ℕ) → k < n → 1 ≤ f k .air) where
+    -- at a point that the first m layers reach
+    amount-of : (m x : ℕ) → m ≤ n → x ≤ airOf f m → amountAbove (tab n f) x ≡ sum m (λ k. layerPart f k x)
+    amount-of m x h le =
+        let e : n ≡ m + (n - m) = omega arith in
+        let past : (t : ℕ) → t < n - m → layerPart f (m + t) x ≡ 0 =
+        λ t p. part-none f n has (m + t) x (omega arith) (le-trans le (sum-fewer (λ k. f k .air) m (m + t) (omega arith))) in
+        let none = sum-ext (n - m) _ (λ t. 0) past ∙ sum-zero (n - m) in
+        amount-is f n has x ∙ ap (λ (i : ℕ). sum i (λ k. layerPart f k x)) e ∙ omega (arith, sum-split m (n - m) (λ k. layerPart f k x), none)
+
+    -- at a point of layer i: the whole layers before it, and the low-end piece of what is left
+    amount-at :
+        (i x : ℕ) → i < n → airOf f i ≤ x → x ≤ airOf f (i + 1) →
+        amountAbove (tab n f) x ≡ tracerOf f i + layerPiece (f i) (x - airOf f i)
+    amount-at i x h low high =
+        amount-of (i + 1) x (omega arith) high ∙ sum-more i (λ k. layerPart f k x) ∙
+        ap₂ _+_ (parts-whole f n has i x (omega arith) low) (part-is f i x low (rw add-one at high))
+
+  -- a longer line has the same at a point that the shorter one reaches
+  amount-longer :
+      (m n : ℕ) → m ≤ n → ((k : ℕ) → k < n → 1 ≤ f k .air) → (x : ℕ) → x ≤ airOf f m →
+      amountAbove (tab n f) x ≡ amountAbove (tab m f) x
+  amount-longer m n h has x le = amount-of n has m x h le ∙ sym (amount-is f m (λ k p. has k (omega arith)) x)
+
+-- ---- the lists laid `turns` times
+pub turns-sum : (turns n : ℕ) (f : ℕ → ℕ) → sum (turns * n) (λ i. f (i % n)) ≡ turns * sum n f
+turns-sum turns n f =
+    sum-columns turns n (λ i. f (i % n)) ∙
+    sum-ext n _ (λ i. turns * f i)
+    (λ i h.
+    let own : (k : ℕ) → k < turns → f ((k * n + i) % n) ≡ f i = λ k p. ap f (mul-add-mod-self-right k n i ∙ mod-eq-of-lt h) in
+    sum-ext turns _ (λ k. f i) own ∙ sum-same turns (f i)) ∙
+    sum-times n turns f
+
+-- ---- the tracer
+-- G of the lists laid three times
+abbrev pub upTo : ℕ → List ℕ → List ℕ → List ℕ → List Bool → ℕ → ℕ
+upTo n air gas size rising x = amountAbove (tab (3 * n) (cellAt n air gas size rising)) x
+
+module _
+    {n : ℕ} {air gas size : List ℕ} {rising : List Bool} {e : List ℕ} {m : ℕ} {newgas : List ℕ}
+    (need : LineNeed n air gas size rising e m newgas) where
+  abbrev f : ℕ → ColumnLayer
+  f = cellAt n air gas size rising
+
+  abbrev G : ℕ → ℕ
+  G = upTo n air gas size rising
+
+  least : (i : ℕ) → 1 ≤ at air (i % n)
+  least i = need .least (i % n) (mod-lt i (need .some))
+
+  pub line-within : Within (λ i. at air (i % n)) (3 * n) e m
+  line-within =
+      record {
+        some = omega (arith, need .some);
+        fit = omega (arith, need .fit);
+        most = λ i h. need .most (i % n) (mod-lt i (need .some));
+        rises = need .rises;
+        last = rw (turns-sum 3 n (at air)) (need .last);
+      }
+
+  -- the tracer of i cells, and of one more
+  pub gas-fits : (i : ℕ) → i < 3 * n → sum i (λ i. at gas (i % n)) + at gas (i % n) ≤ 3 * totalLimit
+  gas-fits i h =
+      let gasAt : ℕ → ℕ = λ i. at gas (i % n) in
+      omega (arith, sum-more i gasAt, sum-fewer gasAt (i + 1) (3 * n) (omega arith), turns-sum 3 n (at gas), need .total)
+
+  -- G at the first edge, and from each to the next
+  pub first-none : G (at e 0) ≡ 0
+  first-none = ap G (need .first) ∙ amount-none f (3 * n) (λ i h. least i)
+
+  pub amounts-rise : (j : ℕ) → j < m → G (at e j) ≤ G (at e (j + 1))
+  amounts-rise j h = amount-rises f (3 * n) (λ i h. least i) safe (at e j) (at e (j + 1)) (rises-next line-within j h)
+    where
+      safe : (i : ℕ) → i < 3 * n → Safe (slopeIn size rising (i % n)) (at air (i % n)) (at gas (i % n))
+      safe i p = ratio-safe (slopeIn size rising (i % n)) (at air (i % n)) (at gas (i % n)) (need .small (i % n) (mod-lt i (need .some)))
+
+  -- the piece of a cell
+  pub cell-giver :
+      {c : ℕ} {d : code.Mismatch} {have : Air} {t : Tracer} {part : Air} → c < n → mismatchOf d ≡ slopeIn size rising c →
+      have .0 ≡ at air c → t .0 ≡ at gas c → part .0 ≤ have .0 → Giver d have t part
+  cell-giver {c} h isSlope isAir isGas fits =
+      record {
+        some = rw isAir (need .least c h);
+        air = rw isAir (need .most c h);
+        tracer = omega (arith, isGas, term-le-sum n (at gas) c h, need .total);
+        part = fits;
+        small = rw (isAir, isGas) (rw (ap (λ (D : Mismatch). D .size) isSlope) (need .small c h));
+      }
+
+  -- the edge passed lies in cell i, which ends at `end`: what the code adds up is G there
+  module _
+      {i j passed end c : ℕ} (p : WalkPlace (λ i. at air (i % n)) (3 * n) e m i j passed) (ends : end ≡ passed + at air (i % n))
+      (h : j < m) (le : at e (j + 1) ≤ end) (here : c ≡ i % n) where
+    pub next-amount :
+        {d : code.Mismatch} {whole have t inside piece next : ℕ} → mismatchOf d ≡ slopeIn size rising c →
+        whole ≡ sum i (λ i. at gas (i % n)) → have ≡ at air c → t ≡ at gas c → inside ≡ at e (j + 1) - passed →
+        piece ≡ lowPiece (mismatchOf d) have t inside → next ≡ whole + piece → next ≡ G (at e (j + 1))
+    next-amount isSlope isWhole isAir isGas isInside isPiece isNext =
+        let high : at e (j + 1) ≤ sum (i + 1) (λ i. at air (i % n)) = omega (arith, end-is line-within p ends) in
+        let slope = isSlope ∙ ap (slopeIn size rising) here in
+        let cellAir = isAir ∙ ap (at air) here in
+        let cellGas = isGas ∙ ap (at gas) here in
+        isNext ∙ ap₂ _+_ isWhole (isPiece ∙ (λ z. lowPiece (slope z) (cellAir z) (cellGas z) (isInside z))) ∙
+        sym (rw (p .is) (amount-at f (3 * n) (λ i h. least i) i (at e (j + 1)) (p .cell) (rw (p .is) at (p .ahead h)) high))
+
+  -- the amounts between the edges, however many cells are looked at
+  pub between-is : (r : List ℕ) → ((j : ℕ) → j < m → at r j ≡ G (at e (j + 1)) - G (at e j)) → IsBetween n air gas size rising e m r
+  between-is r walked =
+      record {
+        is =
+            λ cells reach j h.
+            walked j h ∙
+            ap₂ _-_ (ap (λ (j : ℕ). G (at e j)) (add-one j) ∙ same cells reach (suc j) h) (same cells reach j (omega arith));
+      }
+    where
+      same : (cells : ℕ) → at e m ≤ lineAir n air cells → (j : ℕ) → j ≤ m → G (at e j) ≡ amountAbove (tab cells f) (at e j)
+      same cells reach j h =
+          ⊎-elim
+          (λ (p : cells ≤ 3 * n).
+          amount-longer f cells (3 * n) p (λ i q. least i) (at e j) (le-trans (steps-rise m (at e) (need .rises) j h) reach))
+          (λ (p : 3 * n < cells). sym (amount-longer f (3 * n) cells (omega arith) (λ i q. least i) (at e j) (edge-most line-within j h)))
+          (le-or-lt cells (3 * n))

@@ -1,0 +1,3 @@
+pub mod LongPlace
+pub mod LongTracers
+pub mod LongSwept
