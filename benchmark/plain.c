@@ -1,6 +1,6 @@
 /*
- * Plain C of the eight calls, written from document 01 for the benchmark: the same arguments, checks and results as
- * bindings/puldeho.h. Compiled by gcc with PREFIX set to the name that stands before each call.
+ * Plain C of the nine calls, written from documents 01 and 02 for the benchmark: the same arguments, checks and results
+ * as bindings/puldeho.h. Compiled by gcc with PREFIX set to the name that stands before each call.
  */
 #include <stddef.h>
 #include <stdint.h>
@@ -258,6 +258,90 @@ uint64_t CALL(zonal)(uint32_t w, uint32_t r, uint32_t k, uint32_t n, uint32_t *a
         step_air(air + first, f, w);
     }
     return count;
+}
+
+/* The long zonal sweep. */
+
+/* Where a face's mark lies: m units of air into a cell, which is met after so many turns from column 0. */
+typedef struct {
+    int64_t turn;
+    size_t cell;
+    uint32_t m;
+} mark;
+
+/* The marks of each column's west face. They rise, and span one turn, so the line is walked once. */
+static void marks_of(mark *at, const uint32_t *air, const int32_t *fluxes, size_t w, int64_t row_air)
+{
+    int64_t turn = fluxes[w - 1] > 0 ? -1 : 0, before = turn * row_air, x = 0;
+    size_t i = 0;
+    for (size_t j = 0; j < w; j++) {
+        int64_t place = x - fluxes[west_of(j, w)];
+        while (before + air[i] <= place) {
+            before += air[i];
+            i = east_of(i, w);
+            turn += i == 0;
+        }
+        at[j] = (mark){turn, i, (uint32_t)(place - before)};
+        x += air[j];
+    }
+}
+
+/* A tracer's row after the sweep. The last column's east mark is the first west mark and a turn. */
+static void sweep_gas(uint32_t *gas, const uint32_t *air, const mark *at, size_t w)
+{
+    int64_t q[MOST_W], d[MOST_W], whole[MOST_W], marked[MOST_W + 1], total = 0;
+    for (size_t i = 0; i < w; i++)
+        q[i] = ratio(air[i], gas[i]);
+    for (size_t i = 0; i < w; i++)
+        d[i] = mismatch(q[west_of(i, w)], q[i], q[east_of(i, w)]);
+    for (size_t i = 0; i < w; i++) {
+        whole[i] = total;
+        total += gas[i];
+    }
+    for (size_t j = 0; j < w; j++) {
+        size_t i = at[j].cell;
+        marked[j] = at[j].turn * total + whole[i] + low_piece(d[i], air[i], gas[i], at[j].m);
+    }
+    marked[w] = marked[0] + total;
+    for (size_t j = 0; j < w; j++)
+        gas[j] = (uint32_t)(marked[j + 1] - marked[j]);
+}
+
+/* The row's air after the sweep; 0 where it leaves 1 to 65,535. */
+static int long_air(uint32_t *next, const uint32_t *air, const int32_t *fluxes, size_t w)
+{
+    for (size_t i = 0; i < w; i++) {
+        int32_t after = (int32_t)air[i] + fluxes[west_of(i, w)] - fluxes[i];
+        if (after < 1 || after > MOST_AIR)
+            return 0;
+        next[i] = (uint32_t)after;
+    }
+    return 1;
+}
+
+uint64_t CALL(long_zonal)(uint32_t w, uint32_t r, uint32_t k, uint32_t n, uint32_t *air, size_t air_length,
+                          uint32_t *tracers, size_t tracers_length, uint32_t layer, uint32_t row,
+                          const int32_t *fluxes, size_t fluxes_length)
+{
+    world g;
+    uint32_t next[MOST_W];
+    mark at[MOST_W];
+    COMMON_PLACES(&g, ROW_FLUXES, fluxes_length);
+    if (layer >= k || row >= r)
+        return refused(5);
+    if (!fluxes_fit(fluxes, w, 1048560))
+        return refused(8);
+    size_t first = layer * g.layer + 1 + row * g.w;
+    int64_t row_air = (int64_t)total_of(air + first, w);
+    if (!fluxes_fit(fluxes, w, row_air))
+        return refused(16);
+    if (!long_air(next, air + first, fluxes, w))
+        return refused(17);
+    marks_of(at, air + first, fluxes, w, row_air);
+    for (size_t t = 0; t < n; t++)
+        sweep_gas(tracers + t * g.cells + first, air + first, at, w);
+    memcpy(air + first, next, w * sizeof *air);
+    return 0;
 }
 
 /* The meridional sweep. Face i lies between the cells south_of(i) and north_of(i); `rows` cells lie between the caps. */

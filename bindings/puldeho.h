@@ -1,5 +1,5 @@
 /*
- * Puldeho, the transport core of the tracer console, for C (C99 or later) and C++: version 0.1.0.
+ * Puldeho, the transport core of the tracer console, for C (C99 or later) and C++: version 0.2.0.
  * Made by tools/bindings from the tables of bindings/: not to be edited.
  *
  * To compile and link, on x86-64 Linux: cc program.c $(pkg-config --cflags --libs puldeho)
@@ -39,6 +39,7 @@
  *   puldeho_raw_emission           448
  *   puldeho_raw_withdrawal         384
  *   puldeho_raw_zonal           25,552
+ *   puldeho_raw_long_zonal      25,552
  *   puldeho_raw_meridional      93,952
  *   puldeho_raw_remap           17,648
  *   puldeho_raw_total              416
@@ -52,17 +53,17 @@
 #include <stdint.h>
 #include <string.h>
 
-#define PULDEHO_VERSION "0.1.0"
+#define PULDEHO_VERSION "0.2.0"
 #define PULDEHO_VERSION_MAJOR 0
-#define PULDEHO_VERSION_MINOR 1
+#define PULDEHO_VERSION_MINOR 2
 #define PULDEHO_VERSION_PATCH 0
-#define PULDEHO_ABI puldeho_abi_0_1
+#define PULDEHO_ABI puldeho_abi_0_2
 
 /* the most air of a cell; the least is 1 */
 #define PULDEHO_AIR_LIMIT 65535
 /* the most units of a tracer in all cells together */
 #define PULDEHO_TOTAL_LIMIT 268435455
-/* the largest size of a flux of a zonal sweep */
+/* the largest size of a flux of a zonal or a long zonal sweep */
 #define PULDEHO_ZONAL_LIMIT 1048560
 /* the largest size of a flux of a meridional sweep */
 #define PULDEHO_MERIDIONAL_LIMIT 65535
@@ -131,7 +132,11 @@ enum puldeho_refusal {
     /* the first pair is not (0, 0), the last is not (0, 65,536), an a is above 2,097,120, or a b is above 65,536 */
     PULDEHO_REFUSAL_TABLE = 11,
     /* in some column the edges do not rise strictly, or a new layer exceeds 65,535 */
-    PULDEHO_REFUSAL_REMAP = 12
+    PULDEHO_REFUSAL_REMAP = 12,
+    /* a flux's size exceeds the row's air */
+    PULDEHO_REFUSAL_LONG_FLUX = 16,
+    /* air afterwards leaves 1 to 65,535 */
+    PULDEHO_REFUSAL_LONG_AIR = 17
 };
 
 /* Why a call was refused: the condition of a refusal, in words. */
@@ -164,6 +169,10 @@ static inline const char *puldeho_refusal_text(enum puldeho_refusal refusal)
         return "the first pair is not (0, 0), the last is not (0, 65,536), an a is above 2,097,120, or a b is above 65,536";
     case PULDEHO_REFUSAL_REMAP:
         return "in some column the edges do not rise strictly, or a new layer exceeds 65,535";
+    case PULDEHO_REFUSAL_LONG_FLUX:
+        return "a flux's size exceeds the row's air";
+    case PULDEHO_REFUSAL_LONG_AIR:
+        return "air afterwards leaves 1 to 65,535";
     }
     return "no refusal of this version";
 }
@@ -191,13 +200,17 @@ static inline const char *puldeho_refusal_remedy(enum puldeho_refusal refusal)
     case PULDEHO_REFUSAL_FLUXES:
         return "give fluxes in units of air for this step, and divide the step if they are still too large";
     case PULDEHO_REFUSAL_ZONAL:
-        return "make the sweep as two or more, each with a part of the fluxes; if a cell would end with no air or too much, make the whole step (zonal, meridional, remap) in parts, or make the meridional sweep or a remap first";
+        return "make the sweep as two or more, each with a part of the fluxes, or as a long zonal sweep (in the library only), which gives other amounts of tracer; if a cell would end with no air or too much, make the whole step (zonal, meridional, remap) in parts, or make the meridional sweep or a remap first";
     case PULDEHO_REFUSAL_MERIDIONAL:
         return "make the sweep as two or more, each with a part of the fluxes; if a cell would end with no air or too much, make the whole step (zonal, meridional, remap) in parts, or make the zonal sweeps or a remap first";
     case PULDEHO_REFUSAL_TABLE:
         return "give K + 1 pairs a, b from the top down, with b in parts of 65,536, the first 0, 0 and the last 0, 65,536";
     case PULDEHO_REFUSAL_REMAP:
         return "use a = 0, and choose the b so that every layer gets 1 to 65,535 units in the column with the least air and in the one with the most";
+    case PULDEHO_REFUSAL_LONG_FLUX:
+        return "take whole turns, each the sum of the row's air, off every flux (add them if the fluxes are negative): a whole turn brings every cell back, so nothing else changes; or divide the step";
+    case PULDEHO_REFUSAL_LONG_AIR:
+        return "give fluxes that leave every cell 1 to 65,535; if the other sweeps of the step would bring the air back, make the whole step (zonal, meridional, remap) in parts, or make the meridional sweep or a remap first";
     }
     return "compile the program anew, with the header of the library that it is linked with";
 }
@@ -230,6 +243,13 @@ static inline size_t puldeho_tracers_length(struct puldeho_grid grid)
 /* The length of fluxes of a zonal call: W. In it: flux i crosses the face from column i to
  * column i + 1, the last to column 0; positive eastward. */
 static inline size_t puldeho_zonal_fluxes_length(struct puldeho_grid grid)
+{
+    return (size_t)grid.w;
+}
+
+/* The length of fluxes of a long_zonal call: W. In it: flux i crosses the face from column i
+ * to column i + 1, the last to column 0; positive eastward. */
+static inline size_t puldeho_long_zonal_fluxes_length(struct puldeho_grid grid)
 {
     return (size_t)grid.w;
 }
@@ -374,6 +394,19 @@ static inline enum puldeho_refusal puldeho_zonal(
     uint32_t *substeps);
 
 /*
+ * Sweeps one row of one layer by W fluxes, positive eastward, without substeps: a face takes
+ * whole cells and then a part of the next. Its amounts are not those of zonal. Writes air and
+ * tracers. Refusals, in order: 1 2 3 4 5 8 16 17. fluxes has
+ * puldeho_long_zonal_fluxes_length(grid) numbers.
+ */
+PULDEHO_MUST_USE PULDEHO_NOT_NULL(1) PULDEHO_LIST(read_only, 4, 5)
+static inline enum puldeho_refusal puldeho_long_zonal(
+    struct puldeho_world *world,
+    uint32_t layer,
+    uint32_t row,
+    const int32_t *fluxes, size_t fluxes_length);
+
+/*
  * Sweeps one layer by W*(R + 1) fluxes, positive northward. Writes air and tracers. Refusals,
  * in order: 1 2 3 4 5 8 10. substeps: the number of substeps, 1. fluxes has
  * puldeho_meridional_fluxes_length(grid) numbers.
@@ -456,6 +489,14 @@ enum puldeho_refusal puldeho_why_zonal(
     const int32_t *fluxes, size_t fluxes_length,
     char *text, size_t size);
 
+PULDEHO_NOT_NULL(1) PULDEHO_LIST(read_only, 4, 5) PULDEHO_LIST(write_only, 6, 7)
+enum puldeho_refusal puldeho_why_long_zonal(
+    const struct puldeho_world *world,
+    uint32_t layer,
+    uint32_t row,
+    const int32_t *fluxes, size_t fluxes_length,
+    char *text, size_t size);
+
 PULDEHO_NOT_NULL(1) PULDEHO_LIST(read_only, 3, 4) PULDEHO_LIST(write_only, 5, 6)
 enum puldeho_refusal puldeho_why_meridional(
     const struct puldeho_world *world,
@@ -512,6 +553,15 @@ uint64_t puldeho_raw_withdrawal(
 
 PULDEHO_MUST_USE PULDEHO_LIST(read_write, 5, 6) PULDEHO_LIST(read_write, 7, 8) PULDEHO_LIST(read_only, 11, 12)
 uint64_t puldeho_raw_zonal(
+    uint32_t w, uint32_t r, uint32_t k, uint32_t n,
+    uint32_t *air, size_t air_length,
+    uint32_t *tracers, size_t tracers_length,
+    uint32_t layer,
+    uint32_t row,
+    const int32_t *fluxes, size_t fluxes_length);
+
+PULDEHO_MUST_USE PULDEHO_LIST(read_write, 5, 6) PULDEHO_LIST(read_write, 7, 8) PULDEHO_LIST(read_only, 11, 12)
+uint64_t puldeho_raw_long_zonal(
     uint32_t w, uint32_t r, uint32_t k, uint32_t n,
     uint32_t *air, size_t air_length,
     uint32_t *tracers, size_t tracers_length,
@@ -615,6 +665,21 @@ static inline enum puldeho_refusal puldeho_zonal(
         layer,
         row,
         fluxes, fluxes_length), substeps);
+}
+
+static inline enum puldeho_refusal puldeho_long_zonal(
+    struct puldeho_world *world,
+    uint32_t layer,
+    uint32_t row,
+    const int32_t *fluxes, size_t fluxes_length)
+{
+    return puldeho_refusal_and_count(puldeho_raw_long_zonal(
+        world->grid.w, world->grid.r, world->grid.k, world->grid.n,
+        world->air, world->air_length,
+        world->tracers, world->tracers_length,
+        layer,
+        row,
+        fluxes, fluxes_length), NULL);
 }
 
 static inline enum puldeho_refusal puldeho_meridional(

@@ -31,7 +31,7 @@ pub struct Grown {
     pub calls: fn(&mut crate::worlds::Random, &World) -> Vec<Call>,
 }
 
-pub const GROWN: [Grown; 4] = [
+pub const GROWN: [Grown; 5] = [
     Grown {
         name: "load",
         grid: FULL,
@@ -43,6 +43,12 @@ pub const GROWN: [Grown; 4] = [
         grid: Grid { r: 1, k: 1, ..FULL },
         grows_with: "WN",
         calls: works::zonal,
+    },
+    Grown {
+        name: "long_zonal",
+        grid: Grid { r: 1, k: 1, ..FULL },
+        grows_with: "WN",
+        calls: works::long_zonal,
     },
     Grown {
         name: "meridional",

@@ -1,5 +1,5 @@
 //! Worlds, winds and tables that look like a day's: air that varies by layer and place, eight kinds of gas, zonal
-//! winds that need 1 to 3 substeps, weak meridional winds, tables whose edges lie inside the old layers.
+//! winds that need 1 to 3 substeps, long ones of several cells, weak meridional winds, tables whose edges lie inside the old layers.
 
 use crate::worlds::Random;
 use reference::{Call, Grid, World};
@@ -59,6 +59,20 @@ pub fn zonal(random: &mut Random, world: &World, layer: u32, row: u32, share: f6
     Call::Zonal { layer, row, fluxes }
 }
 
+/// Fluxes of a row that move it by about `cells` cells, with waves and noise of up to a tenth of a cell.
+pub fn long_zonal(random: &mut Random, world: &World, layer: u32, row: u32, cells: f64) -> Call {
+    let grid = &world.grid;
+    let direction = if random.one_in(2) { 1.0 } else { -1.0 };
+    let waves = 1.0 + random.below(4) as f64;
+    let flux = |i: u32, random: &mut Random| {
+        let wave = 0.1 * (waves * TAU * f64::from(i) / f64::from(grid.w)).sin();
+        let noise = random.below(200) as f64 / 10_000.0;
+        (direction * (cells + wave + noise) * base_air(grid, layer, 1)) as i32
+    };
+    let fluxes = (0..grid.w).map(|i| flux(i, random)).collect();
+    Call::LongZonal { layer, row, fluxes }
+}
+
 /// A layer's meridional fluxes: weak at the caps, up to a fifth of a cell's air between them, both directions.
 pub fn meridional(random: &mut Random, world: &World, layer: u32) -> Call {
     let grid = &world.grid;
@@ -81,6 +95,11 @@ pub fn opposite(call: &Call) -> Call {
     let back = |fluxes: &[i32]| fluxes.iter().map(|f| -f).collect();
     match call {
         Call::Zonal { layer, row, fluxes } => Call::Zonal {
+            layer: *layer,
+            row: *row,
+            fluxes: back(fluxes),
+        },
+        Call::LongZonal { layer, row, fluxes } => Call::LongZonal {
             layer: *layer,
             row: *row,
             fluxes: back(fluxes),

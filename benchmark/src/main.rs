@@ -4,6 +4,7 @@
 mod day;
 mod growth;
 mod inputs;
+mod long;
 mod plain;
 mod timing;
 mod versions;
@@ -56,7 +57,7 @@ fn amount(arguments: &[String]) -> Amount {
 /// Compares the versions on seeded lists of calls, limits and refusals among them.
 fn agreement(lists: u64) {
     eprintln!("{lists} lists of calls, compared after every call");
-    let mut reached = [0u64; 13];
+    let mut reached = [0u64; 18];
     for seed in 0..lists {
         let mut random = Random::new(seed);
         let grid = worlds::grid(&mut random, (seed % 40 / 13) as u32);
@@ -77,9 +78,10 @@ fn agreement(lists: u64) {
         "All versions agree on {} calls of {lists} seeded lists (answer, count, every number).",
         12 * lists
     );
-    println!("Calls by answer 0 to 12: {reached:?}");
+    println!("Calls by answer 0 to 17, where 13 to 15 are the runner program's: {reached:?}");
+    let of_calls = |answer: usize| !(13..=15).contains(&answer);
     assert!(
-        reached.iter().all(|&number| number > 0),
+        (0..18).all(|answer| (reached[answer] > 0) == of_calls(answer)),
         "an answer was not reached"
     );
 }
@@ -161,11 +163,37 @@ fn a_day(amount: &Amount) {
     }
 }
 
+fn long_beside_zonal(amount: &Amount) {
+    println!("\n## The long sweep beside the zonal sweep\n");
+    println!("The time of long sweeps as a part of that of zonal sweeps by the same fluxes, each version by itself.");
+    let names: Vec<&str> = VERSIONS.iter().map(|version| version.name).collect();
+    let row = Grid {
+        r: 1,
+        k: 1,
+        ..works::FULL
+    };
+    for grid in [row, works::FULL] {
+        let Grid { w, r, k, n } = grid;
+        println!(
+            "\n| Substeps on {w} × {r} × {k} × {n} | {} |",
+            names.join(" | ")
+        );
+        println!("|{}", "---|".repeat(COUNT + 1));
+        for substeps in long::SUBSTEPS {
+            eprintln!("long sweeps beside zonal sweeps of {substeps} substeps, {grid:?}");
+            let ratio = |v| long::beside_zonal(grid, substeps, v, amount.rounds).to_string();
+            let ratios: Vec<String> = (0..COUNT).map(ratio).collect();
+            println!("| {substeps} | {} |", ratios.join(" | "));
+        }
+    }
+}
+
 fn share_of_tests(amount: &Amount) {
     println!("\n## The whole-world tests\n");
     println!("Their share in a call on the full grid (as many loads as a part of the calls):\n");
     println!("| Call | library | {} |\n|---|---|---|", VERSIONS[1].name);
-    let moves = |kind: &&works::Kind| ["zonal", "meridional", "remap"].contains(&kind.name);
+    let moves =
+        |kind: &&works::Kind| ["zonal", "long_zonal", "meridional", "remap"].contains(&kind.name);
     for kind in works::KINDS.iter().filter(moves) {
         eprintln!("share of the tests in {}", kind.name);
         let shares = [0, 1].map(|v| growth::share(kind, v, amount.rounds));
@@ -200,9 +228,13 @@ fn bandwidth_of_tests(amount: &Amount) {
 fn linear(amount: &Amount) {
     println!("\n## Time for each cell and tracer as the grid grows\n");
     println!("The library's time for each cell and tracer (of a load, for each number that it reads), as a part of that at the first size.");
-    println!("Load and remap in 72 × 44 × 32 × 8, meridional in 72 × 44 × 1 × 8, zonal in 72 × 1 × 1 × 8, but for the size that grows.\n");
+    println!("Load and remap in 72 × 44 × 32 × 8, meridional in 72 × 44 × 1 × 8, zonal and long_zonal in 72 × 1 × 1 × 8, but for the size that grows.\n");
     let names: Vec<&str> = growth::GROWN.iter().map(|kind| kind.name).collect();
-    println!("| Size | {} |\n|---|---|---|---|---|", names.join(" | "));
+    println!(
+        "| Size | {} |\n|{}",
+        names.join(" | "),
+        "---|".repeat(names.len() + 1)
+    );
     for (name, sizes) in growth::SIZES {
         eprintln!("growth of {name}");
         let of_kind = |kind: &growth::Grown| {
@@ -233,6 +265,7 @@ fn main() {
         &amount,
     );
     a_day(&amount);
+    long_beside_zonal(&amount);
     share_of_tests(&amount);
     bandwidth_of_tests(&amount);
     linear(&amount);

@@ -1,4 +1,4 @@
-//! The eight calls in plain Rust, written from document 01 for the benchmark: safe code on slices, with the same checks.
+//! The nine calls in plain Rust, written from documents 01 and 02 for the benchmark: safe code on slices, with the same checks.
 //! A call gives its count, or the number of the first refusal that applies.
 
 use reference::Grid;
@@ -278,6 +278,105 @@ pub fn zonal(
         step_air(air, part);
     }
     Ok(n as u32)
+}
+
+/// Where a face's mark lies: m units of air into a cell, which is met after so many turns from column 0.
+#[derive(Clone, Copy, Default)]
+struct Mark {
+    turn: i64,
+    cell: usize,
+    m: i64,
+}
+
+/// The marks of each column's west face. They rise, and span one turn, so the line is walked once.
+fn marks_of(at: &mut [Mark], air: &[u32], fluxes: &[i32], row_air: i64) {
+    let w = air.len();
+    let mut turn = if fluxes[w - 1] > 0 { -1 } else { 0 };
+    let (mut before, mut x, mut i) = (turn * row_air, 0, 0);
+    for j in 0..w {
+        let place = x - i64::from(fluxes[west_of(j, w)]);
+        while before + i64::from(air[i]) <= place {
+            before += i64::from(air[i]);
+            i = east_of(i, w);
+            turn += i64::from(i == 0);
+        }
+        at[j] = Mark {
+            turn,
+            cell: i,
+            m: place - before,
+        };
+        x += i64::from(air[j]);
+    }
+}
+
+/// A tracer's row after the long sweep. The last column's east mark is the first west mark and a turn.
+fn sweep_gas(gas: &mut [u32], air: &[u32], at: &[Mark]) {
+    let w = gas.len();
+    let (mut q, mut d, mut whole) = ([0; MOST_W], [0; MOST_W], [0; MOST_W]);
+    let (mut marked, mut total) = ([0; MOST_W + 1], 0);
+    for ((q, &m), &t) in q.iter_mut().zip(air).zip(gas.iter()) {
+        *q = ratio(m, t);
+    }
+    for i in 0..w {
+        d[i] = mismatch(q[west_of(i, w)], q[i], q[east_of(i, w)]);
+        whole[i] = total;
+        total += i64::from(gas[i]);
+    }
+    for (marked, at) in marked.iter_mut().zip(at) {
+        let i = at.cell;
+        *marked = at.turn * total + whole[i] + low_piece(d[i], air[i], gas[i], at.m);
+    }
+    marked[w] = marked[0] + total;
+    for (gas, pair) in gas.iter_mut().zip(marked.windows(2)) {
+        *gas = (pair[1] - pair[0]) as u32;
+    }
+}
+
+/// A row's air after the long sweep, if it stays within 1 to 65,535.
+fn long_air(air: &[u32], fluxes: &[i32]) -> Option<[u32; MOST_W]> {
+    let w = air.len();
+    let mut next = [0; MOST_W];
+    for i in 0..w {
+        let after = i64::from(air[i]) + i64::from(fluxes[west_of(i, w)]) - i64::from(fluxes[i]);
+        if !(1..=MOST_AIR).contains(&after) {
+            return None;
+        }
+        next[i] = after as u32;
+    }
+    Some(next)
+}
+
+pub fn long_zonal(
+    g: Grid,
+    air: &mut [u32],
+    tracers: &mut [u32],
+    layer: u32,
+    row: u32,
+    fluxes: &[i32],
+) -> Outcome {
+    let world = common_places(g, air, tracers, Lent::RowFluxes(fluxes.len()))?;
+    if layer >= g.k || row >= g.r {
+        return Err(5);
+    }
+    if !fluxes_fit(fluxes, 1_048_560) {
+        return Err(8);
+    }
+    let first = layer as usize * world.layer + 1 + row as usize * world.w;
+    let cells = first..first + world.w;
+    let air = &mut air[cells.clone()];
+    let row_air = total_of(air);
+    if !fluxes_fit(fluxes, row_air as u32) {
+        return Err(16);
+    }
+    let next = long_air(air, fluxes).ok_or(17u32)?;
+    let mut at = [Mark::default(); MOST_W];
+    let at = &mut at[..world.w];
+    marks_of(at, air, fluxes, row_air as i64);
+    for gas in tracers.chunks_exact_mut(world.cells) {
+        sweep_gas(&mut gas[cells.clone()], air, at);
+    }
+    air.copy_from_slice(&next[..world.w]);
+    Ok(0)
 }
 
 /// The cells south and north of a face, where `rows` cells lie between the caps.

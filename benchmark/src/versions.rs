@@ -41,6 +41,8 @@ macro_rules! c_calls {
                 fn withdrawal(w: u32, r: u32, k: u32, n: u32, air: *const u32, al: usize, gas: *mut u32, gl: usize, tracer: u32, cell: u32, amount: u32) -> u64;
                 #[link_name = concat!($prefix, "_zonal")]
                 fn zonal(w: u32, r: u32, k: u32, n: u32, air: *mut u32, al: usize, gas: *mut u32, gl: usize, layer: u32, row: u32, fluxes: *const i32, fl: usize) -> u64;
+                #[link_name = concat!($prefix, "_long_zonal")]
+                fn long_zonal(w: u32, r: u32, k: u32, n: u32, air: *mut u32, al: usize, gas: *mut u32, gl: usize, layer: u32, row: u32, fluxes: *const i32, fl: usize) -> u64;
                 #[link_name = concat!($prefix, "_meridional")]
                 fn meridional(w: u32, r: u32, k: u32, n: u32, air: *mut u32, al: usize, gas: *mut u32, gl: usize, layer: u32, fluxes: *const i32, fl: usize) -> u64;
                 #[link_name = concat!($prefix, "_remap")]
@@ -60,6 +62,7 @@ macro_rules! c_calls {
                         Call::Emission { tracer, cell, amount } => emission(w, r, k, n, air, al, gas, gl, *tracer, *cell, *amount),
                         Call::Withdrawal { tracer, cell, amount } => withdrawal(w, r, k, n, air, al, gas, gl, *tracer, *cell, *amount),
                         Call::Zonal { layer, row, fluxes } => zonal(w, r, k, n, air, al, gas, gl, *layer, *row, fluxes.as_ptr(), fluxes.len()),
+                        Call::LongZonal { layer, row, fluxes } => long_zonal(w, r, k, n, air, al, gas, gl, *layer, *row, fluxes.as_ptr(), fluxes.len()),
                         Call::Meridional { layer, fluxes } => meridional(w, r, k, n, air, al, gas, gl, *layer, fluxes.as_ptr(), fluxes.len()),
                         Call::Remap { table } => remap(w, r, k, n, air, al, gas, gl, table.as_ptr(), table.len()),
                     }
@@ -101,6 +104,9 @@ fn rust(world: &mut World, call: &Call) -> u64 {
         } => plain::withdrawal(grid, air, tracers, *tracer, *cell, *amount),
         Call::Zonal { layer, row, fluxes } => {
             plain::zonal(grid, air, tracers, *layer, *row, fluxes)
+        }
+        Call::LongZonal { layer, row, fluxes } => {
+            plain::long_zonal(grid, air, tracers, *layer, *row, fluxes)
         }
         Call::Meridional { layer, fluxes } => plain::meridional(grid, air, tracers, *layer, fluxes),
         Call::Remap { table } => plain::remap(grid, air, tracers, table),

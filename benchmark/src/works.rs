@@ -24,7 +24,7 @@ pub struct Kind {
     pub calls: fn(&mut Random, &World) -> Vec<Call>,
 }
 
-pub const KINDS: [Kind; 8] = [
+pub const KINDS: [Kind; 9] = [
     Kind {
         name: "load",
         calls: |_, _| vec![Call::Load],
@@ -67,6 +67,10 @@ pub const KINDS: [Kind; 8] = [
         calls: zonal,
     },
     Kind {
+        name: "long_zonal",
+        calls: long_zonal,
+    },
+    Kind {
         name: "meridional",
         calls: meridional,
     },
@@ -87,6 +91,19 @@ pub fn zonal(random: &mut Random, world: &World) -> Vec<Call> {
         .flat_map(|i| {
             let share = [0.2, 0.6, 1.2, 1.6, 2.0, 0.4][i as usize];
             let there = inputs::zonal(random, world, i % grid.k, (7 * i) % grid.r, share);
+            let back = inputs::opposite(&there);
+            [there, back]
+        })
+        .collect()
+}
+
+/// Six rows with winds of up to six and a half cells, and each back.
+pub fn long_zonal(random: &mut Random, world: &World) -> Vec<Call> {
+    let grid = world.grid;
+    (0..6)
+        .flat_map(|i| {
+            let cells = [0.4, 1.5, 2.5, 3.5, 4.5, 6.5][i as usize];
+            let there = inputs::long_zonal(random, world, i % grid.k, (7 * i) % grid.r, cells);
             let back = inputs::opposite(&there);
             [there, back]
         })

@@ -58,6 +58,22 @@ static bool make_zonal(struct puldeho_world *world, char *rest, struct outcome *
     return true;
 }
 
+static bool make_long_zonal(struct puldeho_world *world, char *rest, struct outcome *outcome)
+{
+    uint32_t layer;
+    uint32_t row;
+    struct list fluxes;
+    if (!take_u32(&rest, &layer)
+        || !take_u32(&rest, &row)
+        || !take_i32s(&rest, &fluxes)
+        || !at_end(rest))
+        return false;
+    outcome->why = puldeho_why_long_zonal(world, layer, row, (const int32_t *)fluxes.numbers, fluxes.length, outcome->text, sizeof outcome->text);
+    outcome->refusal = puldeho_long_zonal(world, layer, row, (const int32_t *)fluxes.numbers, fluxes.length);
+    free(fluxes.numbers);
+    return true;
+}
+
 static bool make_meridional(struct puldeho_world *world, char *rest, struct outcome *outcome)
 {
     uint32_t layer;
@@ -113,6 +129,7 @@ const struct call calls[] = {
     {"emission", make_emission},
     {"withdrawal", make_withdrawal},
     {"zonal", make_zonal},
+    {"long_zonal", make_long_zonal},
     {"meridional", make_meridional},
     {"remap", make_remap},
     {"total", make_total},

@@ -66,6 +66,18 @@ static void case_p(void)
     expect_list("case P, tracers after", tracers, tracers_after);
 }
 
+/* The same fluxes as a long sweep, which takes a low-end piece; then a whole turn, which changes nothing. */
+static void long_sweep(void)
+{
+    static const uint32_t tracers_after[CELLS] = {0, 0, 37, 263, 100, 0};
+    static const int32_t fluxes[4] = {0, 50, 0, 0}, turn[4] = {400, 400, 400, 400};
+    struct puldeho_world world = first_world();
+    expect("long sweep", puldeho_long_zonal(&world, 0, 0, fluxes, 4), PULDEHO_ACCEPTED);
+    expect_list("long sweep, tracers after", tracers, tracers_after);
+    expect("a whole turn", puldeho_long_zonal(&world, 0, 0, turn, 4), PULDEHO_ACCEPTED);
+    expect_list("a whole turn, tracers after", tracers, tracers_after);
+}
+
 /* Lists of a wrong length, and of none. */
 static void lengths(void)
 {
@@ -86,7 +98,7 @@ static void lengths(void)
 /* Refusals of the call's own arguments. A refused call gives 0 for its count and changes nothing. */
 static void refusals(void)
 {
-    static const int32_t emptying[4] = {0, 100, 0, 0};
+    static const int32_t emptying[4] = {0, 100, 0, 0}, beyond[4] = {0, 401, 0, 0};
     static const int32_t northward[8] = {100, 0, 0, 0, 0, 0, 0, 0};
     struct puldeho_world world = first_world();
     uint32_t substeps = 99;
@@ -95,6 +107,8 @@ static void refusals(void)
     expect("more than is there", puldeho_withdrawal(&world, 0, 3, 201), PULDEHO_REFUSAL_WITHDRAWAL);
     expect("a cell would empty", puldeho_zonal(&world, 0, 0, emptying, 4, &substeps), PULDEHO_REFUSAL_ZONAL);
     expect_number("its count", substeps, 0);
+    expect("a flux above the row's air", puldeho_long_zonal(&world, 0, 0, beyond, 4), PULDEHO_REFUSAL_LONG_FLUX);
+    expect("a cell would empty, long", puldeho_long_zonal(&world, 0, 0, emptying, 4), PULDEHO_REFUSAL_LONG_AIR);
     expect("the cap would empty", puldeho_meridional(&world, 0, northward, 8, &substeps), PULDEHO_REFUSAL_MERIDIONAL);
     expect_list("refusals, air after", air, first_air);
     expect_list("refusals, tracers after", tracers, first_tracers);
@@ -107,6 +121,7 @@ static void numbers(void)
     expect_number("length of air", (uint32_t)puldeho_air_length(grid), 40);
     expect_number("length of tracers", (uint32_t)puldeho_tracers_length(grid), 200);
     expect_number("length of zonal fluxes", (uint32_t)puldeho_zonal_fluxes_length(grid), 6);
+    expect_number("length of long zonal fluxes", (uint32_t)puldeho_long_zonal_fluxes_length(grid), 6);
     expect_number("length of meridional fluxes", (uint32_t)puldeho_meridional_fluxes_length(grid), 24);
     expect_number("length of a table", (uint32_t)puldeho_remap_table_length(grid), 6);
     expect_number("the last cell of the last row", puldeho_cell_number(grid, 1, 2, 5), 38);
@@ -138,6 +153,7 @@ int main(void)
     numbers();
     copies();
     case_p();
+    long_sweep();
     lengths();
     refusals();
     return differences == 0 ? 0 : 1;

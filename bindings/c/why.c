@@ -2,7 +2,7 @@
  * Why the library refuses a call in a world, in words: the calls puldeho_why_NAME of puldeho.h.
  * Plain C, not proved. It only reads; what it needs beside the lent lists is on the stack.
  *
- * One function stands here for each place of document 01's table of refusals. Each call lists its places in that
+ * One function stands here for each place of document 01's table of refusals and of document 02's. Each call lists its places in that
  * order, and the walk stops at the first that refuses. A place relies on the places before it in the list: lists are
  * read only where their lengths have passed, fluxes are passed on only where their sizes have.
  * A later refusal is one more place, a later call one more list of places.
@@ -266,7 +266,7 @@ static enum puldeho_refusal withdrawal_place(const struct call *call, struct tex
     return PULDEHO_REFUSAL_WITHDRAWAL;
 }
 
-/* The cells and faces of a sweep: a row closed round the globe (zonal), or a layer with its caps (meridional). */
+/* The cells and faces of a sweep: a row closed round the globe (zonal, long), or a layer with its caps (meridional). */
 struct mesh {
     const struct puldeho_world *world;
     const int32_t *fluxes;
@@ -275,7 +275,7 @@ struct mesh {
     size_t columns, faces, cells;
     size_t first; /* its first cell, numbered over all layers */
     long long most_flux;
-    int most_substeps;
+    int most_substeps; /* 0 for a long sweep, which has none */
 };
 
 static struct mesh row_of(const struct call *call)
@@ -284,6 +284,13 @@ static struct mesh row_of(const struct call *call)
     size_t first = call->layer * puldeho_cells_in_layer(grid) + 1 + (size_t)call->row * grid.w;
     struct mesh row = {call->world, call->fluxes, false, "row", grid.w, grid.w, grid.w, first,
                        PULDEHO_ZONAL_LIMIT, PULDEHO_MOST_SUBSTEPS};
+    return row;
+}
+
+static struct mesh long_row_of(const struct call *call)
+{
+    struct mesh row = row_of(call);
+    row.most_substeps = 0;
     return row;
 }
 
@@ -338,12 +345,19 @@ static long long size_of(int32_t flux)
     return flux < 0 ? -(long long)flux : flux;
 }
 
+/* How many fluxes have a size above the most, and the first of them. */
+static size_t fluxes_above(const struct mesh *mesh, long long most, size_t *first)
+{
+    size_t above = 0;
+    for (size_t face = 0; face < mesh->faces; face++)
+        if (size_of(mesh->fluxes[face]) > most && above++ == 0)
+            *first = face;
+    return above;
+}
+
 static enum puldeho_refusal fluxes_of(const struct mesh *mesh, struct text *text)
 {
-    size_t wrong = 0, first = 0;
-    for (size_t face = 0; face < mesh->faces; face++)
-        if (size_of(mesh->fluxes[face]) > mesh->most_flux && wrong++ == 0)
-            first = face;
+    size_t first = 0, wrong = fluxes_above(mesh, mesh->most_flux, &first);
     if (wrong == 0)
         return PULDEHO_ACCEPTED;
     say_face(text, mesh, first);
@@ -520,6 +534,15 @@ static void say_courant(struct text *text, const struct mesh *mesh, const struct
         (long long)whole->after[cell]);
 }
 
+/* A cell in a long sweep, whose outflow may be many times its air. */
+static void say_balance(struct text *text, const struct mesh *mesh, const struct substep *whole, size_t cell)
+{
+    long long air = whole->air[cell], outflow = whole->outflow[cell], after = whole->after[cell];
+    say_cell(text, mesh->world->grid, mesh->first + cell);
+    say(text, " has air %lld, %lld come in and %lld go out, and it would end with air %lld", air, after - air + outflow,
+        outflow, after);
+}
+
 /*
  * Some cell would end outside 1 to 65535. Parts of the fluxes sum to the fluxes, so that they end there too, unless a
  * remap or the sweeps in the other direction, which do not reach a cap, bring the air back.
@@ -528,12 +551,15 @@ static void say_end(struct text *text, const struct mesh *mesh, const struct sub
 {
     size_t cell = tally.worst_end;
     bool cap = is_cap(mesh, cell), layers = mesh->world->grid.k > 1;
-    say_courant(text, mesh, whole, cell);
+    if (mesh->most_substeps == 0)
+        say_balance(text, mesh, whole, cell);
+    else
+        say_courant(text, mesh, whole, cell);
     say(text, "; of the %s's %zu cells", mesh->name, mesh->cells);
     if (mesh->most_substeps == 1)
         say(text, " %zu would be refused,", tally.refusing);
     say(text, " %zu would end with 0 or less and %zu above 65535; %sparts of this sweep alone end at the same air: ",
-        tally.low, tally.high, mesh->caps ? "" : "no count helps, and ");
+        tally.low, tally.high, mesh->most_substeps > 1 ? "no count helps, and " : "");
     if (!cap || layers)
         say(text, "if %s%s%s can bring the air back, make %s first, or the whole step in smaller ones; if not, ",
             cap ? "" : mesh->caps ? "the zonal sweeps" : "the meridional sweep", !cap && layers ? " or " : "",
@@ -542,7 +568,15 @@ static void say_end(struct text *text, const struct mesh *mesh, const struct sub
         cap ? "cap" : "cell");
 }
 
-/* Whether a smaller time step helps. Only asked if every cell ends in 1 to 65535. */
+static long long row_air(const struct mesh *row)
+{
+    long long sum = 0;
+    for (size_t cell = 0; cell < row->cells; cell++)
+        sum += row->world->air[row->first + cell];
+    return sum;
+}
+
+/* Whether a smaller time step helps, or the long sweep. Only asked if every cell ends in 1 to 65535. */
 static void say_cut(struct text *text, const struct mesh *mesh, struct substep *step)
 {
     int m = smallest_cut(mesh, step);
@@ -553,6 +587,9 @@ static void say_cut(struct text *text, const struct mesh *mesh, struct substep *
     else
         say(text, "so a smaller time step helps: cut into %d sweeps, all are accepted "
             "(part s of %d of a flux F is floor(s*|F|/%d) - floor((s - 1)*|F|/%d), with the sign of F)", m, m, m, m);
+    size_t first;
+    if (!mesh->caps && fluxes_above(mesh, row_air(mesh), &first) == 0)
+        say(text, "; the library's long zonal sweep takes the fluxes whole, and gives other amounts of tracer");
 }
 
 /*
@@ -603,6 +640,59 @@ static enum puldeho_refusal meridional_place(const struct call *call, struct tex
 {
     struct mesh layer = layer_of(call);
     return sweep_of(&layer, PULDEHO_REFUSAL_MERIDIONAL, text);
+}
+
+/* 16 and 17: the long sweep. */
+
+/*
+ * The row's air through every face is a whole turn, which brings every cell back. If all cells end with 1 or more, two
+ * fluxes differ by less than the row's air, so that some number of whole turns leaves every flux within it.
+ */
+static void say_turn(struct text *text, const struct mesh *row, long long turn)
+{
+    long long least = 0, most = 0;
+    for (size_t face = 0; face < row->faces; face++) {
+        long long flux = row->fluxes[face];
+        least = face == 0 || flux < least ? flux : least;
+        most = face == 0 || flux > most ? flux : most;
+    }
+    long long turns = most > turn ? (most - 1) / turn : -((-least - 1) / turn);
+    say(text, "; a whole turn brings every cell back: with %lld %s every flux the sweep is accepted and ends the same",
+        turns < 0 ? -turns * turn : turns * turn, turns < 0 ? "added to" : "taken off");
+}
+
+static enum puldeho_refusal long_flux_place(const struct call *call, struct text *text)
+{
+    struct mesh row = long_row_of(call);
+    long long turn = row_air(&row);
+    size_t first = 0, wrong = fluxes_above(&row, turn, &first);
+    struct substep step;
+    if (wrong == 0)
+        return PULDEHO_ACCEPTED;
+    say_face(text, &row, first);
+    say(text, " is %lld, its size must be at most the row's air, %lld; fluxes above: %zu of %zu",
+        (long long)row.fluxes[first], turn, wrong, row.faces);
+    whole_sweep(&row, &step);
+    struct tally tally = tally_of(&row, &step);
+    if (tally.low + tally.high == 0) {
+        say_turn(text, &row, turn);
+        return PULDEHO_REFUSAL_LONG_FLUX;
+    }
+    say(text, "; and ");
+    say_end(text, &row, &step, tally);
+    return PULDEHO_REFUSAL_LONG_FLUX;
+}
+
+static enum puldeho_refusal long_air_place(const struct call *call, struct text *text)
+{
+    struct mesh row = long_row_of(call);
+    struct substep step;
+    whole_sweep(&row, &step);
+    struct tally tally = tally_of(&row, &step);
+    if (tally.low + tally.high == 0)
+        return PULDEHO_ACCEPTED;
+    say_end(text, &row, &step, tally);
+    return PULDEHO_REFUSAL_LONG_AIR;
 }
 
 /* 11: the table. */
@@ -763,6 +853,9 @@ static place *const withdrawal_places[] = {
 static place *const zonal_places[] = {
     grid_place, air_length_place, tracers_length_place, zonal_length_place, air_place, totals_place,
     layer_place, row_place, zonal_fluxes_place, zonal_place, NULL};
+static place *const long_zonal_places[] = {
+    grid_place, air_length_place, tracers_length_place, zonal_length_place, air_place, totals_place,
+    layer_place, row_place, zonal_fluxes_place, long_flux_place, long_air_place, NULL};
 static place *const meridional_places[] = {
     grid_place, air_length_place, tracers_length_place, meridional_length_place, air_place, totals_place,
     layer_place, meridional_fluxes_place, meridional_place, NULL};
@@ -820,6 +913,14 @@ enum puldeho_refusal puldeho_why_zonal(
 {
     struct call call = {.world = world, .layer = layer, .row = row, .fluxes = fluxes, .length = fluxes_length};
     return first_refusal(&call, zonal_places, text, size);
+}
+
+enum puldeho_refusal puldeho_why_long_zonal(
+    const struct puldeho_world *world, uint32_t layer, uint32_t row, const int32_t *fluxes, size_t fluxes_length,
+    char *text, size_t size)
+{
+    struct call call = {.world = world, .layer = layer, .row = row, .fluxes = fluxes, .length = fluxes_length};
+    return first_refusal(&call, long_zonal_places, text, size);
 }
 
 enum puldeho_refusal puldeho_why_meridional(

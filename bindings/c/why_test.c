@@ -10,9 +10,9 @@
 
 #include "puldeho.h"
 
-enum { CALLS = 12000, MOST_LIST = 256, MOST_REFUSAL = PULDEHO_REFUSAL_REMAP };
+enum { CALLS = 12000, MOST_LIST = 256, MOST_REFUSAL = PULDEHO_REFUSAL_LONG_AIR };
 
-enum name { LOAD, EMISSION, WITHDRAWAL, ZONAL, MERIDIONAL, REMAP, TOTAL, CELL, NAMES };
+enum name { LOAD, EMISSION, WITHDRAWAL, ZONAL, LONG_ZONAL, MERIDIONAL, REMAP, TOTAL, CELL, NAMES };
 
 /* A call with its own arguments. */
 struct request {
@@ -27,6 +27,8 @@ static int differences = 0;
 static unsigned long reached[MOST_REFUSAL + 1];
 static unsigned long ends[2], cuts[2], uncut[2]; /* texts of zonal and of meridional sweeps */
 static unsigned long changes; /* texts of remaps that name changes of b */
+static unsigned long long_ends, turns[2]; /* texts of long sweeps: a cell ends outside; turns taken off, turns added */
+static unsigned long long_instead[2]; /* texts of zonal sweeps that do not name the long one, and that do */
 
 static void differs(const char *what, const char *text)
 {
@@ -56,6 +58,7 @@ static enum puldeho_refusal why(const struct puldeho_world *world, const struct 
     case EMISSION: refusal = puldeho_why_emission(world, r->tracer, r->cell, r->amount, text, size); break;
     case WITHDRAWAL: refusal = puldeho_why_withdrawal(world, r->tracer, r->cell, r->amount, text, size); break;
     case ZONAL: refusal = puldeho_why_zonal(world, r->layer, r->row, fluxes, r->length, text, size); break;
+    case LONG_ZONAL: refusal = puldeho_why_long_zonal(world, r->layer, r->row, fluxes, r->length, text, size); break;
     case MERIDIONAL: refusal = puldeho_why_meridional(world, r->layer, fluxes, r->length, text, size); break;
     case REMAP: refusal = puldeho_why_remap(world, table, r->length, text, size); break;
     case TOTAL: refusal = puldeho_why_total(world, r->tracer, text, size); break;
@@ -73,6 +76,7 @@ static enum puldeho_refusal library(struct puldeho_world *world, const struct re
     case EMISSION: return puldeho_emission(world, r->tracer, r->cell, r->amount);
     case WITHDRAWAL: return puldeho_withdrawal(world, r->tracer, r->cell, r->amount);
     case ZONAL: return puldeho_zonal(world, r->layer, r->row, r->fluxes, r->length, NULL);
+    case LONG_ZONAL: return puldeho_long_zonal(world, r->layer, r->row, r->fluxes, r->length);
     case MERIDIONAL: return puldeho_meridional(world, r->layer, r->fluxes, r->length, NULL);
     case REMAP: return puldeho_remap(world, r->table, r->length, NULL);
     case TOTAL: return puldeho_total(world, r->tracer, NULL);
@@ -121,12 +125,18 @@ static bool accepted_as(const struct puldeho_world *world, const struct request 
     return accepted;
 }
 
+/* Whether the sweep is one of a row. */
+static bool of_row(const struct request *r)
+{
+    return r->name == ZONAL || r->name == LONG_ZONAL;
+}
+
 /* The air with which a cell of the world ends, written cell by cell and not face by face. */
 static long long end_of(const struct puldeho_world *world, const struct request *r, size_t cell)
 {
     size_t w = world->grid.w, c = 2 + world->grid.r * w, place = cell % c;
     long long air = world->air[cell];
-    if (r->name == ZONAL) {
+    if (of_row(r)) {
         size_t i = (place - 1) % w;
         return air + r->fluxes[(i + w - 1) % w] - r->fluxes[i];
     }
@@ -141,8 +151,8 @@ static long long end_of(const struct puldeho_world *world, const struct request 
 static void count_ends(const struct puldeho_world *world, const struct request *r, size_t *low, size_t *high)
 {
     size_t w = world->grid.w, c = 2 + world->grid.r * w;
-    size_t first = r->layer * c + (r->name == ZONAL ? 1 + r->row * w : 0);
-    size_t cells = r->name == ZONAL ? w : c;
+    size_t first = r->layer * c + (of_row(r) ? 1 + r->row * w : 0);
+    size_t cells = of_row(r) ? w : c;
     *low = *high = 0;
     for (size_t cell = first; cell < first + cells; cell++) {
         *low += end_of(world, r, cell) < 1;
@@ -191,6 +201,17 @@ static void check_cut(const struct puldeho_world *world, const struct request *r
     uncut[r->name == MERIDIONAL]++;
 }
 
+/* A refused zonal sweep names the long one exactly if that would be accepted. */
+static void check_long_instead(const struct puldeho_world *world, const struct request *r, const char *text)
+{
+    struct request instead = *r;
+    instead.name = LONG_ZONAL;
+    bool named = strstr(text, "; the library's long zonal sweep takes the fluxes whole") != NULL;
+    if (named != accepted_as(world, &instead, 1))
+        differs("the long sweep in place of the zonal one", text);
+    long_instead[named]++;
+}
+
 static void check_sweep(const struct puldeho_world *world, const struct request *r, const char *text)
 {
     size_t cell = (size_t)number_after(text, "cell ");
@@ -203,6 +224,36 @@ static void check_sweep(const struct puldeho_world *world, const struct request 
         check_end(world, r, text);
         ends[r->name == MERIDIONAL]++;
     }
+    if (r->name == ZONAL)
+        check_long_instead(world, r, text);
+}
+
+/* The turns that the text takes off the fluxes, or adds to them: the sweep is then accepted. */
+static void check_turn(const struct puldeho_world *world, const struct request *r, const char *text)
+{
+    long long turn = number_after(text, "cell back: with ");
+    bool added = strstr(text, " added to every flux") != NULL;
+    struct request other = *r;
+    for (size_t i = 0; i < r->length; i++)
+        other.fluxes[i] = (int32_t)(r->fluxes[i] + (added ? turn : -turn));
+    if (turn < 1 || turn % number_after(text, "at most the row's air, ") != 0 || !accepted_as(world, &other, 1))
+        differs("turns", text);
+    turns[added]++;
+}
+
+static void check_long(const struct puldeho_world *world, const struct request *r, const char *text)
+{
+    if (strstr(text, "cell back: with ") != NULL) {
+        check_turn(world, r, text);
+        return;
+    }
+    size_t cell = (size_t)number_after(text, "cell ");
+    long long air = number_after(text, " has air "), in = number_after(strstr(text, " has air "), ", ");
+    long long out = number_after(text, " come in and "), end = number_after(text, "would end with air ");
+    if (air != world->air[cell] || end != end_of(world, r, cell) || air + in - out != end || in < 0 || out < 0)
+        differs("the cell of a long sweep", text);
+    check_end(world, r, text);
+    long_ends++;
 }
 
 /* The air of a new layer in a column, if b changes by so much from the pair above it. */
@@ -283,6 +334,8 @@ static void check_call(const struct puldeho_world *world, const struct request *
         differs("accepted or not", text);
     if (refusal == PULDEHO_REFUSAL_ZONAL || refusal == PULDEHO_REFUSAL_MERIDIONAL)
         check_sweep(world, r, text);
+    if (refusal == PULDEHO_REFUSAL_LONG_FLUX || refusal == PULDEHO_REFUSAL_LONG_AIR)
+        check_long(world, r, text);
     if (refusal == PULDEHO_REFUSAL_REMAP)
         check_remap(world, r, text);
     check_size(world, r, text, size);
@@ -392,11 +445,13 @@ static uint32_t any_amount(const struct puldeho_world *world, const struct reque
 static void fill_fluxes(struct request *r, uint32_t w, uint32_t scale)
 {
     uint32_t times = one_in(2) ? from_to(1, 60) : one_in(2) ? from_to(1, 2000) : 1;
-    uint32_t most = r->name == ZONAL ? 1048560 : 65535;
-    uint32_t flow = scale * times / (r->name == ZONAL ? 1 : 20) % (most + 1), small = one_in(3) ? 0 : scale / 3;
-    bool round = one_in(3);
+    uint32_t most = of_row(r) ? 1048560 : 65535;
+    uint32_t flow = scale * times / (of_row(r) ? 1 : 20) % (most + 1), small = one_in(3) ? 0 : scale / 3;
+    bool round = one_in(3), west = r->name == LONG_ZONAL && one_in(2);
+    if (r->name == LONG_ZONAL && one_in(2))
+        flow = scale * from_to(0, w % 16) % (most + 1);
     for (size_t i = 0; i < r->length; i++) {
-        int32_t along = (int32_t)(i % w % 2 == 0 || r->name == ZONAL ? flow : -(int64_t)flow);
+        int32_t along = (int32_t)((i % w % 2 == 0 || of_row(r)) && !west ? flow : -(int64_t)flow);
         r->fluxes[i] = along + about(round ? 0 : small);
         if (one_in(600))
             r->fluxes[i] = one_in(2) ? (int32_t)(any() - 2147483647 - 1) : -(int32_t)most - about(1);
@@ -422,8 +477,8 @@ static void any_request(const struct puldeho_world *world, uint32_t scale, struc
     size_t wanted = 0;
     r->name = (enum name)(any() % NAMES);
     if (one_in(2))
-        r->name = one_in(2) ? ZONAL : one_in(2) ? MERIDIONAL : REMAP;
-    if (r->name == ZONAL)
+        r->name = one_in(2) ? one_in(2) ? ZONAL : LONG_ZONAL : one_in(2) ? MERIDIONAL : REMAP;
+    if (of_row(r))
         wanted = puldeho_zonal_fluxes_length(grid);
     if (r->name == MERIDIONAL)
         wanted = puldeho_meridional_fluxes_length(grid);
@@ -476,6 +531,7 @@ struct fixed {
 #define CASE_P SMALL, AIR_100, .tracers = {0, 0, 100, 200, 100, 0}
 #define LISTED(...) {__VA_ARGS__}
 #define SWEEP_ROW(...) .r = {.name = ZONAL, .length = 4, .fluxes = LISTED(__VA_ARGS__)}
+#define LONG_ROW(...) .r = {.name = LONG_ZONAL, .length = 4, .fluxes = LISTED(__VA_ARGS__)}
 #define SWEEP_LAYER(...) .r = {.name = MERIDIONAL, .length = 8, .fluxes = LISTED(__VA_ARGS__)}
 #define REMAP_TWO(...) .r = {.name = REMAP, .length = 6, .table = LISTED(__VA_ARGS__)}
 
@@ -569,6 +625,41 @@ static const struct fixed fixed[] = {
              " with air 1; with 16 substeps it refuses first in substep 1, where its outflow is 64 and its air 1; "
              "every cell of the row would end within 1 to 65535, but cut into any number of sweeps from 2 to 64 the "
              "fluxes are refused too; more sweeps were not tried"},
+    {SMALL, .air = {1, 9, 9, 500, 9, 1}, SWEEP_ROW(150, 150, 150, 150), .refusal = PULDEHO_REFUSAL_ZONAL,
+     .text = "cell 1 (layer 0, row 0, column 0) has air 9, its outflow 150 is 16.67 times its air, and it would end with "
+             "air 9; with 16 substeps it refuses first in substep 3, where its outflow is 10 and its air 9; every cell of "
+             "the row would end within 1 to 65535, so a smaller time step helps: cut into 2 sweeps, all are accepted (part "
+             "s of 2 of a flux F is floor(s*|F|/2) - floor((s - 1)*|F|/2), with the sign of F); the library's "
+             "long zonal sweep takes the fluxes whole, and gives other amounts of tracer"},
+    {CASE_P, LONG_ROW(400, 400, 400, 400), .refusal = PULDEHO_ACCEPTED, .text = "the call would be accepted"},
+    {CASE_P, .r = {.name = LONG_ZONAL, .length = 8}, .refusal = PULDEHO_REFUSAL_LENGTHS,
+     .text = "fluxes has length 8, the grid wants 4 (W; here W = 4, R = 1, K = 1, N = 1); fluxes of the other sweep have "
+             "that length"},
+    {CASE_P, LONG_ROW(0, 0, 0, -1048561), .refusal = PULDEHO_REFUSAL_FLUXES,
+     .text = "flux 3 (between columns 3 and 0) is -1048561, its size must be at most 1048560; fluxes above: 1 of 4"},
+    {CASE_P, LONG_ROW(400, 401, 400, 400), .refusal = PULDEHO_REFUSAL_LONG_FLUX,
+     .text = "flux 1 (between columns 1 and 2) is 401, its size must be at most the row's air, 400; fluxes above: 1 of 4; a "
+             "whole turn brings every cell back: with 400 taken off every flux the sweep is accepted and ends the same"},
+    {CASE_P, LONG_ROW(-1201, -1200, -1200, -1200), .refusal = PULDEHO_REFUSAL_LONG_FLUX,
+     .text = "flux 0 (between columns 0 and 1) is -1201, its size must be at most the row's air, 400; fluxes above: 4 of 4; "
+             "a whole turn brings every cell back: with 1200 added to every flux the sweep is accepted and ends the same"},
+    {CASE_P, LONG_ROW(401, 0, 0, 0), .refusal = PULDEHO_REFUSAL_LONG_FLUX,
+     .text = "flux 0 (between columns 0 and 1) is 401, its size must be at most the row's air, 400; fluxes above: 1 of 4; "
+             "and cell 1 (layer 0, row 0, column 0) has air 100, 0 come in and 401 go out, and it would end with air -301; "
+             "of the row's 4 cells 1 would end with 0 or less and 0 above 65535; parts of this sweep alone end at the same "
+             "air: if the meridional sweep can bring the air back, make that first, or the whole step in smaller ones; if "
+             "not, the fluxes themselves must diverge less at this cell"},
+    {CASE_P, LONG_ROW(100, 0, 0, 0), .refusal = PULDEHO_REFUSAL_LONG_AIR,
+     .text = "cell 1 (layer 0, row 0, column 0) has air 100, 0 come in and 100 go out, and it would end with air 0; of the "
+             "row's 4 cells 1 would end with 0 or less and 0 above 65535; parts of this sweep alone end at the same air: if "
+             "the meridional sweep can bring the air back, make that first, or the whole step in smaller ones; if not, the "
+             "fluxes themselves must diverge less at this cell"},
+    {TWO_LAYERS, .air = {9, 65000, 2000, 9, 9, 9, 9, 9, 9, 9, 9, 9}, LONG_ROW(-1500, 0, 0, 0),
+     .refusal = PULDEHO_REFUSAL_LONG_AIR,
+     .text = "cell 1 (layer 0, row 0, column 0) has air 65000, 1500 come in and 0 go out, and it would end with air 66500; "
+             "of the row's 4 cells 0 would end with 0 or less and 1 above 65535; parts of this sweep alone end at the same "
+             "air: if the meridional sweep or a remap can bring the air back, make that first, or the whole step in smaller "
+             "ones; if not, the fluxes themselves must converge less at this cell"},
     {CASE_P, SWEEP_LAYER(0, 0, 0, 0, -30, -30, -30, -40), .refusal = PULDEHO_REFUSAL_MERIDIONAL,
      .text = "cell 5 (north cap of layer 0) has air 100, its outflow 130, the sum through its 4 faces, is 1.30 times "
              "its air, and it would end with air -30; of the layer's 6 cells 1 would be refused, 1 would end with 0 or"
@@ -692,12 +783,19 @@ static void check_stack(void)
         differs("no thread", "");
 }
 
+/* Whether a number between those of the calls is a refusal of the runner program. */
+static bool is_program(size_t number)
+{
+    return number > PULDEHO_REFUSAL_REMAP && number < PULDEHO_REFUSAL_LONG_FLUX;
+}
+
 /* Every refusal and every kind of text was met. */
 static bool all_reached(void)
 {
     bool all = changes > 0 && ends[0] && cuts[0] && uncut[0] && ends[1] && cuts[1] && uncut[1];
+    all = all && long_ends && turns[0] && turns[1] && long_instead[0] && long_instead[1];
     for (size_t i = 0; i <= MOST_REFUSAL; i++)
-        all = all && reached[i] > 0;
+        all = all && (reached[i] > 0 || is_program(i));
     return all;
 }
 
@@ -712,7 +810,8 @@ int main(void)
     if (!all_reached())
         differs("some refusal or kind of text was not reached", "");
     printf("why: %zu texts and %d seeded calls, %lu refused; sweeps of which a cell ends outside %lu, that serve as "
-           "parts %lu, that do not %lu; %d differences\n", texts, CALLS, CALLS + texts - reached[0], ends[0] + ends[1],
-           cuts[0] + cuts[1], uncut[0] + uncut[1], differences);
+           "parts %lu, that do not %lu; long sweeps of which a cell ends outside %lu, of more than a turn %lu; "
+           "%d differences\n", texts, CALLS, CALLS + texts - reached[0], ends[0] + ends[1], cuts[0] + cuts[1],
+           uncut[0] + uncut[1], long_ends, turns[0] + turns[1], differences);
     return differences == 0 ? 0 : 1;
 }

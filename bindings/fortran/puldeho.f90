@@ -1,4 +1,4 @@
-! Puldeho, the transport core of the tracer console, for Fortran 2003 and later: version 0.1.0.
+! Puldeho, the transport core of the tracer console, for Fortran 2003 and later: version 0.2.0.
 ! Made by tools/bindings from the tables of bindings/: not to be edited.
 !
 ! To compile and link: gfortran $(pkg-config --variable=fortran puldeho) program.f90 $(pkg-config --libs puldeho)
@@ -20,13 +20,13 @@ module puldeho
   implicit none
   private
 
-  character(len=*), parameter, public :: puldeho_version = "0.1.0"
+  character(len=*), parameter, public :: puldeho_version = "0.2.0"
 
   ! the most air of a cell; the least is 1
   integer(c_int32_t), parameter, public :: puldeho_air_limit = 65535
   ! the most units of a tracer in all cells together
   integer(c_int32_t), parameter, public :: puldeho_total_limit = 268435455
-  ! the largest size of a flux of a zonal sweep
+  ! the largest size of a flux of a zonal or a long zonal sweep
   integer(c_int32_t), parameter, public :: puldeho_zonal_limit = 1048560
   ! the largest size of a flux of a meridional sweep
   integer(c_int32_t), parameter, public :: puldeho_meridional_limit = 65535
@@ -70,6 +70,10 @@ module puldeho
   integer(c_int32_t), parameter, public :: puldeho_refusal_table = 11
   ! in some column the edges do not rise strictly, or a new layer exceeds 65,535
   integer(c_int32_t), parameter, public :: puldeho_refusal_remap = 12
+  ! a flux's size exceeds the row's air
+  integer(c_int32_t), parameter, public :: puldeho_refusal_long_flux = 16
+  ! air afterwards leaves 1 to 65,535
+  integer(c_int32_t), parameter, public :: puldeho_refusal_long_air = 17
 
   ! What cell numbers are for a place that the grid has not; every call refuses it, with 5.
   integer(c_int32_t), parameter, public :: puldeho_no_cell = -1
@@ -79,6 +83,7 @@ module puldeho
   public :: puldeho_air_length
   public :: puldeho_tracers_length
   public :: puldeho_zonal_fluxes_length
+  public :: puldeho_long_zonal_fluxes_length
   public :: puldeho_meridional_fluxes_length
   public :: puldeho_remap_table_length
 
@@ -102,6 +107,7 @@ module puldeho
     procedure :: emission => world_emission
     procedure :: withdrawal => world_withdrawal
     procedure :: zonal => world_zonal
+    procedure :: long_zonal => world_long_zonal
     procedure :: meridional => world_meridional
     procedure :: remap => world_remap
     procedure :: total => world_total
@@ -109,6 +115,7 @@ module puldeho
     procedure :: why_emission => world_why_emission
     procedure :: why_withdrawal => world_why_withdrawal
     procedure :: why_zonal => world_why_zonal
+    procedure :: why_long_zonal => world_why_long_zonal
     procedure :: why_meridional => world_why_meridional
     procedure :: why_remap => world_why_remap
     procedure :: why_total => world_why_total
@@ -129,8 +136,8 @@ module puldeho
 
   ! Does nothing. A library of another version, whose functions may take other arguments, has no such name.
   interface
-    subroutine puldeho_abi_0_1() bind(c)
-    end subroutine puldeho_abi_0_1
+    subroutine puldeho_abi_0_2() bind(c)
+    end subroutine puldeho_abi_0_2
   end interface
 
   ! The proved functions. Each returns refusal * 2**32 + count.
@@ -192,6 +199,22 @@ module puldeho
       integer(c_size_t), value :: fluxes_length
       integer(c_int64_t) :: returned
     end function puldeho_raw_zonal
+
+    function puldeho_raw_long_zonal( &
+        w, r, k, n, air, air_length, tracers, tracers_length, layer, row, fluxes, fluxes_length) &
+        bind(c) result(returned)
+      import :: c_int32_t, c_int64_t, c_size_t
+      integer(c_int32_t), value :: w, r, k, n
+      integer(c_int32_t), intent(inout) :: air(*)
+      integer(c_size_t), value :: air_length
+      integer(c_int32_t), intent(inout) :: tracers(*)
+      integer(c_size_t), value :: tracers_length
+      integer(c_int32_t), value :: layer
+      integer(c_int32_t), value :: row
+      integer(c_int32_t), intent(in) :: fluxes(*)
+      integer(c_size_t), value :: fluxes_length
+      integer(c_int64_t) :: returned
+    end function puldeho_raw_long_zonal
 
     function puldeho_raw_meridional( &
         w, r, k, n, air, air_length, tracers, tracers_length, layer, fluxes, fluxes_length) &
@@ -302,6 +325,20 @@ module puldeho
       integer(c_int) :: refusal
     end function c_why_zonal
 
+    function c_why_long_zonal( &
+        world, layer, row, fluxes, fluxes_length, words, words_size) &
+        bind(c, name="puldeho_why_long_zonal") result(refusal)
+      import :: c_char, c_int, c_int32_t, c_size_t, c_world
+      type(c_world), intent(in) :: world
+      integer(c_int32_t), value :: layer
+      integer(c_int32_t), value :: row
+      integer(c_int32_t), intent(in) :: fluxes(*)
+      integer(c_size_t), value :: fluxes_length
+      character(kind=c_char), intent(out) :: words(*)
+      integer(c_size_t), value :: words_size
+      integer(c_int) :: refusal
+    end function c_why_long_zonal
+
     function c_why_meridional( &
         world, layer, fluxes, fluxes_length, words, words_size) &
         bind(c, name="puldeho_why_meridional") result(refusal)
@@ -364,7 +401,7 @@ contains
     integer(c_int32_t), intent(out) :: refusal
     type(puldeho_world) :: loaded
 
-    call puldeho_abi_0_1()
+    call puldeho_abi_0_2()
     call copy_lists(loaded, grid, air, tracers)
     refusal = refusal_of(puldeho_raw_load( &
         loaded%grid%w, loaded%grid%r, loaded%grid%k, loaded%grid%n, loaded%air, size(loaded%air, &
@@ -444,6 +481,24 @@ contains
     refusal = refusal_of(returned)
     if (present(substeps)) substeps = count_of(returned)
   end subroutine world_zonal
+
+  ! Sweeps one row of one layer by W fluxes, positive eastward, without substeps: a face takes whole cells and
+  ! then a part of the next. Its amounts are not those of zonal. Refusals, in order: 1 2 3 4 5 8 16 17.
+  subroutine world_long_zonal(world, layer, row, fluxes, refusal)
+    class(puldeho_world), intent(inout) :: world
+    integer(c_int32_t), intent(out) :: refusal
+    integer(c_int32_t), intent(in) :: layer
+    integer(c_int32_t), intent(in) :: row
+    integer(c_int32_t), intent(in) :: fluxes(:)
+    integer(c_int64_t) :: returned
+
+    refusal = puldeho_refusal_grid_range
+    if (.not. has_lists(world)) return
+    returned = puldeho_raw_long_zonal( &
+        world%grid%w, world%grid%r, world%grid%k, world%grid%n, world%air, size(world%air, kind=c_size_t), &
+        world%tracers, size(world%tracers, kind=c_size_t), layer, row, fluxes, size(fluxes, kind=c_size_t))
+    refusal = refusal_of(returned)
+  end subroutine world_long_zonal
 
   ! Sweeps one layer by W*(R + 1) fluxes, positive northward. Refusals, in order: 1 2 3 4 5 8 10.
   ! substeps: the number of substeps, 1.
@@ -568,6 +623,21 @@ contains
         world_of(world), layer, row, fluxes, size(fluxes, kind=c_size_t), words, int(why_size, c_size_t))
     text = text_of(words)
   end subroutine world_why_zonal
+
+  ! Why a long_zonal is refused in this world, in words; ask after the refusal, before the world changes.
+  subroutine world_why_long_zonal(world, layer, row, fluxes, text)
+    class(puldeho_world), intent(in), target :: world
+    integer(c_int32_t), intent(in) :: layer
+    integer(c_int32_t), intent(in) :: row
+    integer(c_int32_t), intent(in) :: fluxes(:)
+    character(len=:), allocatable, intent(out) :: text
+    character(kind=c_char) :: words(why_size)
+    integer(c_int) :: refusal
+
+    refusal = c_why_long_zonal( &
+        world_of(world), layer, row, fluxes, size(fluxes, kind=c_size_t), words, int(why_size, c_size_t))
+    text = text_of(words)
+  end subroutine world_why_long_zonal
 
   ! Why a meridional is refused in this world, in words; ask after the refusal, before the world changes.
   subroutine world_why_meridional(world, layer, fluxes, text)
@@ -756,6 +826,15 @@ contains
     length = grid%w
   end function puldeho_zonal_fluxes_length
 
+  ! The length of fluxes of a long_zonal call: W. In it: flux i crosses the face from column i to column i +
+  ! 1, the last to column 0; positive eastward.
+  pure function puldeho_long_zonal_fluxes_length(grid) result(length)
+    type(puldeho_grid), intent(in) :: grid
+    integer(c_int32_t) :: length
+
+    length = grid%w
+  end function puldeho_long_zonal_fluxes_length
+
   ! The length of fluxes of a meridional call: (R + 1)*W. In it: flux g*W + i crosses between rows g - 1 and g
   ! in column i; row -1 is the south cap, row R the north cap; positive northward.
   pure function puldeho_meridional_fluxes_length(grid) result(length)
@@ -807,6 +886,10 @@ contains
           " is above 65,536"
     case (puldeho_refusal_remap)
       text = "in some column the edges do not rise strictly, or a new layer exceeds 65,535"
+    case (puldeho_refusal_long_flux)
+      text = "a flux's size exceeds the row's air"
+    case (puldeho_refusal_long_air)
+      text = "air afterwards leaves 1 to 65,535"
     case default
       text = "no refusal of this version"
     end select
@@ -839,8 +922,9 @@ contains
     case (puldeho_refusal_fluxes)
       text = "give fluxes in units of air for this step, and divide the step if they are still too large"
     case (puldeho_refusal_zonal)
-      text = "make the sweep as two or more, each with a part of the fluxes; if a cell would end with no" // &
-          " air or too much, make the whole step (zonal, meridional, remap) in parts, or make the " // &
+      text = "make the sweep as two or more, each with a part of the fluxes, or as a long zonal sweep " // &
+          "(in the library only), which gives other amounts of tracer; if a cell would end with no " // &
+          "air or too much, make the whole step (zonal, meridional, remap) in parts, or make the " // &
           "meridional sweep or a remap first"
     case (puldeho_refusal_meridional)
       text = "make the sweep as two or more, each with a part of the fluxes; if a cell would end with no" // &
@@ -852,6 +936,14 @@ contains
     case (puldeho_refusal_remap)
       text = "use a = 0, and choose the b so that every layer gets 1 to 65,535 units in the column with " // &
           "the least air and in the one with the most"
+    case (puldeho_refusal_long_flux)
+      text = "take whole turns, each the sum of the row's air, off every flux (add them if the fluxes " // &
+          "are negative): a whole turn brings every cell back, so nothing else changes; or divide the" // &
+          " step"
+    case (puldeho_refusal_long_air)
+      text = "give fluxes that leave every cell 1 to 65,535; if the other sweeps of the step would bring" // &
+          " the air back, make the whole step (zonal, meridional, remap) in parts, or make the " // &
+          "meridional sweep or a remap first"
     case default
       text = "compile the program anew, with the module of the library that it is linked with"
     end select

@@ -1,5 +1,5 @@
 ! The Fortran module: words that say why a call is refused, a world that is kept and brought back, a load that is refused,
-! readings of a world that is only read, lengths and cell numbers.
+! long sweeps, readings of a world that is only read, lengths and cell numbers.
 ! The exit status is not 0 if anything differs.
 program test
   use puldeho
@@ -40,6 +40,8 @@ program test
   call world%zonal(0, 0, [0, 50, 0, 0], refusal)
   call gives(puldeho_accepted)
   world = kept
+  call long_sweeps(world)
+  world = kept
   world%tracers(3) = 150
   call world%load(world%grid, world%air, world%tracers, refusal)
   call gives(puldeho_accepted)
@@ -56,6 +58,22 @@ program test
   print "(a)", "the Fortran module: as it should be"
 
 contains
+
+  subroutine long_sweeps(one)
+    type(puldeho_world), intent(inout) :: one
+
+    call one%long_zonal(0, 0, [401, 400, 400, 400], refusal)
+    call gives(puldeho_refusal_long_flux)
+    call one%why_long_zonal(0, 0, [401, 400, 400, 400], text)
+    call says("flux 0 (between columns 0 and 1) is 401, its size must be at most the row's air, 400")
+    call one%long_zonal(0, 0, [100, 0, 0, 0], refusal)
+    call gives(puldeho_refusal_long_air)
+    call one%why_long_zonal(0, 0, [100, 0, 0, 0], text)
+    call says("cell 1 (layer 0, row 0, column 0) has air 100, 0 come in and 100 go out")
+    call one%long_zonal(0, 0, [0, 50, 0, 0], refusal)
+    call gives(puldeho_accepted)
+    if (any(one%tracers /= [0, 0, 37, 263, 100, 0])) error stop "a long sweep differs"
+  end subroutine long_sweeps
 
   ! Readings and words take a world that may not be written. A count may be above 65,535.
   subroutine read_only(one)
@@ -75,7 +93,8 @@ contains
     integer :: absent(7)
 
     if (any([puldeho_air_length(other), puldeho_tracers_length(other), puldeho_zonal_fluxes_length(other), &
-        puldeho_meridional_fluxes_length(other), puldeho_remap_table_length(other)] /= [40, 200, 6, 24, 6])) &
+        puldeho_long_zonal_fluxes_length(other), puldeho_meridional_fluxes_length(other), &
+        puldeho_remap_table_length(other)] /= [40, 200, 6, 6, 24, 6])) &
         error stop "a length differs"
     if (any([puldeho_cell_number(other, 1, 2, 5), puldeho_south_cap(other, 1), puldeho_north_cap(other, 1)] /= [38, 20, 39])) &
         error stop "a cell number differs"

@@ -24,7 +24,8 @@ def table(heads, rows):
 
 def guide(tables):
     """docs/GUIDE.md."""
-    rows = [[str(r.number), r.condition, r.cause, r.remedy] for r in tables.refusals + tables.programs]
+    all_of_them = sorted(tables.refusals + tables.programs, key=lambda r: r.number)
+    rows = [[str(r.number), r.condition, r.cause, r.remedy] for r in all_of_them]
     return between(GUIDE, "refusals", table(["Refusal", "Condition", "Usual cause", "What to do"], rows))
 
 

@@ -24,6 +24,10 @@ pub fn refusals(call: &Call) -> &'static [u32] {
 @NAMED@    }
 }
 
+/// Every call's name, with the refusals that the table names for it.
+pub const TABLE: &[(&str, &[u32])] = &[
+@TABLE@];
+
 /// The call as a line of a script.
 pub fn line(call: &Call) -> String {
     match call {

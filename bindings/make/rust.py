@@ -141,13 +141,14 @@ def pattern(call):
 
 def compared(tables):
     """compare/src/library.rs."""
-    made, names, named, lines = "", "", "", ""
+    made, names, named, rows, lines = "", "", "", "", ""
     for call in tables.calls:
         given = [p.name if is_list(p) else "*" + p.name for p in call.parameters]
         made += "        %s => {\n            raw::%s(grid, %s)\n        }\n" % (pattern(call), call.name, ", ".join(given))
         names += '        %s { .. } => "%s",\n' % (case(call), call.name)
         named += "        %s { .. } => &[%s],\n" % (case(call), ", ".join(call.refusals.split()))
+        rows += '    ("%s", &[%s]),\n' % (call.name, ", ".join(call.refusals.split()))
         words = "".join("{}" if is_list(p) else " {%s}" % p.name for p in own(call))
         lists = "".join(", numbers(%s)" % p.name for p in own(call) if is_list(p))
         lines += '        %s => format!("%s%s"%s),\n' % (pattern(call), call.name, words, lists)
-    return filled("library.rs", {"MADE": MADE, "CALLS": made, "NAMES": names, "NAMED": named, "LINES": lines})
+    return filled("library.rs", {"MADE": MADE, "CALLS": made, "NAMES": names, "NAMED": named, "TABLE": rows, "LINES": lines})

@@ -167,7 +167,7 @@ fn next_call(random: &mut Random, world: &World) -> Call {
             0..=2 => steady_wind(random, world),
             3 => drained_cell(random, world),
             4 => even_layers(random, world.grid.k as u64),
-            _ => worlds::call(random, world),
+            _ => worlds::recorded_call(random, world),
         };
         if asked != Call::Load {
             return records::fitted(asked, &world.grid);

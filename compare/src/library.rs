@@ -21,6 +21,9 @@ pub fn call(world: &mut World, call: &Call) -> Result<u32, Refusal> {
         Call::Zonal { layer, row, fluxes } => {
             raw::zonal(grid, air, tracers, *layer, *row, fluxes)
         }
+        Call::LongZonal { layer, row, fluxes } => {
+            raw::long_zonal(grid, air, tracers, *layer, *row, fluxes)
+        }
         Call::Meridional { layer, fluxes } => {
             raw::meridional(grid, air, tracers, *layer, fluxes)
         }
@@ -43,6 +46,7 @@ pub fn name(call: &Call) -> &'static str {
         Call::Emission { .. } => "emission",
         Call::Withdrawal { .. } => "withdrawal",
         Call::Zonal { .. } => "zonal",
+        Call::LongZonal { .. } => "long_zonal",
         Call::Meridional { .. } => "meridional",
         Call::Remap { .. } => "remap",
         Call::Total { .. } => "total",
@@ -57,12 +61,26 @@ pub fn refusals(call: &Call) -> &'static [u32] {
         Call::Emission { .. } => &[1, 2, 3, 4, 5, 6],
         Call::Withdrawal { .. } => &[1, 2, 3, 4, 5, 7],
         Call::Zonal { .. } => &[1, 2, 3, 4, 5, 8, 9],
+        Call::LongZonal { .. } => &[1, 2, 3, 4, 5, 8, 16, 17],
         Call::Meridional { .. } => &[1, 2, 3, 4, 5, 8, 10],
         Call::Remap { .. } => &[1, 2, 3, 4, 11, 12],
         Call::Total { .. } => &[1, 2, 3, 4, 5],
         Call::Cell { .. } => &[1, 2, 3, 4, 5],
     }
 }
+
+/// Every call's name, with the refusals that the table names for it.
+pub const TABLE: &[(&str, &[u32])] = &[
+    ("load", &[1, 2, 3, 4]),
+    ("emission", &[1, 2, 3, 4, 5, 6]),
+    ("withdrawal", &[1, 2, 3, 4, 5, 7]),
+    ("zonal", &[1, 2, 3, 4, 5, 8, 9]),
+    ("long_zonal", &[1, 2, 3, 4, 5, 8, 16, 17]),
+    ("meridional", &[1, 2, 3, 4, 5, 8, 10]),
+    ("remap", &[1, 2, 3, 4, 11, 12]),
+    ("total", &[1, 2, 3, 4, 5]),
+    ("cell", &[1, 2, 3, 4, 5]),
+];
 
 /// The call as a line of a script.
 pub fn line(call: &Call) -> String {
@@ -71,6 +89,7 @@ pub fn line(call: &Call) -> String {
         Call::Emission { tracer, cell, amount } => format!("emission {tracer} {cell} {amount}"),
         Call::Withdrawal { tracer, cell, amount } => format!("withdrawal {tracer} {cell} {amount}"),
         Call::Zonal { layer, row, fluxes } => format!("zonal {layer} {row}{}", numbers(fluxes)),
+        Call::LongZonal { layer, row, fluxes } => format!("long_zonal {layer} {row}{}", numbers(fluxes)),
         Call::Meridional { layer, fluxes } => format!("meridional {layer}{}", numbers(fluxes)),
         Call::Remap { table } => format!("remap{}", numbers(table)),
         Call::Total { tracer } => format!("total {tracer}"),

@@ -11,6 +11,7 @@
 mod inputs;
 #[rustfmt::skip]
 mod library;
+mod long;
 mod reached;
 mod records;
 mod runner;
@@ -22,6 +23,8 @@ use std::io::Write;
 use std::process::ExitCode;
 
 const CALLS: usize = 24;
+/// From so many lists on, every answer must be reached.
+const FULL: u64 = 2_000;
 
 /// Makes the call in the library; its answer in the second implementation's form.
 fn library_call(world: &mut World, call: &Call) -> Answer {
@@ -69,6 +72,16 @@ fn smaller(x: u32) -> Vec<u32> {
         .collect()
 }
 
+/// The fluxes of a sweep; none of another call.
+fn fluxes_of(call: &mut Call) -> &mut [i32] {
+    match call {
+        Call::Zonal { fluxes, .. }
+        | Call::LongZonal { fluxes, .. }
+        | Call::Meridional { fluxes, .. } => fluxes,
+        _ => &mut [],
+    }
+}
+
 /// Replaces numbers of the world and of the call by smaller ones as long as the two still differ.
 fn shrink(mut world: World, mut call: Call) -> (World, Call) {
     loop {
@@ -84,20 +97,17 @@ fn shrink(mut world: World, mut call: Call) -> (World, Call) {
                 }
             }
         }
-        if let Call::Zonal { fluxes, .. } | Call::Meridional { fluxes, .. } = &call {
-            for i in 0..fluxes.len() {
-                let mut trial = call.clone();
-                if let Call::Zonal { fluxes, .. } | Call::Meridional { fluxes, .. } = &mut trial {
-                    if fluxes[i] == 0 {
-                        continue;
-                    }
-                    fluxes[i] /= 2;
-                }
-                if differ(&world, &trial) {
-                    call = trial;
-                    changed = true;
-                    break;
-                }
+        for i in 0..fluxes_of(&mut call).len() {
+            let mut trial = call.clone();
+            let flux = &mut fluxes_of(&mut trial)[i];
+            if *flux == 0 {
+                continue;
+            }
+            *flux /= 2;
+            if differ(&world, &trial) {
+                call = trial;
+                changed = true;
+                break;
             }
         }
         if !changed {
@@ -131,6 +141,7 @@ fn report(world: &World, call: &Call) {
 /// Runs the lists in both and stops at a difference.
 fn compare_calls(lists: u64) {
     let mut seen: BTreeMap<(&str, u32), u64> = BTreeMap::new();
+    let mut long = long::Situations::default();
     for list in 0..lists {
         let size = if list * 10 < lists * 6 {
             0
@@ -158,14 +169,37 @@ fn compare_calls(lists: u64) {
                 );
                 std::process::exit(1);
             }
+            long.add(&world, &call, &after, want.number);
             world = after;
             *seen.entry((library::name(&call), want.number)).or_default() += 1;
         }
     }
     println!("{lists} lists of {CALLS} calls, no difference; calls by kind and answer:");
-    for ((kind, number), times) in seen {
+    for ((kind, number), times) in &seen {
         println!("  {kind} {number}: {times}");
     }
+    long.print();
+    if lists >= FULL {
+        all_reached(&seen, &long);
+    }
+}
+
+/// Fails if a call did not get an answer that bindings/calls.txt names for it, or a situation of the long sweep was not met.
+fn all_reached(seen: &BTreeMap<(&str, u32), u64>, long: &long::Situations) {
+    let pairs = library::TABLE.iter().flat_map(|(name, refusals)| {
+        let answers = std::iter::once(0).chain(refusals.iter().copied());
+        answers.map(move |number| (*name, number))
+    });
+    let mut missing: Vec<String> = pairs
+        .filter(|pair| !seen.contains_key(pair))
+        .map(|(name, number)| format!("{name} never got {number}"))
+        .collect();
+    missing.extend(long.missing());
+    if !missing.is_empty() {
+        println!("not reached: {}", missing.join("; "));
+        std::process::exit(1);
+    }
+    println!("every answer of bindings/calls.txt was reached by its call");
 }
 
 /// Prints the lists as a script that shows the world after every call.

@@ -16,6 +16,7 @@ pub fn load(world: &World) -> Vec<u8> {
 pub fn call(asked: &Call) -> Vec<u8> {
     match asked {
         Call::Load => unreachable!("a load's record has the world's numbers"),
+        Call::LongZonal { .. } => unreachable!("a long sweep has no record"),
         Call::Emission {
             tracer,
             cell,
@@ -40,7 +41,7 @@ pub fn call(asked: &Call) -> Vec<u8> {
 /// the grid's length.
 pub fn fitted(mut asked: Call, g: &Grid) -> Call {
     match &mut asked {
-        Call::Load => {}
+        Call::Load | Call::LongZonal { .. } => {}
         Call::Emission { tracer, cell, .. }
         | Call::Withdrawal { tracer, cell, .. }
         | Call::Cell { tracer, cell } => {

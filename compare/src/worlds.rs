@@ -163,7 +163,74 @@ fn table(random: &mut Random, k: u64) -> Vec<u32> {
     pairs
 }
 
+/// The air of a row, or of some row if the world has not that one.
+fn row_air(world: &World, layer: u32, row: u32) -> Vec<u32> {
+    let g = &world.grid;
+    let (w, layer, row) = (g.w as usize, layer as usize, row as usize);
+    if !in_range(g) || layer >= g.k as usize || row >= g.r as usize {
+        return vec![100; w.min(80)];
+    }
+    let first = layer * (2 + g.r as usize * w) + 1 + row * w;
+    let found = world.air.get(first..first + w);
+    found.map_or(vec![100; w], <[u32]>::to_vec)
+}
+
+/// Fluxes of a long sweep: the row moved by nothing, by a whole turn, or by nearly one, either way, or by any part of it,
+/// with differences that mostly leave air in each cell; now and then one that is refused, or that leaves a cell at its limit.
+fn long_fluxes(random: &mut Random, air: &[u32]) -> Vec<i32> {
+    let turn: i64 = air.iter().map(|&m| i64::from(m)).sum();
+    let least = air.iter().copied().min().map_or(1, u64::from);
+    let nearly = turn - random.below(least + 1) as i64;
+    let any = random.below(2 * turn as u64 + 1) as i64 - turn;
+    let common = [0, turn, -turn, nearly, -nearly, any, any, any][random.below(8) as usize];
+    let noise = [0, 0, 1, least / 2, least, 2 * least][random.below(6) as usize] as i64;
+    let mut fluxes: Vec<i64> = air
+        .iter()
+        .map(|_| common + random.below(2 * noise as u64 + 1) as i64 - noise)
+        .map(|flux| flux.clamp(-turn, turn))
+        .collect();
+    if !air.is_empty() {
+        long_exception(random, air, turn, &mut fluxes);
+    }
+    fluxes
+        .iter()
+        .map(|&f| f.clamp(i64::from(i32::MIN), i64::from(i32::MAX)) as i32)
+        .collect()
+}
+
+/// In a part of the long sweeps: a cell that ends at a limit or one beyond it; one flux, or all, above what is allowed; no
+/// flux; a list too long.
+fn long_exception(random: &mut Random, air: &[u32], turn: i64, fluxes: &mut Vec<i64>) {
+    let i = random.below(air.len() as u64) as usize;
+    let sign = if random.one_in(2) { 1 } else { -1 };
+    match random.below(16) {
+        0..=2 => {
+            let end = [1, 0, 65_535, 65_536][random.below(4) as usize];
+            let west = fluxes[if i == 0 { air.len() - 1 } else { i - 1 }];
+            fluxes[i] = i64::from(air[i]) + west - end;
+        }
+        3 => fluxes[i] = sign * (turn + 1),
+        4 => fluxes[i] = sign * [1_048_560, 1_048_561, 1 << 31][random.below(3) as usize],
+        5 => fluxes.fill(sign * (turn + 1)),
+        6 => fluxes.fill(0),
+        7 if random.one_in(3) => fluxes.push(0),
+        _ => {}
+    }
+}
+
+/// Any call of the library.
 pub fn call(random: &mut Random, world: &World) -> Call {
+    if !random.one_in(5) {
+        return recorded_call(random, world);
+    }
+    let layer = index(random, world.grid.k as u64);
+    let row = index(random, world.grid.r as u64);
+    let fluxes = long_fluxes(random, &row_air(world, layer, row));
+    Call::LongZonal { layer, row, fluxes }
+}
+
+/// A call that is a record of the runner program too.
+pub fn recorded_call(random: &mut Random, world: &World) -> Call {
     let g = &world.grid;
     let (w, r, k, n) = (g.w as u64, g.r as u64, g.k as u64, g.n as u64);
     let all = if in_range(g) { cells(g) } else { 6 };

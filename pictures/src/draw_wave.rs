@@ -4,13 +4,13 @@ use crate::plain;
 use crate::svg::{Anchor, Chart, Point, Svg, SMALL, TITLE, WORDS};
 use crate::wave::{Run, STEPS, W, WAVE};
 
-const EXACT: &str = "fill=\"#dedede\" stroke=\"#8c8c8c\" stroke-width=\"1\"";
-const LIBRARY: &str = "stroke=\"#0b5fa5\" stroke-width=\"2.6\" stroke-linejoin=\"round\"";
-const DOT: &str = "fill=\"#0b5fa5\"";
+pub const EXACT: &str = "fill=\"#dedede\" stroke=\"#8c8c8c\" stroke-width=\"1\"";
+pub const LIBRARY: &str = "stroke=\"#0b5fa5\" stroke-width=\"2.6\" stroke-linejoin=\"round\"";
+pub const DOT: &str = "fill=\"#0b5fa5\"";
 const HARMONIC: &str = "stroke=\"#c75b12\" stroke-width=\"1.8\" stroke-dasharray=\"7 4\"";
 const UPSTREAM: &str = "stroke=\"#6b6b6b\" stroke-width=\"1.8\" stroke-dasharray=\"2 4\"";
 
-fn chart() -> Chart {
+pub fn chart() -> Chart {
     Chart {
         corner: (80.0, 78.0),
         size: (780.0, 330.0),
@@ -20,7 +20,7 @@ fn chart() -> Chart {
 }
 
 /// A row's ratios at the middles of its cells.
-fn curve(chart: &Chart, row: &[f64]) -> Vec<Point> {
+pub fn curve(chart: &Chart, row: &[f64]) -> Vec<Point> {
     chart.places(
         row.iter()
             .enumerate()
@@ -28,7 +28,7 @@ fn curve(chart: &Chart, row: &[f64]) -> Vec<Point> {
     )
 }
 
-fn axes(svg: &mut Svg, chart: &Chart) {
+pub fn axes(svg: &mut Svg, chart: &Chart) {
     let across: Vec<_> = (0..=W)
         .step_by(5)
         .map(|x| (x as f64, x.to_string()))
@@ -45,7 +45,7 @@ fn axes(svg: &mut Svg, chart: &Chart) {
     );
 }
 
-fn exact(svg: &mut Svg, chart: &Chart) {
+pub fn exact(svg: &mut Svg, chart: &Chart) {
     let (west, east) = (WAVE.start as f64, WAVE.end as f64);
     let (x, y) = chart.at(west, 1.0);
     let (right, bottom) = chart.at(east, 0.0);

@@ -1,12 +1,14 @@
-//! Runs the two experiments of source 001 on the proved library and draws them.
+//! Runs the two experiments of source 001 on the proved library, the first also by long sweeps, and draws them.
 //!
-//!     pictures DIRECTORY      writes wave.svg, hill.svg and results.txt there, and prints the results
+//!     pictures DIRECTORY      writes wave.svg, long.svg, hill.svg and results.txt there, and prints the results
 //!
 //! It fails if a call is refused, if a gas total changed, or if some step did not bring the air back.
 
 mod draw_hill;
+mod draw_long;
 mod draw_wave;
 mod hill;
+mod long;
 mod plain;
 mod progress;
 mod results;
@@ -20,15 +22,23 @@ use std::path::Path;
 
 fn make(directory: &Path) -> Result<(), Box<dyn Error>> {
     let wave = wave::run()?;
+    let long = long::run()?;
     let hill = hill::run()?;
     wave.record.check()?;
+    for run in &long {
+        run.record.check()?;
+    }
     hill.record.check()?;
-    let results = results::all(&wave, &hill);
+    let results = results::all(&wave, &long, &hill);
     std::fs::create_dir_all(directory)?;
     let write = |name: &str, text: &str| std::fs::write(directory.join(name), text);
     write(
         "wave.svg",
         &draw_wave::draw(&wave, &results::wave_caption(&wave)),
+    )?;
+    write(
+        "long.svg",
+        &draw_long::draw(&long, &results::long_lines(&long)),
     )?;
     write(
         "hill.svg",

@@ -1,6 +1,7 @@
-//! The numbers of the two runs in words.
+//! The numbers of the runs in words.
 
 use crate::hill;
+use crate::long::{self, Sweep};
 use crate::plain;
 use crate::sphere;
 use crate::wave;
@@ -88,6 +89,26 @@ fn wave_lines(run: &wave::Run) -> Vec<String> {
     lines
 }
 
+/// A line for each run of the wave by long or zonal sweeps.
+pub fn long_lines(runs: &[long::Run]) -> Vec<String> {
+    let line = |run: &long::Run| {
+        let name = match run.sweep {
+            Sweep::Long => "long",
+            Sweep::Zonal => "zonal",
+        };
+        let mut line = format!("{} {name} sweeps of {:.1} cells", run.sweeps, run.courant);
+        if run.rest > 0.0 {
+            line.push_str(&format!(" and one of {:.1}", run.rest));
+        }
+        if run.sweep == Sweep::Zonal {
+            line.push_str(&format!(", substeps at most {}", run.record.most_substeps));
+        }
+        let (kept, misplaced) = (run.record.kept(), run.misplaced());
+        format!("{line}: peak kept {kept:.2} %, gas out of its place {misplaced:.2} %")
+    };
+    runs.iter().map(line).collect()
+}
+
 fn hill_lines(run: &hill::Run) -> Vec<String> {
     let mut lines = lines(&run.record);
     let centre = |ratios| {
@@ -109,7 +130,7 @@ fn hill_lines(run: &hill::Run) -> Vec<String> {
 }
 
 /// The text of results.txt.
-pub fn all(wave: &wave::Run, hill: &hill::Run) -> String {
+pub fn all(wave: &wave::Run, long: &[long::Run], hill: &hill::Run) -> String {
     let mut text = String::new();
     let wave_heading = format!(
         "Rectangular wave: {} of {} cells, Courant number 0.5, {} steps",
@@ -117,6 +138,7 @@ pub fn all(wave: &wave::Run, hill: &hill::Run) -> String {
         wave::W,
         wave::STEPS
     );
+    let long_heading = "The same wave, five turns, totals and air as loaded".to_string();
     let hill_heading = format!(
         "Cosine hill over the poles: {} x {} degrees, once round in {} steps",
         sphere::NORTHWARD,
@@ -125,6 +147,7 @@ pub fn all(wave: &wave::Run, hill: &hill::Run) -> String {
     );
     let parts = [
         (wave_heading, wave_lines(wave)),
+        (long_heading, long_lines(long)),
         (hill_heading, hill_lines(hill)),
     ];
     for (heading, lines) in parts {

@@ -10,9 +10,9 @@ pub const STEPS: u32 = 500;
 pub const WAVE: std::ops::Range<usize> = 20..30;
 const AIR: u32 = 60_000;
 /// Half of a cell's air passes each face in a step: Courant number 0.5.
-const FLUX: i32 = 30_000;
+pub const FLUX: i32 = 30_000;
 /// The units of gas for one unit of air where the wave is 1 high.
-const UNIT: u32 = 400;
+pub const UNIT: u32 = 400;
 
 pub struct Run {
     /// The ratios of the row's cells at the start and at the end.
@@ -22,7 +22,7 @@ pub struct Run {
 }
 
 /// A grid with one row. Its caps have air and no gas, and no sweep of the row reads or writes them.
-fn start() -> Result<World, Refusal> {
+pub fn start() -> Result<World, Refusal> {
     let mut gas = vec![0; W + 2];
     for column in WAVE {
         gas[1 + column] = UNIT * AIR;

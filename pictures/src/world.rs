@@ -16,6 +16,11 @@ impl World {
         self.0.zonal(0, row, fluxes)
     }
 
+    /// Sweeps one row without substeps.
+    pub fn long_zonal(&mut self, row: u32, fluxes: &[i32]) -> Result<(), Refusal> {
+        self.0.long_zonal(0, row, fluxes)
+    }
+
     /// Sweeps the layer.
     pub fn meridional(&mut self, fluxes: &[i32]) -> Result<u32, Refusal> {
         self.0.meridional(0, fluxes)

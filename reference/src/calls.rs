@@ -1,7 +1,7 @@
 //! The calls, each with one answer.
 
 use crate::grid::{Grid, World, MOST_TRACER};
-use crate::{meridional, refusal, remap, zonal};
+use crate::{long, meridional, refusal, remap, zonal};
 
 /// A call with its arguments. A remap's table is one flat list a, b, a, b, ...
 #[derive(Clone, Debug, PartialEq, Eq)]
@@ -18,6 +18,11 @@ pub enum Call {
         amount: u32,
     },
     Zonal {
+        layer: u32,
+        row: u32,
+        fluxes: Vec<i32>,
+    },
+    LongZonal {
         layer: u32,
         row: u32,
         fluxes: Vec<i32>,
@@ -77,6 +82,11 @@ fn count_or_refusal(world: &mut World, call: &Call) -> Result<u64, u32> {
             row,
             ref fluxes,
         } => zonal::sweep(world, layer, row, fluxes),
+        Call::LongZonal {
+            layer,
+            row,
+            ref fluxes,
+        } => long::sweep(world, layer, row, fluxes),
         Call::Meridional { layer, ref fluxes } => meridional::sweep(world, layer, fluxes),
         Call::Remap { ref table } => remap::remap(world, table),
         Call::Total { tracer } => total(world, tracer),
@@ -88,7 +98,9 @@ fn count_or_refusal(world: &mut World, call: &Call) -> Result<u64, u32> {
 fn check_lengths(world: &World, call: &Call) -> Result<(), u32> {
     let grid = &world.grid;
     let arguments = match call {
-        Call::Zonal { fluxes, .. } => fluxes.len() == grid.zonal_fluxes(),
+        Call::Zonal { fluxes, .. } | Call::LongZonal { fluxes, .. } => {
+            fluxes.len() == grid.zonal_fluxes()
+        }
         Call::Meridional { fluxes, .. } => fluxes.len() == grid.meridional_fluxes(),
         Call::Remap { table } => table.len() == grid.table_numbers(),
         _ => true,

@@ -1,8 +1,10 @@
 //! A second implementation of document 01, the tracer console's transport core,
-//! written from its text alone. Quotes in the comments are sentences of document 01.
+//! and of the requests of document 02 that have landed, written from their texts alone. Quotes
+//! in the comments are sentences of document 01, in long.rs of both.
 
 mod calls;
 mod grid;
+mod long;
 mod meridional;
 pub mod refusal;
 mod remap;

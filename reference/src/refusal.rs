@@ -1,4 +1,4 @@
-//! The numbers of the table "Refusals by place of checking".
+//! The numbers of the table "Refusals by place of checking", and those that document 02 adds.
 
 /// "every call, grid | 1 | W, R, K or N outside its range"
 pub const GRID: u32 = 1;
@@ -31,3 +31,7 @@ pub const KIND: u32 = 13;
 pub const RECORD_LENGTH: u32 = 14;
 /// "program, grid | 15 | K·C above 2,048 or N above 2"
 pub const PROGRAM_GRID: u32 = 15;
+/// "16 when a flux's size exceeds the row's air" (document 02)
+pub const LONG_FLUX: u32 = 16;
+/// "17 when air afterwards leaves 1 to 65,535" (document 02)
+pub const LONG_AIR: u32 = 17;

@@ -27,7 +27,7 @@ pub fn run(input: &[u8]) -> String {
 
 /// "The program ends after 13, 14, 15 or a refused kind 1."
 fn ends_program(kind: u8, number: u32) -> bool {
-    number >= refusal::KIND || (kind == 1 && number != 0)
+    (refusal::KIND..=refusal::PROGRAM_GRID).contains(&number) || (kind == 1 && number != 0)
 }
 
 /// One record: its answer and the bytes after it. "Kind is tested before length, length before

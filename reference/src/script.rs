@@ -92,6 +92,10 @@ fn read_call(name: &str, arguments: &[&str]) -> Result<Call, String> {
             let ([layer, row], fluxes) = fixed_then_fluxes(arguments)?;
             Call::Zonal { layer, row, fluxes }
         }
+        "long_zonal" => {
+            let ([layer, row], fluxes) = fixed_then_fluxes(arguments)?;
+            Call::LongZonal { layer, row, fluxes }
+        }
         "meridional" => {
             let ([layer], fluxes) = fixed_then_fluxes(arguments)?;
             Call::Meridional { layer, fluxes }

@@ -135,6 +135,43 @@ fn expect_remap_range_and_count(before: &World, after: &World, count: u64) {
     assert!(k * c <= count && count <= (2 * k - 1) * c);
 }
 
+/// The air on the line before each face of a row, from the west of column 0 to the east of the
+/// last column, each moved against its flux; and the old places, over three turns from turn −1.
+fn line_after(row_air: &[u32], fluxes: &[i32]) -> (Vec<i64>, Vec<i64>) {
+    let turn: i64 = row_air.iter().map(|&m| i64::from(m)).sum();
+    let mut old = vec![-turn];
+    for &m in row_air.iter().cycle().take(3 * row_air.len()) {
+        old.push(old[old.len() - 1] + i64::from(m));
+    }
+    let last = fluxes.len() - 1;
+    let mut new = vec![-i64::from(fluxes[last])];
+    for (i, &flux) in fluxes.iter().enumerate() {
+        new.push(old[fluxes.len() + i + 1] - i64::from(flux));
+    }
+    (old, new)
+}
+
+/// "A cell then lies within two units of the range over the cells it overlaps and their
+/// neighbours", and air changes by the fluxes.
+fn expect_long_range(before: &World, after: &World, layer: u32, row: u32, fluxes: &[i32]) {
+    let grid = &before.grid;
+    let columns = grid.w as usize;
+    let first = layer as usize * layer_cells(grid) + 1 + (row * grid.w) as usize;
+    let (old, new) = line_after(&before.air[first..first + columns], fluxes);
+    for i in 0..columns {
+        let (west, east) = (new[i], new[i + 1]);
+        assert_eq!(i64::from(after.air[first + i]), east - west);
+        let overlaps = (0..3 * columns).filter(|&c| old[c].max(west) < old[c + 1].min(east));
+        let near: Vec<usize> = overlaps
+            .flat_map(|c| [c + columns - 1, c, c + 1])
+            .map(|c| first + c % columns)
+            .collect();
+        for t in tracers(grid) {
+            expect_range(before, after, t, &near, first + i, 2);
+        }
+    }
+}
+
 /// Part s of n of the fluxes, with its own arithmetic.
 fn part(fluxes: &[i32], s: i64, n: i64) -> Vec<i32> {
     let size = |size: i64| (s * size).div_euclid(n) - ((s - 1) * size).div_euclid(n);
@@ -203,6 +240,10 @@ fn expect_call_properties(before: &World, after: &World, asked: &Call, answer: A
         Call::Zonal { layer, row, fluxes } if answer.number == 0 || answer.number == 9 => {
             expect_zonal(before, after, *layer, *row, fluxes, answer);
         }
+        Call::LongZonal { layer, row, fluxes } if answer.number == 0 => {
+            assert_eq!(answer.count, 0);
+            expect_long_range(before, after, *layer, *row, fluxes);
+        }
         Call::Meridional { layer, .. } if answer.number == 0 => {
             assert_eq!(answer.count, 1);
             expect_meridional_range(before, after, *layer);
@@ -240,6 +281,7 @@ fn named_tracer(asked: &Call) -> Option<usize> {
 struct Met {
     accepted_sweeps: u32,
     many_substeps: u32,
+    accepted_long: u32,
     accepted_meridional: u32,
     accepted_remaps: u32,
     ratios_kept: u32,
@@ -254,6 +296,7 @@ impl Met {
                 self.accepted_sweeps += 1;
                 self.many_substeps += u32::from(answer.count > 1);
             }
+            Call::LongZonal { .. } => self.accepted_long += 1,
             Call::Meridional { .. } => self.accepted_meridional += 1,
             Call::Remap { .. } => self.accepted_remaps += 1,
             _ => {}
@@ -292,12 +335,13 @@ fn run_list(random: &mut Random, met: &mut Met) {
 fn conservation_ratio_and_range_on_random_lists() {
     let mut random = Random::new(1);
     let mut met = Met::default();
-    for _ in 0..6_000 {
+    for _ in 0..8_000 {
         run_list(&mut random, &mut met);
     }
     println!("{met:?}");
     assert!(met.accepted_sweeps > 5_000);
     assert!(met.many_substeps > 2_000);
+    assert!(met.accepted_long > 5_000);
     assert!(met.accepted_meridional > 5_000);
     assert!(met.accepted_remaps > 3_000);
     assert!(met.ratios_kept > 5_000);

@@ -1,4 +1,4 @@
-//! Refusals 1 to 12 at both sides of their limits, and their order.
+//! Refusals 1 to 12 at both sides of their limits, and their order; 16 and 17 are in long.rs.
 
 mod common;
 use common::*;
@@ -380,6 +380,7 @@ fn refusals_come_in_row_order() {
             emission(9, 99, u32::MAX),
             withdrawal(9, 99, u32::MAX),
             zonal(9, 9, &[i32::MIN; 4]),
+            long_zonal(9, 9, &[i32::MIN; 4]),
             meridional(9, &[i32::MIN; 8]),
             Call::Total { tracer: 9 },
             Call::Cell {
@@ -428,7 +429,11 @@ fn any_numbers_and_lengths_never_panic() {
             world.grid.k = (random.next() as u32) >> random.between(0, 31);
         }
         match &mut asked {
-            Call::Zonal { fluxes, .. } | Call::Meridional { fluxes, .. } if random.one_in(2) => {
+            Call::Zonal { fluxes, .. }
+            | Call::LongZonal { fluxes, .. }
+            | Call::Meridional { fluxes, .. }
+                if random.one_in(2) =>
+            {
                 for flux in fluxes.iter_mut() {
                     *flux = (random.next() as i32) >> random.between(0, 31);
                 }
@@ -441,7 +446,7 @@ fn any_numbers_and_lengths_never_panic() {
             _ => {}
         }
         let answer = checked_call(&mut world, &asked);
-        assert!(answer.number <= 12);
+        assert!(answer.number <= 12 || answer.number == 16 || answer.number == 17);
         if answer.number == 0 {
             assert_eq!(call(&mut world, &Call::Load), accepted(0));
         }

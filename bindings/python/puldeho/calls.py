@@ -4,16 +4,16 @@ import enum
 
 __all__ = ["Refusal", "AIR_LIMIT", "TOTAL_LIMIT", "ZONAL_LIMIT", "MERIDIONAL_LIMIT", "MOST_SUBSTEPS", "TABLE_LIMIT", "TABLE_SCALE", "MOST_COLUMNS", "MOST_ROWS", "MOST_LAYERS", "MOST_TRACERS"]
 
-VERSION = "0.1.0"
+VERSION = "0.2.0"
 # The shared library of this version. Another version's functions may take other arguments.
-SONAME = "libpuldeho.so.0.1"
-ABI = "puldeho_abi_0_1"
+SONAME = "libpuldeho.so.0.2"
+ABI = "puldeho_abi_0_2"
 
 # The most air of a cell; the least is 1
 AIR_LIMIT = 65535
 # The most units of a tracer in all cells together
 TOTAL_LIMIT = 268435455
-# The largest size of a flux of a zonal sweep
+# The largest size of a flux of a zonal or a long zonal sweep
 ZONAL_LIMIT = 1048560
 # The largest size of a flux of a meridional sweep
 MERIDIONAL_LIMIT = 65535
@@ -48,6 +48,8 @@ class Refusal(enum.IntEnum):
     MERIDIONAL = 10
     TABLE = 11
     REMAP = 12
+    LONG_FLUX = 16
+    LONG_AIR = 17
 
 
 # Bytes that are room enough for any text that says why a call is refused.
@@ -67,6 +69,8 @@ CONDITIONS = {
     Refusal.MERIDIONAL: "the substep is not allowed",
     Refusal.TABLE: "the first pair is not (0, 0), the last is not (0, 65,536), an a is above 2,097,120, or a b is above 65,536",
     Refusal.REMAP: "in some column the edges do not rise strictly, or a new layer exceeds 65,535",
+    Refusal.LONG_FLUX: "a flux's size exceeds the row's air",
+    Refusal.LONG_AIR: "air afterwards leaves 1 to 65,535",
 }
 
 # What to do about each refusal.
@@ -79,10 +83,12 @@ REMEDIES = {
     Refusal.EMISSION: "load the gas in a larger unit, with room for all emissions of the run",
     Refusal.WITHDRAWAL: "read the cell first, and withdraw at most what it has",
     Refusal.FLUXES: "give fluxes in units of air for this step, and divide the step if they are still too large",
-    Refusal.ZONAL: "make the sweep as two or more, each with a part of the fluxes; if a cell would end with no air or too much, make the whole step (zonal, meridional, remap) in parts, or make the meridional sweep or a remap first",
+    Refusal.ZONAL: "make the sweep as two or more, each with a part of the fluxes, or as a long zonal sweep (in the library only), which gives other amounts of tracer; if a cell would end with no air or too much, make the whole step (zonal, meridional, remap) in parts, or make the meridional sweep or a remap first",
     Refusal.MERIDIONAL: "make the sweep as two or more, each with a part of the fluxes; if a cell would end with no air or too much, make the whole step (zonal, meridional, remap) in parts, or make the zonal sweeps or a remap first",
     Refusal.TABLE: "give K + 1 pairs a, b from the top down, with b in parts of 65,536, the first 0, 0 and the last 0, 65,536",
     Refusal.REMAP: "use a = 0, and choose the b so that every layer gets 1 to 65,535 units in the column with the least air and in the one with the most",
+    Refusal.LONG_FLUX: "take whole turns, each the sum of the row's air, off every flux (add them if the fluxes are negative): a whole turn brings every cell back, so nothing else changes; or divide the step",
+    Refusal.LONG_AIR: "give fluxes that leave every cell 1 to 65,535; if the other sweeps of the step would bring the air back, make the whole step (zonal, meridional, remap) in parts, or make the meridional sweep or a remap first",
 }
 
 # The world's lists, in the order of the C struct.
@@ -96,6 +102,7 @@ SIGNATURES = {
     "emission": (("air", "&[u32]"), ("tracers", "&mut [u32]"), ("tracer", "u32"), ("cell", "u32"), ("amount", "u32")),
     "withdrawal": (("air", "&[u32]"), ("tracers", "&mut [u32]"), ("tracer", "u32"), ("cell", "u32"), ("amount", "u32")),
     "zonal": (("air", "&mut [u32]"), ("tracers", "&mut [u32]"), ("layer", "u32"), ("row", "u32"), ("fluxes", "&[i32]")),
+    "long_zonal": (("air", "&mut [u32]"), ("tracers", "&mut [u32]"), ("layer", "u32"), ("row", "u32"), ("fluxes", "&[i32]")),
     "meridional": (("air", "&mut [u32]"), ("tracers", "&mut [u32]"), ("layer", "u32"), ("fluxes", "&[i32]")),
     "remap": (("air", "&mut [u32]"), ("tracers", "&mut [u32]"), ("table", "&[u32]")),
     "total": (("air", "&[u32]"), ("tracers", "&[u32]"), ("tracer", "u32")),
@@ -107,6 +114,7 @@ SHAPES = {
     ("world", "air"): "air_shape",
     ("world", "tracers"): "tracers_shape",
     ("zonal", "fluxes"): "zonal_fluxes_shape",
+    ("long_zonal", "fluxes"): "long_zonal_fluxes_shape",
     ("meridional", "fluxes"): "meridional_fluxes_shape",
     ("remap", "table"): "remap_table_shape",
 }
@@ -154,6 +162,17 @@ class Lengths:
         return (self.w,)
 
     @property
+    def long_zonal_fluxes_length(self):
+        """The length of fluxes of a long_zonal call: W. In it: flux i crosses the face from column i to
+        column i + 1, the last to column 0; positive eastward."""
+        return self.w
+
+    @property
+    def long_zonal_fluxes_shape(self):
+        """The shape of such an array of numpy; one of one dimension serves too."""
+        return (self.w,)
+
+    @property
     def meridional_fluxes_length(self):
         """The length of fluxes of a meridional call: (R + 1)*W. In it: flux g*W + i crosses between rows g -
         1 and g in column i; row -1 is the south cap, row R the north cap; positive northward."""
@@ -195,6 +214,12 @@ class Calls:
         """Sweeps one row of one layer by W fluxes, positive eastward. Returns the number of substeps, 1 to
         16. Refusals, in order: 1 2 3 4 5 8 9."""
         return self._make("zonal", layer, row, fluxes)
+
+    def long_zonal(self, layer, row, fluxes):
+        """Sweeps one row of one layer by W fluxes, positive eastward, without substeps: a face takes whole
+        cells and then a part of the next. Its amounts are not those of zonal. Refusals, in order: 1 2 3 4 5 8
+        16 17."""
+        self._make("long_zonal", layer, row, fluxes)
 
     def meridional(self, layer, fluxes):
         """Sweeps one layer by W*(R + 1) fluxes, positive northward. Returns the number of substeps, 1.

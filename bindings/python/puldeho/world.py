@@ -7,7 +7,7 @@ from . import lists, shared
 from .calls import CONDITIONS, OWN, REMEDIES, SHAPES, SIGNATURES, WHY_SIZE, WORLD, Calls, Lengths, Refusal
 
 # Where `why` says for the world at hand what would help, the general remedy is left out.
-CURED = (Refusal.ZONAL, Refusal.MERIDIONAL, Refusal.REMAP)
+CURED = (Refusal.ZONAL, Refusal.MERIDIONAL, Refusal.REMAP, Refusal.LONG_FLUX, Refusal.LONG_AIR)
 
 
 class Grid(Lengths, collections.namedtuple("Grid", "w r k n")):

@@ -41,6 +41,15 @@ class CaseP(unittest.TestCase):
         self.assertEqual(one.remap([0, 0, 0, 65536]), 6)
         self.assertEqual(one.air.tolist(), [99, 101, 100, 100, 110, 90])
 
+    def test_long_sweep(self):
+        one = world()
+        self.assertIsNone(one.long_zonal(0, 0, [0, 50, 0, 0]))
+        self.assertEqual(one.air.tolist(), [100, 100, 50, 150, 100, 100])
+        self.assertEqual(one.tracers.tolist(), [0, 0, 37, 263, 100, 0])
+        kept = one.copy()
+        one.long_zonal(0, 0, array.array("i", [400] * 4))
+        self.assertEqual((one.air, one.tracers), (kept.air, kept.tracers))
+
     def test_pairs(self):
         self.assertEqual(world().remap([(0, 0), (0, 65536)]), 6)
 
@@ -140,6 +149,10 @@ class Refusals(unittest.TestCase):
         self.refused(9, "zonal", 0, 0, [0, 100, 0, 0])
         self.refused(10, "meridional", 0, [100, 0, 0, 0, 0, 0, 0, 0])
         self.refused(11, "remap", [0, 0, 0, 65535])
+        self.refused(2, "long_zonal", 0, 0, [0, 50, 0])
+        self.refused(8, "long_zonal", 0, 0, [0, 1048561, 0, 0])
+        self.refused(16, "long_zonal", 0, 0, [401, 400, 400, 400])
+        self.refused(17, "long_zonal", 0, 0, [100, 0, 0, 0])
 
     def test_words(self):
         refused = self.refused(9, "zonal", 0, 0, [0, 100, 0, 0])
@@ -148,6 +161,9 @@ class Refusals(unittest.TestCase):
         self.assertTrue(refused.why.endswith("must diverge less at this cell"))
         self.assertNotIn("What to do", str(self.refused(10, "meridional", 0, [100, 0, 0, 0, 0, 0, 0, 0])))
         self.assertIn("What to do: count from 0", str(self.refused(5, "total", 1)))
+        for fluxes, number in ([401] * 4, 16), ([100, 0, 0, 0], 17):
+            self.assertNotIn("What to do", str(self.refused(number, "long_zonal", 0, 0, fluxes)))
+        self.assertIn("with 400 taken off every flux", self.refused(16, "long_zonal", 0, 0, [401] * 4).why)
         self.assertIn("column 1", refused.why)
         self.assertIn(refused.why, str(refused))
 
@@ -181,6 +197,7 @@ class Grids(unittest.TestCase):
         lengths = (grid.cells_in_layer, grid.air_length, grid.tracers_length)
         self.assertEqual(lengths, (20, 40, 200))
         self.assertEqual((grid.zonal_fluxes_length, grid.meridional_fluxes_length, grid.remap_table_length), (6, 24, 6))
+        self.assertEqual((grid.long_zonal_fluxes_length, grid.long_zonal_fluxes_shape), (6, (6,)))
         self.assertEqual((grid.air_shape, grid.tracers_shape), ((2, 20), (5, 2, 20)))
         self.assertEqual((grid.cell_number(1, 2, 5), grid.south_cap(1), grid.north_cap(1)), (38, 20, 39))
 

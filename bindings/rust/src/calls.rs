@@ -21,6 +21,7 @@ extern "C" {
     fn puldeho_why_emission(world: *const CWorld, tracer: u32, cell: u32, amount: u32, text: *mut c_char, size: usize) -> c_int;
     fn puldeho_why_withdrawal(world: *const CWorld, tracer: u32, cell: u32, amount: u32, text: *mut c_char, size: usize) -> c_int;
     fn puldeho_why_zonal(world: *const CWorld, layer: u32, row: u32, fluxes: *const i32, fluxes_length: usize, text: *mut c_char, size: usize) -> c_int;
+    fn puldeho_why_long_zonal(world: *const CWorld, layer: u32, row: u32, fluxes: *const i32, fluxes_length: usize, text: *mut c_char, size: usize) -> c_int;
     fn puldeho_why_meridional(world: *const CWorld, layer: u32, fluxes: *const i32, fluxes_length: usize, text: *mut c_char, size: usize) -> c_int;
     fn puldeho_why_remap(world: *const CWorld, table: *const u32, table_length: usize, text: *mut c_char, size: usize) -> c_int;
     fn puldeho_why_total(world: *const CWorld, tracer: u32, text: *mut c_char, size: usize) -> c_int;
@@ -30,20 +31,20 @@ extern "C" {
 /// Does nothing, and is linked with the library of this version only: another one's functions may take other arguments.
 pub(crate) fn same_version() {
     extern "C" {
-        fn puldeho_abi_0_1();
+        fn puldeho_abi_0_2();
     }
     // SAFETY: it takes nothing and does nothing.
-    unsafe { puldeho_abi_0_1() }
+    unsafe { puldeho_abi_0_2() }
 }
 
 /// The version of the library that this wrapper was made for.
-pub const VERSION: &str = "0.1.0";
+pub const VERSION: &str = "0.2.0";
 
 /// The most air of a cell; the least is 1
 pub const AIR_LIMIT: u32 = 65535;
 /// The most units of a tracer in all cells together
 pub const TOTAL_LIMIT: u32 = 268435455;
-/// The largest size of a flux of a zonal sweep
+/// The largest size of a flux of a zonal or a long zonal sweep
 pub const ZONAL_LIMIT: u32 = 1048560;
 /// The largest size of a flux of a meridional sweep
 pub const MERIDIONAL_LIMIT: u32 = 65535;
@@ -90,6 +91,10 @@ pub enum Refusal {
     Table = 11,
     /// in some column the edges do not rise strictly, or a new layer exceeds 65,535
     Remap = 12,
+    /// a flux's size exceeds the row's air
+    LongFlux = 16,
+    /// air afterwards leaves 1 to 65,535
+    LongAir = 17,
 }
 
 impl Refusal {
@@ -107,6 +112,8 @@ impl Refusal {
         Refusal::Meridional,
         Refusal::Table,
         Refusal::Remap,
+        Refusal::LongFlux,
+        Refusal::LongAir,
     ];
 
     /// The refusal's condition, in words.
@@ -124,6 +131,8 @@ impl Refusal {
             Refusal::Meridional => "the substep is not allowed",
             Refusal::Table => "the first pair is not (0, 0), the last is not (0, 65,536), an a is above 2,097,120, or a b is above 65,536",
             Refusal::Remap => "in some column the edges do not rise strictly, or a new layer exceeds 65,535",
+            Refusal::LongFlux => "a flux's size exceeds the row's air",
+            Refusal::LongAir => "air afterwards leaves 1 to 65,535",
         }
     }
 
@@ -138,10 +147,12 @@ impl Refusal {
             Refusal::Emission => "load the gas in a larger unit, with room for all emissions of the run",
             Refusal::Withdrawal => "read the cell first, and withdraw at most what it has",
             Refusal::Fluxes => "give fluxes in units of air for this step, and divide the step if they are still too large",
-            Refusal::Zonal => "make the sweep as two or more, each with a part of the fluxes; if a cell would end with no air or too much, make the whole step (zonal, meridional, remap) in parts, or make the meridional sweep or a remap first",
+            Refusal::Zonal => "make the sweep as two or more, each with a part of the fluxes, or as a long zonal sweep (in the library only), which gives other amounts of tracer; if a cell would end with no air or too much, make the whole step (zonal, meridional, remap) in parts, or make the meridional sweep or a remap first",
             Refusal::Meridional => "make the sweep as two or more, each with a part of the fluxes; if a cell would end with no air or too much, make the whole step (zonal, meridional, remap) in parts, or make the zonal sweeps or a remap first",
             Refusal::Table => "give K + 1 pairs a, b from the top down, with b in parts of 65,536, the first 0, 0 and the last 0, 65,536",
             Refusal::Remap => "use a = 0, and choose the b so that every layer gets 1 to 65,535 units in the column with the least air and in the one with the most",
+            Refusal::LongFlux => "take whole turns, each the sum of the row's air, off every flux (add them if the fluxes are negative): a whole turn brings every cell back, so nothing else changes; or divide the step",
+            Refusal::LongAir => "give fluxes that leave every cell 1 to 65,535; if the other sweeps of the step would bring the air back, make the whole step (zonal, meridional, remap) in parts, or make the meridional sweep or a remap first",
         }
     }
 }
@@ -160,6 +171,11 @@ impl Grid {
 
     /// The length of fluxes of a zonal call: W. In it: flux i crosses the face from column i to column i + 1, the last to column 0; positive eastward.
     pub fn zonal_fluxes_length(self) -> usize {
+        self.w as usize
+    }
+
+    /// The length of fluxes of a long_zonal call: W. In it: flux i crosses the face from column i to column i + 1, the last to column 0; positive eastward.
+    pub fn long_zonal_fluxes_length(self) -> usize {
         self.w as usize
     }
 
@@ -250,6 +266,14 @@ impl World {
         raw::zonal(self.grid, &mut self.air, &mut self.tracers, layer, row, fluxes)
     }
 
+    /// Sweeps one row of one layer by W fluxes, positive eastward, without substeps: a face takes whole cells and then a part of the next. Its amounts are not those of zonal.
+    ///
+    /// Refusals, in order: 1 2 3 4 5 8 16 17.
+    pub fn long_zonal(&mut self, layer: u32, row: u32, fluxes: &[i32]) -> Result<(), Refusal> {
+        raw::long_zonal(self.grid, &mut self.air, &mut self.tracers, layer, row, fluxes)?;
+        Ok(())
+    }
+
     /// Sweeps one layer by W*(R + 1) fluxes, positive northward.
     ///
     /// It gives the number of substeps, 1.
@@ -305,6 +329,13 @@ impl World {
         let world = self.lent();
         // SAFETY: each pointer goes with its list's length, and nothing but the text is written.
         words(|text, size| unsafe { puldeho_why_zonal(&world, layer, row, fluxes.as_ptr(), fluxes.len(), text, size) })
+    }
+
+    /// Why the call is refused in this world, in words; ask after the refusal, before the world changes.
+    pub fn why_long_zonal(&self, layer: u32, row: u32, fluxes: &[i32]) -> String {
+        let world = self.lent();
+        // SAFETY: each pointer goes with its list's length, and nothing but the text is written.
+        words(|text, size| unsafe { puldeho_why_long_zonal(&world, layer, row, fluxes.as_ptr(), fluxes.len(), text, size) })
     }
 
     /// Why the call is refused in this world, in words; ask after the refusal, before the world changes.
@@ -364,6 +395,14 @@ pub mod raw {
             amount: u32,
         ) -> u64;
         fn puldeho_raw_zonal(
+            w: u32, r: u32, k: u32, n: u32,
+            air: *mut u32, air_length: usize,
+            tracers: *mut u32, tracers_length: usize,
+            layer: u32,
+            row: u32,
+            fluxes: *const i32, fluxes_length: usize,
+        ) -> u64;
+        fn puldeho_raw_long_zonal(
             w: u32, r: u32, k: u32, n: u32,
             air: *mut u32, air_length: usize,
             tracers: *mut u32, tracers_length: usize,
@@ -479,6 +518,30 @@ pub mod raw {
         // SAFETY: each pointer goes with its slice's length, and the borrows keep all others from what is written.
         outcome(unsafe {
             puldeho_raw_zonal(
+                grid.w, grid.r, grid.k, grid.n,
+                air.as_mut_ptr(), air.len(),
+                tracers.as_mut_ptr(), tracers.len(),
+                layer,
+                row,
+                fluxes.as_ptr(), fluxes.len(),
+            )
+        })
+    }
+
+    /// Sweeps one row of one layer by W fluxes, positive eastward, without substeps: a face takes whole cells and then a part of the next. Its amounts are not those of zonal.
+    ///
+    /// Count: 0. Refusals, in order: 1 2 3 4 5 8 16 17.
+    pub fn long_zonal(
+        grid: Grid,
+        air: &mut [u32],
+        tracers: &mut [u32],
+        layer: u32,
+        row: u32,
+        fluxes: &[i32],
+    ) -> Result<u32, Refusal> {
+        // SAFETY: each pointer goes with its slice's length, and the borrows keep all others from what is written.
+        outcome(unsafe {
+            puldeho_raw_long_zonal(
                 grid.w, grid.r, grid.k, grid.n,
                 air.as_mut_ptr(), air.len(),
                 tracers.as_mut_ptr(), tracers.len(),

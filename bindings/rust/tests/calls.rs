@@ -44,6 +44,20 @@ fn every_method_makes_its_call() {
 }
 
 #[test]
+fn a_long_sweep() {
+    let mut world = World::load(GRID, AIR, TRACERS).unwrap();
+    assert_eq!(world.long_zonal(0, 0, &[0, 50, 0, 0]), Ok(()));
+    assert_eq!(world.air(), [100, 100, 50, 150, 100, 100]);
+    assert_eq!(world.tracers(), [0, 0, 37, 263, 100, 0]);
+    let before = world.clone();
+    assert_eq!(world.long_zonal(0, 0, &[-400; 4]), Ok(()));
+    assert_eq!(world, before);
+    assert!(world
+        .why_long_zonal(0, 0, &[401; 4])
+        .ends_with("with 400 taken off every flux the sweep is accepted and ends the same"));
+}
+
+#[test]
 fn why_says_which_cell_and_what_helps() {
     let world = World::load(GRID, AIR, TRACERS).unwrap();
     let why = world.why_zonal(0, 0, &[0, 100, 0, 0]);
@@ -76,6 +90,7 @@ fn lengths_and_cell_numbers() {
     assert_eq!(grid.air_length(), 40);
     assert_eq!(grid.tracers_length(), 200);
     assert_eq!(grid.zonal_fluxes_length(), 6);
+    assert_eq!(grid.long_zonal_fluxes_length(), 6);
     assert_eq!(grid.meridional_fluxes_length(), 24);
     assert_eq!(grid.remap_table_length(), 6);
     assert_eq!(grid.cell_number(1, 2, 5), Some(38));
@@ -199,6 +214,28 @@ fn refusals_11_and_12() {
 }
 
 #[test]
+fn refusals_16_and_17() {
+    let long = |fluxes: [i32; 4]| {
+        move |a: &mut [u32], t: &mut [u32]| raw::long_zonal(GRID, a, t, 0, 0, &fluxes)
+    };
+    refused(&AIR, &TRACERS, long([0, 0, 0, -1_048_561]), Refusal::Fluxes);
+    refused(
+        &AIR,
+        &TRACERS,
+        long([1_048_560, 0, 0, 0]),
+        Refusal::LongFlux,
+    );
+    refused(
+        &AIR,
+        &TRACERS,
+        long([401, 400, 400, 400]),
+        Refusal::LongFlux,
+    );
+    refused(&AIR, &TRACERS, long([401, 0, 0, 0]), Refusal::LongFlux);
+    refused(&AIR, &TRACERS, long([100, 0, 0, 0]), Refusal::LongAir);
+}
+
+#[test]
 fn a_refusal_says_its_number_and_condition() {
     let narrow = Grid { w: 3, ..GRID };
     let refusal = raw::load(narrow, &AIR, &TRACERS).unwrap_err();
@@ -207,7 +244,8 @@ fn a_refusal_says_its_number_and_condition() {
         "refusal 1: W, R, K or N is outside its range; give W from 4 to 72, R from 1 to 44, K from 1 to 32 and N from 1 to 8, in this order"
     );
     let numbers: Vec<u32> = Refusal::ALL.iter().map(|&r| r as u32).collect();
-    assert_eq!(numbers, (1..=12).collect::<Vec<u32>>());
+    // 13 to 15 are the runner program's.
+    assert_eq!(numbers, (1..=12).chain(16..=17).collect::<Vec<u32>>());
 }
 
 /// On the greatest grid, in a thread whose whole stack is the 256 KiB that no call may pass.
@@ -229,6 +267,10 @@ fn every_call_runs_on_256_kib_of_stack() {
         assert_eq!(
             raw::zonal(grid, &mut air, &mut tracers, 31, 43, &[1600; 72]),
             Ok(16)
+        );
+        assert_eq!(
+            raw::long_zonal(grid, &mut air, &mut tracers, 31, 43, &[1601; 72]),
+            Ok(0)
         );
         assert_eq!(
             raw::meridional(grid, &mut air, &mut tracers, 31, &[1; 72 * 45]),

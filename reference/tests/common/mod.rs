@@ -55,6 +55,14 @@ pub fn zonal(layer: u32, row: u32, fluxes: &[i32]) -> Call {
     }
 }
 
+pub fn long_zonal(layer: u32, row: u32, fluxes: &[i32]) -> Call {
+    Call::LongZonal {
+        layer,
+        row,
+        fluxes: fluxes.to_vec(),
+    }
+}
+
 pub fn meridional(layer: u32, fluxes: &[i32]) -> Call {
     Call::Meridional {
         layer,
@@ -98,6 +106,7 @@ pub fn each_call(grid: &Grid) -> Vec<Call> {
         emission(0, 0, 0),
         withdrawal(0, 0, 0),
         zonal(0, 0, &vec![0; grid.w as usize]),
+        long_zonal(0, 0, &vec![0; grid.w as usize]),
         meridional(0, &vec![0; (grid.w * (grid.r + 1)) as usize]),
         remap(&even_table(grid.k)),
         Call::Total { tracer: 0 },
@@ -243,6 +252,30 @@ fn random_row_fluxes(random: &mut Random, row_air: &[u32]) -> Vec<i32> {
         .collect()
 }
 
+/// Fluxes of a long sweep: a shift of the row by up to a whole turn either way, with changes that
+/// mostly leave air in each cell.
+pub fn random_long_fluxes(random: &mut Random, row_air: &[u32]) -> Vec<i32> {
+    let turn: i64 = row_air.iter().map(|&m| i64::from(m)).sum();
+    let least = i64::from(*row_air.iter().min().unwrap());
+    let base = match random.next() % 6 {
+        0 => 0,
+        1 => turn - random.between(0, least),
+        2 => random.between(0, least) - turn,
+        3 => random.between(-least, least),
+        _ => random.between(-turn, turn),
+    };
+    let change = match random.next() % 4 {
+        0 => 0,
+        1 => 1,
+        2 => least / 2,
+        _ => least,
+    };
+    let bound = turn + i64::from(random.one_in(30));
+    (0..row_air.len())
+        .map(|_| (base + random.between(-change, change)).clamp(-bound, bound) as i32)
+        .collect()
+}
+
 fn random_layer_fluxes(random: &mut Random, grid: &Grid, layer_air: &[u32]) -> Vec<i32> {
     let columns = grid.w as usize;
     let number = columns * (grid.r as usize + 1);
@@ -296,7 +329,7 @@ fn random_table(random: &mut Random, layers: u32) -> Vec<u32> {
 pub fn random_call(random: &mut Random, world: &World) -> Call {
     let grid = &world.grid;
     let (cells, layer_cells) = (cells(grid), layer_cells(grid));
-    match random.next() % 16 {
+    match random.next() % 20 {
         0 => emission(
             random_index(random, grid.n as usize),
             random_index(random, cells),
@@ -332,6 +365,15 @@ pub fn random_call(random: &mut Random, world: &World) -> Call {
         14 => Call::Total {
             tracer: random_index(random, grid.n as usize),
         },
+        16..=19 => {
+            let layer = random_index(random, grid.k as usize);
+            let row = random_index(random, grid.r as usize);
+            let first = layer as usize * layer_cells + 1 + (row * grid.w) as usize;
+            let row_air = world.air.get(first..first + grid.w as usize);
+            let spare = vec![100; grid.w as usize];
+            let fluxes = random_long_fluxes(random, row_air.unwrap_or(&spare));
+            Call::LongZonal { layer, row, fluxes }
+        }
         _ => Call::Cell {
             tracer: random_index(random, grid.n as usize),
             cell: random_index(random, cells),

@@ -73,30 +73,29 @@ module _ (w : World) (fits : Fits w) (a : ℕ) (fluxes : List ℤ) (s : LongSwee
   old-in : AirIn (w .grid .W) old
   old-in = cells-in a (w .grid .W) (worldCells (w .grid)) (s .inside) (w .air) (fits .air)
 
-  new : List ℕ
+  abbrev new : List ℕ
   new = longAir (w .grid .W) fluxes old
 
-  change : ℕ → List ℕ → List ℕ
+  abbrev change : ℕ → List ℕ → List ℕ
   change t = longGas (ruleOf w t) (w .grid .W) fluxes old
 
   change-many : (t : ℕ) (had : List ℕ) → length had ≡ w .grid .W → length (change t had) ≡ w .grid .W
-  unfolding change
   change-many t had e = length-long-gas (ruleOf w t) (w .grid .W) fluxes old had
 
   swept-only : ChangesOnly w (longSwept w a fluxes) a (w .grid .W)
-  unfolding longSwept new change
+  unfolding longSwept
   swept-only =
       part-only w fits a (w .grid .W) (s .inside) new change (length-long-air (w .grid .W) fluxes old) change-many
 
   swept-kept : Reached w → Kept w (longSwept w a fluxes) (λ t. noExchange)
-  unfolding longSwept new change
+  unfolding longSwept
   swept-kept reached =
       part-kept w reached a (w .grid .W) (s .inside) new change
       (long-air (w .grid .W) fluxes old (s .serves))
       (λ t. long-gas (w .grid .W) fluxes old (s .serves) old-in (rule-limited w t))
 
   swept-in-range : (t : ℕ) → t < w .grid .N → LongInRange w (longSwept w a fluxes) a fluxes t
-  unfolding longSwept new change
+  unfolding longSwept
   swept-in-range t h i hi =
       rw (
         part-air-is w fits a (w .grid .W) (s .inside) new change (length-long-air (w .grid .W) fluxes old) change-many,

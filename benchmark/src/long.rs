@@ -1,0 +1,66 @@
+//! The long sweep beside the zonal sweep, with the same fluxes, on winds that need some number of substeps.
+
+use crate::inputs;
+use crate::timing::{nothing_left, spread, time, Spread, Work};
+use crate::versions::VERSIONS;
+use crate::worlds::Random;
+use reference::{Call, Grid, World};
+
+/// The substeps of the zonal sweeps.
+pub const SUBSTEPS: [u64; 5] = [1, 2, 4, 8, 16];
+
+/// The zonal sweep of a row by the same flux through every face, which needs so many substeps: the air stays as it is, and
+/// the row's least air sets the count.
+fn zonal(world: &World, row: u32, substeps: u64) -> Call {
+    let w = world.grid.w as usize;
+    let first = 1 + row as usize * w;
+    let least = u64::from(*world.air[first..first + w].iter().min().unwrap());
+    let flux = (least * substeps - least / 2) as i32;
+    Call::Zonal {
+        layer: 0,
+        row,
+        fluxes: vec![flux; w],
+    }
+}
+
+/// The same as a long sweep.
+fn long(call: &Call) -> Call {
+    match call {
+        Call::Zonal { layer, row, fluxes } => Call::LongZonal {
+            layer: *layer,
+            row: *row,
+            fluxes: fluxes.clone(),
+        },
+        other => other.clone(),
+    }
+}
+
+/// Up to six rows, each there and back, repeated until about 100,000 numbers are read.
+fn zonal_work(grid: Grid, substeps: u64) -> Work {
+    let start = inputs::world(&mut Random::new(8), grid);
+    let calls: Vec<Call> = (0..grid.r.min(6))
+        .map(|row| zonal(&start, row, substeps))
+        .flat_map(|there| [there.clone(), inputs::opposite(&there)])
+        .collect();
+    let once = (start.air.len() + start.tracers.len()) * calls.len();
+    let times = (100_000 / once).clamp(1, 500);
+    let calls = std::iter::repeat_n(calls, times).flatten().collect();
+    Work { start, calls }
+}
+
+/// A version's time for the long sweeps as a part of its time for the zonal ones.
+pub fn beside_zonal(grid: Grid, substeps: u64, version: usize, rounds: usize) -> Spread {
+    let zonal = zonal_work(grid, substeps);
+    let long = Work {
+        start: zonal.start.clone(),
+        calls: zonal.calls.iter().map(long).collect(),
+    };
+    let mut left = nothing_left(&zonal.start);
+    let mut measured = |work: &Work, round: usize, count: u64| {
+        let seconds = time(VERSIONS[version].call(round), work, &mut left);
+        assert!(left.answers.iter().all(|&answer| answer == count));
+        seconds
+    };
+    let ratio = |round: usize| measured(&long, round, 0) / measured(&zonal, round, substeps);
+    spread((0..rounds).map(ratio).collect())
+}
