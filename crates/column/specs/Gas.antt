@@ -12,7 +12,7 @@ use Rattle.model.specs.Remap.{airAbove, layers, newTracer, columnCount}
 use Rattle.column.specs.Column.{firsts, AreEdges}
 
 -- ---- mismatches
--- the mismatch of layer i by the layers' ratios
+-- the mismatch of layer i of k by the layers' ratios
 unfoldable pub slopeAt : Bool → ℕ → List ℕ → ℕ → Mismatch
 slopeAt cap k q i =
     elim (cap || eqb i 0 || eqb (suc i) k) [
@@ -20,19 +20,27 @@ slopeAt cap k q i =
       | false ↦ mismatch (at q (i - 1)) (at q i) (at q (suc i))
     ]
 
--- room for the mismatches of up to 32 layers
+-- d is that of layer i, whatever number of layers, if some lies below it
+abbrev pub IsInner : Bool → List ℕ → ℕ → Mismatch → Type 0
+IsInner cap q i d = (k : ℕ) → suc i < k → d ≡ slopeAt cap k q i
+
+-- room for the mismatches of 1 to 32 layers
 pub record SlopesNeed (k : ℕ) (q size : List ℕ) (rising : List Bool) : Type 0 where
+  pub some : 1 ≤ k
   pub fit : k ≤ 32
   pub roomRatios : k ≤ length q
   pub roomSize : k ≤ length size
   pub roomRising : k ≤ length rising
 
--- the lists hold them
-pub record AreSlopes (cap : Bool) (k : ℕ) (q size : List ℕ) (rising : List Bool) : Type 0 where
+-- lists that long hold those of the first n layers, and of all
+pub record SlopesTo (cap : Bool) (k : ℕ) (q size : List ℕ) (rising : List Bool) (n : ℕ) : Type 0 where
   pub longSize : k ≤ length size
   pub longRising : k ≤ length rising
-  pub isSize : (i : ℕ) → i < k → at size i ≡ slopeAt cap k q i .size
-  pub isSign : (i : ℕ) → i < k → getD rising i false ≡ slopeAt cap k q i .positive
+  pub isSize : (i : ℕ) → i < n → at size i ≡ slopeAt cap k q i .size
+  pub isSign : (i : ℕ) → i < n → getD rising i false ≡ slopeAt cap k q i .positive
+
+abbrev pub AreSlopes : Bool → ℕ → List ℕ → List ℕ → List Bool → Type 0
+AreSlopes cap k q size rising = SlopesTo cap k q size rising k
 
 -- ---- a tracer's remap
 -- 1 to 32 layers with air in range, and edges that rise from 0 to their sum

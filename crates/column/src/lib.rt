@@ -9,7 +9,7 @@ ghost use Rattle.model.specs.Limits.{tableLimit, tableScale, mostLayers};
 ghost use Rattle.model.specs.Step.{tableFits};
 ghost use Rattle.scheme.specs.Leaves.{mismatchOf};
 ghost use Rattle.column.specs.Column.{EdgesNeed, AreEdges};
-ghost use Rattle.column.specs.Gas.{slopeAt, SlopesNeed, AreSlopes, Spans, IsPairs, ColumnGasNeed, IsRemapped};
+ghost use Rattle.column.specs.Gas.{IsInner, SlopesNeed, AreSlopes, Spans, IsPairs, ColumnGasNeed, IsRemapped};
 use line::tracer_between;
 use scheme::mismatch;
 use substep::fill_ratios;
@@ -63,38 +63,39 @@ pub fn fill_edges(table: &[u32], p: AirSum, k: usize, e: &mut [u64])
     }
 }
 
-// The mismatch of layer i with those above and below it: none in a cap's column, and none in the top and bottom layers.
-fn mismatch_at(q: &[u64], cap: bool, i: usize, k: usize) -> Mismatch
-    requires { ⌜ (k ≤ mostLayers) × (k ≤ length (now q)) × (i < k) ⌝ }
-    ensures { λ r. ⌜ mismatchOf r ≡ slopeAt cap k (now (q .entry)) i ⌝ }
+// The mismatch of layer i with those above and below it: none in a cap's column.
+fn mismatch_at(q: &[u64], cap: bool, i: usize) -> Mismatch
+    requires { ⌜ (1 ≤ i) × (i + 1 < length (now q)) ⌝ }
+    ensures { λ r. ⌜ IsInner cap (now (q .entry)) i (mismatchOf r) ⌝ }
 {
-    let plain = Mismatch {
-        size: 0,
-        positive: true,
-    };
-    if cap | (i == 0) {
-        return plain;
-    }
-    if i + 1 < k {} else {
-        return plain;
+    if cap {
+        return Mismatch {
+            size: 0,
+            positive: true,
+        };
     }
     let low = q[i - 1];
     let high = q[i + 1];
     mismatch(low, q[i], high)
 }
 
-// The mismatch of each of k layers.
+// The mismatch of each of k layers, none in the top and bottom ones, which the loop leaves out so that it needs no test of them.
 fn fill_slopes(q: &[u64], cap: bool, k: usize, size: &mut [u64], rising: &mut [bool])
     requires { ⌜ SlopesNeed k (now q) (now size) (now rising) ⌝ }
     ensures { λ r. ⌜ AreSlopes cap k (now (q .entry)) (now (size .exit)) (now (rising .exit)) ⌝ }
 {
-    let mut i = 0;
-    while i < k {
-        let d = mismatch_at(q, cap, i, k);
+    let last = k - 1;
+    size[0] = 0;
+    rising[0] = true;
+    let mut i = 1;
+    while i < last {
+        let d = mismatch_at(q, cap, i);
         size[i] = d.size;
         rising[i] = d.positive;
         i += 1;
     }
+    size[last] = 0;
+    rising[last] = true;
 }
 
 // A tracer's amounts in a column's k new layers, from the old ones; `cap` says whether the column is a cap's, and q, size and rising are filled on the way.

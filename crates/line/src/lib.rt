@@ -154,6 +154,7 @@ pub fn tracer_between(
 {
     let mut i: usize = 0; // only the proof reads it
     let mut c = 0;
+    let mut after = next_cell(c, n); // known ahead, so that reading the next cell waits for nothing
     let mut j = 0;
     let mut passed = AirSum(0); // the air of the cells passed
     let mut whole = Tracer(0); // their tracer
@@ -166,7 +167,8 @@ pub fn tracer_between(
         if end.0 < edge {
             passed = end;
             whole = plus(whole, t);
-            c = next_cell(c, n);
+            c = after;
+            after = next_cell(c, n);
             i += 1;
             continue;
         }
