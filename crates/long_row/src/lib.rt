@@ -3,10 +3,8 @@
 ghost use mathlib.Core.Path.{_≡_};
 ghost use Prim.Native.Nat.{_+_, _-_, _≤_, _<_};
 ghost use lib.ListN.{length};
-ghost use Rattle.model.specs.Remap.{airAbove};
 ghost use Rattle.model.specs.Sweep.{forward, backward};
 ghost use Rattle.model.specs.Long.{longAirFits};
-ghost use Rattle.line.specs.Line.{AirNeed};
 ghost use Rattle.long_row.specs.Air.{LongNeed, AreDepartures, Departed, airBy};
 ghost use Rattle.long_row.specs.Gas.{SlopesNeed, AreSlopes, LongGasNeed, gasBy};
 use line::air_sum;
@@ -27,15 +25,6 @@ use units::add_air;
 pub const MOST_DEPARTURES: usize = MOST_COLUMNS + 2; // the line's start, and one of each face
 
 const MOST_STRETCHES: usize = MOST_COLUMNS + 1; // between them
-
-// The row's air.
-pub fn row_air(air: &[u32]) -> Air
-    requires { ⌜ AirNeed (length (now air)) (now air) ⌝ }
-    ensures { λ r. ⌜ r .0 ≡ airAbove (now (air .entry)) (length (now (air .entry))) ⌝ }
-{
-    let all = air_sum(air, air.len());
-    Air(all.0 as u32)
-}
 
 // Where the air at a face comes from: x − F, for the air x before the face and its flux F.
 fn departure_of(x: AirSum, f: i32) -> u64

@@ -1,26 +1,39 @@
 // The long zonal sweep of one row in one layer: a sweep without substeps.
 ghost use mathlib.Core.Path.{_≡_};
+ghost use lib.ListN.{length};
+ghost use Rattle.model.specs.Remap.{airAbove};
 ghost use Rattle.model.specs.Step.{longZonal as long-zonal-call};
 ghost use Rattle.units.specs.Answer.{Agrees};
 ghost use Rattle.units.specs.Grid.{gridOf, worldOf};
+ghost use Rattle.line.specs.Line.{AirNeed};
 ghost use Rattle.long_zonal.specs.LongPlace.{IsLongPlace};
 ghost use Rattle.long_zonal.specs.LongTracers.{RowsNeed, rowsSwept};
 ghost use Rattle.long_zonal.specs.LongSwept.{RowReady, IsSwept};
+use line::air_sum;
 use long_row::MOST_DEPARTURES;
 use long_row::air_serves;
 use long_row::fill_departures;
 use long_row::move_air;
 use long_row::move_gas;
-use long_row::row_air;
 use places::Placed;
 use places::fluxes_fit;
 use places::not_placed;
 use row_place::row_place;
+use units::Air;
 use units::Answer;
 use units::Grid;
 use units::Refusal;
 use units::number;
 use units::world_cells;
+
+// The row's air.
+fn row_air(air: &[u32]) -> Air
+    requires { ⌜ AirNeed (length (now air)) (now air) ⌝ }
+    ensures { λ r. ⌜ r .0 ≡ airAbove (now (air .entry)) (length (now (air .entry))) ⌝ }
+{
+    let all = air_sum(air, air.len());
+    Air(all.0 as u32)
+}
 
 // Places 1 to 5, 8, 16 and 17: where the row starts.
 fn long_place(g: Grid, air: &[u32], tracers: &[u32], layer: u32, row: u32, fluxes: &[i32]) -> Placed
