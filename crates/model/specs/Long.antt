@@ -27,11 +27,11 @@ lineAir W air j = sum j (λ i. at air (i % W))
 abbrev pub turns : ℕ
 turns = 3
 
--- "Let G be as in the remap .. and carry it round so that one full turn adds the row's total."
+-- "Let G be as in the remap .. and carry it round so that one full turn adds the row's total" (`carried-first`, `carried-turn`, Laws/Long)
 unfoldable pub carried : Rule → ℕ → List ℕ → List ℕ → ℕ → ℕ
 carried rule W air gas x = amountAbove (tab (turns * W) (lineCell rule W air gas)) x
 
--- "Let x be the air before a face at its old place": of face j, the west face of column j and, for j = W, the east face of the last column; and x − F "for its flux F"
+-- "Let x be the air before a face at its old place", then x − F "for its flux F": of face j, the west face of column j and, for j = W, the east face of the last column. Counted from a turn west of column 0, so that nothing is negative: it is document 02's number and the row's air (`departure-is`, Laws/Long)
 unfoldable pub departure : ℕ → List ℤ → List ℕ → ℕ → ℕ
 departure W fluxes air j =
     let F : ℤ = flux fluxes (westOf W j) in
