@@ -40,7 +40,7 @@
  *   puldeho_raw_withdrawal         384
  *   puldeho_raw_zonal           25,552
  *   puldeho_raw_meridional      93,952
- *   puldeho_raw_remap           17,648
+ *   puldeho_raw_remap           17,840
  *   puldeho_raw_total              416
  *   puldeho_raw_cell               384
  * A function puldeho_why_NAME wants at most PULDEHO_WHY_STACK bytes.

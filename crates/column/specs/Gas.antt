@@ -4,24 +4,40 @@ use mathlib.Core.List.{List}
 use mathlib.Core.Bool.{Bool, true, false, _||_}
 use mathlib.Core.Path.{_≡_}
 use lib.Dec.{eqb}
-use lib.ListN.{length}
+use lib.ListN.{length, getD}
 use Rattle.model.specs.Limits.{airLimit, totalLimit}
-use Rattle.model.specs.Basic.{at, sum, tab}
+use Rattle.model.specs.Basic.{at, sum}
 use Rattle.model.specs.Scheme.{Mismatch, mismatch, plain}
 use Rattle.model.specs.Remap.{airAbove, layers, newTracer, columnCount}
-use Rattle.substep.specs.Pieces.{AreRatios}
 use Rattle.column.specs.Column.{firsts, AreEdges}
 
 -- ---- mismatches
--- the mismatch of layer i by the layers' ratios
-unfoldable pub slopeAt : Bool → ℕ → List ℕ → ℕ → Mismatch
-slopeAt cap k q i =
-    elim (cap || eqb i 0 || eqb (suc i) k) [
-      | true ↦ plain
-      | false ↦ mismatch (at q (i - 1)) (at q i) (at q (suc i))
-    ]
+-- none, or the mismatch of three ratios; that of layer i of k by the layers' ratios
+unfoldable pub mismatchUnless : Bool → ℕ → ℕ → ℕ → Mismatch
+mismatchUnless none qa q qb = elim none [ true ↦ plain | false ↦ mismatch qa q qb ]
 
--- ---- the walk
+unfoldable pub slopeAt : Bool → ℕ → List ℕ → ℕ → Mismatch
+slopeAt cap k q i = mismatchUnless (cap || eqb i 0 || eqb (suc i) k) (at q (i - 1)) (at q i) (at q (suc i))
+
+-- room for the mismatches of 1 to 32 layers
+pub record SlopesNeed (k : ℕ) (q size : List ℕ) (rising : List Bool) : Type 0 where
+  pub some : 1 ≤ k
+  pub fit : k ≤ 32
+  pub roomRatios : k ≤ length q
+  pub roomSize : k ≤ length size
+  pub roomRising : k ≤ length rising
+
+-- lists that long hold those of the first n layers, and of all
+pub record SlopesTo (cap : Bool) (k : ℕ) (q size : List ℕ) (rising : List Bool) (n : ℕ) : Type 0 where
+  pub longSize : k ≤ length size
+  pub longRising : k ≤ length rising
+  pub isSize : (i : ℕ) → i < n → at size i ≡ slopeAt cap k q i .size
+  pub isSign : (i : ℕ) → i < n → getD rising i false ≡ slopeAt cap k q i .positive
+
+abbrev pub AreSlopes : Bool → ℕ → List ℕ → List ℕ → List Bool → Type 0
+AreSlopes cap k q size rising = SlopesTo cap k q size rising k
+
+-- ---- a tracer's remap
 -- 1 to 32 layers with air in range, and edges that rise from 0 to their sum
 pub record Spans (k : ℕ) (air e : List ℕ) : Type 0 where
   pub some : 1 ≤ k
@@ -34,25 +50,21 @@ pub record Spans (k : ℕ) (air e : List ℕ) : Type 0 where
   pub last : at e k ≡ airAbove (firsts k air) k
   pub rises : (j : ℕ) → j < k → at e j < at e (suc j)
 
--- ---- a tracer's remap
--- such layers and edges, tracer within the limit, and room for the ratios and the new amounts
-pub record ColumnGasNeed (k : ℕ) (air gas q e newgas : List ℕ) : Type 0 where
+-- such layers and edges, tracer within the limit, and room for the ratios, the mismatches and the new amounts
+pub record ColumnGasNeed (k : ℕ) (air gas q size : List ℕ) (rising : List Bool) (e newgas : List ℕ) : Type 0 where
   pub spans : Spans k air e
   pub total : sum k (at gas) ≤ totalLimit
   pub roomGas : k ≤ length gas
   pub roomRatios : k ≤ length q
+  pub roomSize : k ≤ length size
+  pub roomRising : k ≤ length rising
   pub room : k ≤ length newgas
-
--- the same, with the ratios in q
-pub record WalkNeed (k : ℕ) (air gas q e newgas : List ℕ) : Type 0 where
-  pub column : ColumnGasNeed k air gas q e newgas
-  pub ratios : AreRatios k air gas q
 
 -- r has the new layers' tracer, whatever table the edges are of
 pub record IsRemapped (cap : Bool) (k : ℕ) (air gas e r : List ℕ) : Type 0 where
   pub is :
-      (table : List ℕ) → AreEdges table (airAbove (firsts k air) k) k e →
-      firsts k r ≡ tab k (newTracer table (airAbove (firsts k air) k) (layers mismatch cap k (firsts k air) (firsts k gas)))
+      (table : List ℕ) → AreEdges table (airAbove (firsts k air) k) k e → (j : ℕ) → j < k →
+      at r j ≡ newTracer table (airAbove (firsts k air) k) (layers mismatch cap k (firsts k air) (firsts k gas)) j
 
 -- ---- pairs
 -- r counts the pairs of an old and a new layer that share air, whatever table the edges are of

@@ -13,9 +13,10 @@ use lib.Dec.{ltb}
 use Rattle.model.specs.Basic.{at, sum, howMany}
 use Rattle.model.specs.Remap.{airAbove, shareAir, columnCount}
 use Rattle.model.specs.Laws.Basic.{sum-none, sum-more, sum-ext, sum-fewer, at-tab}
+use Rattle.line.specs.Walk.{WalkPlace, end-is}
 use Rattle.column.specs.Column.{firsts, AreEdges}
 use Rattle.column.specs.Gas.{Spans, IsPairs}
-use Rattle.column.specs.Walk.{WalkPlace, rises-next, last-is, lower-is}
+use Rattle.column.specs.Walk.{last-is, column-within}
 
 -- ---- how many
 how-many-ext : (n : ℕ) (p q : ℕ → Bool) → ((t : ℕ) → t < n → p t ≡ q t) → howMany n p ≡ howMany n q
@@ -84,14 +85,31 @@ module _ (air : List ℕ) (e : List ℕ) (j t : ℕ) where
   starts-past : at e (j + 1) ≤ sum t (at air) → sharesAt air e j t ≡ false
   starts-past h = le-ltb (top air e j t) (end air e j t) (omega arith)
 
-module _ {k : ℕ} {air : List ℕ} {e : List ℕ} (spans : Spans k air e) {i j passed : ℕ} (p : WalkPlace k air e i j passed) where
+-- the lower edge of new layer j lies past the air passed
+abbrev pub Ahead : ℕ → List ℕ → ℕ → ℕ → Type 0
+Ahead k e j passed = j < k → passed < at e (j + 1)
+
+module _ {k : ℕ} {air : List ℕ} {e : List ℕ} (spans : Spans k air e) where
+  rises-next : (j : ℕ) → j < k → at e j < at e (j + 1)
+  rises-next j h = rw add-one (spans .rises j h)
+
+  pub ahead-start : Ahead k e 0 0
+  ahead-start h = omega (arith, rises-next 0 h, spans .first)
+
+  pub ahead-edge : {j passed : ℕ} → j < k → Ahead k e j passed → Ahead k e (j + 1) passed
+  ahead-edge {j} h ahead q = omega (arith, ahead h, rises-next (j + 1) q)
+
+module _ {k : ℕ} {air : List ℕ} {e : List ℕ} (spans : Spans k air e) {i j passed : ℕ} (p : WalkPlace (at air) k e k i j passed) where
   -- the old layers above end before here
   none-above : (x : ℕ) → passed ≤ at e x → howMany i (sharesAt air e x) ≡ 0
   none-above x h =
       how-many-none i _ (λ t q. ends-before air e x t (omega (arith, sum-fewer (at air) (t + 1) i (omega arith), p .is)))
 
   -- old layer i ends at `lower`
-  module _ {lower : ℕ} (ends : lower ≡ passed + at air i) (h : j < k) where
+  module _ {lower : ℕ} (ends : lower ≡ passed + at air i) (h : j < k) (ahead : Ahead k e j passed) where
+    lower-is : lower ≡ sum (i + 1) (at air)
+    lower-is = end-is (column-within spans) p ends
+
     -- the two layers at which the walk stands
     here : sharesAt air e j i ≡ ltb (at e j) lower
     here = go (ltb (at e j) lower) refl
@@ -99,11 +117,11 @@ module _ {k : ℕ} {air : List ℕ} {e : List ℕ} (spans : Spans k air e) {i j 
         go : (b : Bool) → ltb (at e j) lower ≡ b → sharesAt air e j i ≡ b
         go true u =
             let past : at e j < lower = ltb-true _ _ u in
-            let some = spans .least i (p .layer) in
-            lt-ltb (top air e j i) (end air e j i) (omega (arith, lower-is spans p ends, p .is, p .ahead h, rises-next spans j h))
+            let some = spans .least i (p .cell) in
+            lt-ltb (top air e j i) (end air e j i) (omega (arith, lower-is, p .is, ahead h, rises-next spans j h))
         go false u =
             let before : lower ≤ at e j = ltb-false _ _ u in
-            le-ltb (top air e j i) (end air e j i) (omega (arith, lower-is spans p ends))
+            le-ltb (top air e j i) (end air e j i) (omega (arith, lower-is))
 
     pub pairs-more :
         {count more : ℕ} → count ≡ countTo k air e j i → more ≡ min 1 (lower - at e j) →
@@ -114,9 +132,9 @@ module _ {k : ℕ} {air : List ℕ} {e : List ℕ} (spans : Spans k air e) {i j 
     pub pairs-edge : {count : ℕ} → at e (j + 1) ≤ lower → count ≡ countTo k air e j (i + 1) → count ≡ countTo k air e (j + 1) i
     pairs-edge le is =
         let none : (t : ℕ) → i + 1 ≤ t → t < k → sharesAt air e j t ≡ false =
-        λ t a b. starts-past air e j t (omega (arith, sum-fewer (at air) (i + 1) t a, lower-is spans p ends)) in
-        let rest = how-many-past k (i + 1) (sharesAt air e j) (omega (arith, p .layer)) none in
-        omega (arith, is, rest, sum-more j (λ t. howMany k (sharesAt air e t)), none-above (j + 1) (omega (arith, p .ahead h)))
+        λ t a b. starts-past air e j t (omega (arith, sum-fewer (at air) (i + 1) t a, lower-is)) in
+        let rest = how-many-past k (i + 1) (sharesAt air e j) (omega (arith, p .cell)) none in
+        omega (arith, is, rest, sum-more j (λ t. howMany k (sharesAt air e t)), none-above (j + 1) (omega (arith, ahead h)))
 
   -- the model's count
   share-is :
@@ -135,12 +153,12 @@ module _ {k : ℕ} {air : List ℕ} {e : List ℕ} (spans : Spans k air e) {i j 
   unfolding columnCount
   pairs-all done is small =
       let at-end = ap (at e) done ∙ last-is spans in
-      let none = none-above j (omega (arith, p .is, at-end, sum-fewer (at air) i k (omega (arith, p .layer)))) in
+      let none = none-above j (omega (arith, p .is, at-end, sum-fewer (at air) i k (omega (arith, p .cell)))) in
       record {
         is =
             λ table are.
             is ∙ omega (arith, none) ∙
             ap (pairsTo k air e) done ∙
             sum-ext k _ _ (λ x hx. how-many-ext k _ _ (λ t ht. share-is table are x t hx ht));
-        most = omega (arith, p .layer);
+        most = omega (arith, p .cell);
       }

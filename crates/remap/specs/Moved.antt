@@ -1,5 +1,5 @@
 -- All columns remapped, of the air and of one tracer.
-use Prim.Native.Nat.{ℕ, suc, _+_, _*_, _/_, _%_, _≤_, _<_}
+use Prim.Native.Nat.{ℕ, suc, _+_, _-_, _*_, _/_, _%_, _≤_, _<_}
 use mathlib.Core.List.{List}
 use mathlib.Core.Bool.{Bool, _||_}
 use mathlib.Core.Path.{_≡_, sym, ap, ap₂, _∙_}
@@ -10,10 +10,11 @@ use lib.ListN.{length}
 use Rattle.model.specs.Limits.{totalLimit}
 use Rattle.model.specs.Basic.{at, tab, sum}
 use Rattle.model.specs.Remap.{airAbove, newAir, newTracer, layers}
-use Rattle.model.specs.Laws.Basic.{at-tab, sum-tab, sum-columns, term-le-sum}
+use Rattle.model.specs.Laws.Basic.{sum-tab, sum-columns, term-le-sum}
 use Rattle.model.specs.Scheme.{mismatch}
 use Rattle.model.specs.Laws.Column.{Edges}
-use Rattle.column.specs.Column.{firsts, IsNewAir, Served}
+use Rattle.line.specs.Line.{IsNewAir, Served}
+use Rattle.column.specs.Column.{firsts}
 use Rattle.column.specs.Gas.{ColumnGasNeed, IsRemapped}
 use Rattle.remap.specs.Columns.{ColumnNeed, columnOf, columnSet}
 use Rattle.remap.specs.Served.{ReadNeed, IsColumn, ColumnsNeed, columnSum, read-need, column-spans, column-served, column-edges}
@@ -77,8 +78,7 @@ module _
     air-more {new} made stored =
         upto-more (need .columns .long) h upto (at new) stored
         (λ i p.
-        sym (at-tab k (at new) i p) ∙ ap (λ (l : List ℕ). at l i) (made .is table _ (is .edgesAre)) ∙
-        at-tab k (newAir table (columnSum k cells now c)) i p ∙
+        made .is i p ∙ ap₂ _-_ (is .edgesAre .is (suc i) p) (is .edgesAre .is i (omega arith)) ∙
         ap (λ (l : List ℕ). newAir table (airAbove l k) i) same)
 
 -- ---- a tracer
@@ -101,13 +101,17 @@ module _
         term-le-sum cells (λ c. sum k (λ i. at gas (i * cells + c))) c h in
         omega (arith, own, whole, term, need .total)
 
-    pub gas-need : {q new : List ℕ} → k ≤ length old → k ≤ length q → k ≤ length new → ColumnGasNeed k a old q e new
-    gas-need roomGas roomRatios room =
+    pub gas-need :
+        {q size : List ℕ} {rising : List Bool} {new : List ℕ} → k ≤ length old → k ≤ length q → k ≤ length size → k ≤ length rising →
+        k ≤ length new → ColumnGasNeed k a old q size rising e new
+    gas-need roomGas roomRatios roomSize roomRising room =
         record {
           spans = column-spans (need .moves .columns .fit) (need .moves .columns .some) is (need .moves .edges c h);
           total = column-total;
           roomGas = roomGas;
           roomRatios = roomRatios;
+          roomSize = roomSize;
+          roomRising = roomRising;
           room = room;
         }
 
@@ -116,9 +120,7 @@ module _
     gas-more {cap} {new} cap-is made stored =
         upto-more (need .long) h upto (at new) stored
         (λ i p.
-        sym (at-tab k (at new) i p) ∙
-        ap (λ (l : List ℕ). at l i) (made .is table (column-edges (need .moves .columns .fit) (need .moves .columns .some) is (need .moves .edges c h))) ∙
-        at-tab k (newTracer table (airAbove (firsts k a) k) (layers mismatch cap k (firsts k a) (firsts k old))) i p ∙
+        made .is table (column-edges (need .moves .columns .fit) (need .moves .columns .some) is (need .moves .edges c h)) i p ∙
         ap₂ (λ (x y : List ℕ). newTracer table (airAbove x k) (layers mismatch cap k x y) i) (is .airIs) (loaded ∙ same-gas) ∙
         ap (λ (b : Bool). newTracer table (columnSum k cells air c) (layers mismatch b k (columnOf k cells air c) (columnOf k cells gas c)) i)
         (cap-is ∙ ap (λ (n : ℕ). eqb c 0 || eqb n cells) (add-one c)))

@@ -10,11 +10,14 @@ use Rattle.model.specs.Basic.{at, sum, every}
 use Rattle.model.specs.World.{airFits}
 use Rattle.model.specs.Remap.{airAbove, edgesServe, columnCount}
 use Rattle.model.specs.Step.{tableFits}
-use Rattle.model.specs.Laws.Basic.{at-tab, every-none, every-more, every-false, sum-none, sum-more}
+use Rattle.model.specs.Laws.Basic.{at-tab, every-none, every-more, every-false, sum-none, sum-more, sum-tab}
 use Rattle.model.specs.Laws.Substep.{air-bounds}
 use Rattle.model.specs.Laws.Column.{Edges, edges-serve}
-use Rattle.column.specs.Column.{firsts, AirNeed, IsAirSum, AreEdges, IsServing, Served}
+use Rattle.line.specs.Line as line
+use Rattle.line.specs.Line.{AirNeed, IsAirSum, Served}
+use Rattle.column.specs.Column.{firsts, AreEdges}
 use Rattle.column.specs.Gas.{Spans, IsPairs}
+use Rattle.column.specs.Laws.{serving-is}
 use Rattle.remap.specs.Columns.{ColumnNeed, columnOf, cell-room}
 
 -- the column at place c has air in range, and the table has k + 1 pairs
@@ -46,7 +49,7 @@ module _ {air table : List ℕ} {c cells k : ℕ} (need : ReadNeed air table c c
   loaded-bounds i h = rw (loaded-at i h) (air-bounds _ (need .airIn i h))
 
   pub air-need : k ≤ length a → AirNeed k a
-  air-need room = record { fit = need .column .fit; room = room; most = λ i h. loaded-bounds i h .1 }
+  air-need room = record { fit = omega (arith, need .column .fit); room = room; most = λ i h. loaded-bounds i h .1 }
 
   pub column-is : {P : ℕ} {e : List ℕ} → k ≤ length a → k < length e → IsAirSum k a P → AreEdges table P k e → IsColumn air table c cells k a e
   column-is {P} {e} roomAir roomEdges sums edges =
@@ -56,7 +59,7 @@ module _ {air table : List ℕ} {c cells k : ℕ} (need : ReadNeed air table c c
         airIs = is;
         least = λ i h. loaded-bounds i h .0;
         most = λ i h. loaded-bounds i h .1;
-        edgesAre = rw (sums .is ∙ ap (λ (l : List ℕ). airAbove l k) is) at edges;
+        edgesAre = rw (sums .is ∙ sym (sum-tab k (at a)) ∙ ap (λ (l : List ℕ). airAbove l k) is) at edges;
       }
 
 -- edges that serve, as the functions of one column need them
@@ -80,7 +83,6 @@ module _
   pub column-served : Served k e
   column-served =
       record {
-        fit = fit;
         room = is .roomEdges;
         rises = λ j h. rw (is .edgesAre .is j (omega arith), is .edgesAre .is (suc j) (omega arith)) (edges .rises j h);
         most = λ j h. rw (is .edgesAre .is j (omega arith), is .edgesAre .is (suc j) (omega arith)) (edges .most j h);
@@ -135,16 +137,16 @@ module _ {air table : List ℕ} {cells k : ℕ} (need : ColumnsNeed air table ce
   upto-start = record { inside = omega arith; serve = every-none _; counted = sym (sum-none _); few = omega arith }
 
   module _ {c : ℕ} (h : c < cells) {a e : List ℕ} (is : IsColumn air table c cells k a e) where
-    pub not-served : {r : Bool} → IsServing k e r → r ≡ false → AreServed air table cells k false 0
-    not-served serving fails =
+    pub not-served : {r : Bool} → r ≡ every k (line.servesAt e) → r ≡ false → AreServed air table cells k false 0
+    not-served tested fails =
         record {
-          is = sym (every-false cells (servesAt k cells table air) c h (sym (serving .is table _ (is .edgesAre)) ∙ fails));
+          is = sym (every-false cells (servesAt k cells table air) c h (sym (tested ∙ serving-is (is .edgesAre)) ∙ fails));
           counted = λ q. absurd (true≢false (sym q));
         }
 
-    module _ {r : Bool} (serving : IsServing k e r) (served : r ≡ true) where
+    module _ {r : Bool} (tested : r ≡ every k (line.servesAt e)) (served : r ≡ true) where
       serves-here : servesAt k cells table air c ≡ true
-      serves-here = sym (serving .is table _ (is .edgesAre)) ∙ served
+      serves-here = sym (tested ∙ serving-is (is .edgesAre)) ∙ served
 
       pub spans-here : Spans k a e
       spans-here = column-spans (need .fit) (need .some) is (edges-serve k table _ (need .fits) serves-here)

@@ -14,13 +14,13 @@ ghost use Rattle.remap.specs.RemapPlace.{IsRemapPlace};
 ghost use Rattle.model.specs.Step.{remap as remap-call};
 ghost use Rattle.units.specs.Answer.{Agrees};
 ghost use Rattle.units.specs.Grid.{worldOf};
-use column::air_sum;
-use column::edges_serve;
 use column::fill_edges;
-use column::new_air;
 use column::pairs;
 use column::remap_gas;
 use column::table_fits;
+use line::air_sum;
+use line::edges_serve;
+use line::new_air;
 use places::Lent;
 use places::Placed;
 use places::common_places;
@@ -121,13 +121,25 @@ fn move_tracer(gas: &mut [u32], air: &[u32], table: &[u32], cells: usize, k: usi
     let mut e = [0u64; MOST_EDGES];
     let mut columngas = [0u32; MOST_LAYERS];
     let mut q = [0u64; MOST_LAYERS];
+    let mut size = [0u64; MOST_LAYERS];
+    let mut rising = [false; MOST_LAYERS];
     let mut newgas = [0u32; MOST_LAYERS];
     let mut c = 0;
     while c < cells {
         read_edges(air, table, c, cells, k, &mut columnair, &mut e);
         read_column(gas, c, cells, k, &mut columngas);
         let cap = is_cap(c, cells);
-        remap_gas(&columnair, &columngas, cap, &e, k, &mut q, &mut newgas);
+        remap_gas(
+            &columnair,
+            &columngas,
+            cap,
+            &e,
+            k,
+            &mut q,
+            &mut size,
+            &mut rising,
+            &mut newgas,
+        );
         write_column(&newgas, gas, c, cells, k);
         c += 1;
     }

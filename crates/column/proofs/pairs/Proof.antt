@@ -4,8 +4,10 @@
 use Prim.Native.Nat.{_+_, _-_, _≤_}
 use mathlib.Core.Path.{_≡_, sym}
 use native.Mathlib.Omega.{arith}
-use Rattle.column.specs.Walk.{WalkPlace, place-start, pass-layer, pass-edge, passed-fits}
-use Rattle.column.specs.Pairs.{countTo, pairs-start, pairs-more, pairs-edge, pairs-all}
+use Rattle.model.specs.Basic.{at}
+use Rattle.line.specs.Walk.{WalkPlace, place-start, pass-cell, pass-edge, passed-fits}
+use Rattle.column.specs.Walk.{column-within}
+use Rattle.column.specs.Pairs.{Ahead, ahead-start, ahead-edge, countTo, pairs-start, pairs-more, pairs-edge, pairs-all}
 use Rattle.units.specs.The.{the}
 use borrow.Author.Needs.{needs}
 use Rattle.column.proofs.pairs.Statement.{statement}
@@ -13,21 +15,22 @@ use Rattle.column.proofs.pairs.Tie as tie
 
 abbrev Inv-loop : tie.InvT-loop
 Inv-loop air e k count₀ i₀ j₀ above₀ count i j above =
-    WalkPlace k air e i j (above .0) × (count ≡ countTo k air e j i) × (count ≤ i + j)
+    WalkPlace (at air) k e k i j (above .0) × Ahead k e j (above .0) × (count ≡ countTo k air e j i) × (count ≤ i + j)
 
 abbrev μ-loop : tie.MeasureT-loop
 μ-loop air e k count₀ i₀ j₀ above₀ count i j above = (k - i) + (k - j)
 
 loop-holds : tie.Need-loop-holds Inv-loop μ-loop
 loop-holds c =
+    let spans = c .before .before .pre in
     let a = c .before .before .args in
-    (place-start (c .before .before .pre), sym (pairs-start (a .k) (a .air .now) (a .e .now)), search needs)
+    (place-start (column-within spans), ahead-start spans, sym (pairs-start (a .k) (a .air .now) (a .e .now)), search needs)
 
 add-air-requires : tie.Need-add-air-requires Inv-loop μ-loop
 add-air-requires c κs =
     let start : tie.Start Inv-loop μ-loop = search in
     let l = the (tie.At-loop Inv-loop μ-loop) (search) .loop in
-    omega (arith, passed-fits (start .pre) (l .inv .0))
+    omega (arith, passed-fits (column-within (start .pre)) (l .inv .0))
 
 loop-again : tie.Need-loop-again Inv-loop μ-loop
 loop-again c =
@@ -35,8 +38,9 @@ loop-again c =
     let l = the (tie.At-loop Inv-loop μ-loop) (search) .loop in
     let ends = the (tie.After-add-air Inv-loop μ-loop) (search) .add-air .ensures in
     let more = the (tie.After-shared Inv-loop μ-loop) (search) .shared .ensures in (
-      pass-layer (start .pre) (l .inv .0) ends (omega arith) (c .if1 .taken),
-      pairs-more (start .pre) (l .inv .0) ends (omega arith) (l .inv .1) more,
+      pass-cell (column-within (start .pre)) (l .inv .0) ends (omega arith) (c .if1 .taken),
+      λ _. c .if1 .taken,
+      pairs-more (start .pre) (l .inv .0) ends (omega arith) (l .inv .1) (l .inv .2) more,
       omega (arith, more),
     )
 
@@ -46,9 +50,10 @@ loop-again-2 c =
     let l = the (tie.At-loop Inv-loop μ-loop) (search) .loop in
     let ends = the (tie.After-add-air Inv-loop μ-loop) (search) .add-air .ensures in
     let more = the (tie.After-shared Inv-loop μ-loop) (search) .shared .ensures in
-    let counted = pairs-more (start .pre) (l .inv .0) ends (omega arith) (l .inv .1) more in (
-      pass-edge (start .pre) (l .inv .0) (omega arith),
-      pairs-edge (start .pre) (l .inv .0) ends (omega arith) (c .if1 .left) counted,
+    let counted = pairs-more (start .pre) (l .inv .0) ends (omega arith) (l .inv .1) (l .inv .2) more in (
+      pass-edge (column-within (start .pre)) (l .inv .0) (omega arith),
+      ahead-edge (start .pre) (omega arith) (l .inv .1),
+      pairs-edge (start .pre) (l .inv .0) ends (omega arith) (l .inv .1) (c .if1 .left) counted,
       omega (arith, more),
     )
 
@@ -56,7 +61,7 @@ returns : tie.Need-returns Inv-loop μ-loop
 returns c =
     let start : tie.Start Inv-loop μ-loop = search in
     let l = c .before .loop in
-    pairs-all (start .pre) (l .inv .0) (omega arith) (l .inv .1) (l .inv .2)
+    pairs-all (start .pre) (l .inv .0) (omega arith) (l .inv .2) (l .inv .3)
 
 pub pairs-spec : {M : Type 1} → statement M
 pairs-spec =

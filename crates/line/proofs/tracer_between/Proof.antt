@@ -17,27 +17,33 @@ use Rattle.line.proofs.tracer_between.Statement.{statement}
 use Rattle.line.proofs.tracer_between.Tie as tie
 
 abbrev Inv-loop : tie.InvT-loop
-Inv-loop air gas size rising n e m newgas₀ i₀ c₀ j₀ passed₀ whole₀ last₀ newgas i c j passed whole last =
+Inv-loop air gas size rising n e m newgas₀ i₀ c₀ after₀ j₀ passed₀ whole₀ last₀ newgas i c after j passed whole last =
     WalkPlace (λ i. at air (i % n)) (3 * n) e m i j (passed .0)
     × (c ≡ i % n)
+    × (after ≡ (i + 1) % n)
     × (whole .0 ≡ sum i (λ i. at gas (i % n)))
     × (last .0 ≡ upTo n air gas size rising (at e j))
     × (length newgas ≡ length newgas₀)
     × ((t : ℕ) → t < j → at newgas t ≡ upTo n air gas size rising (at e (t + 1)) - upTo n air gas size rising (at e t))
 
 abbrev μ-loop : tie.MeasureT-loop
-μ-loop air gas size rising n e m newgas₀ i₀ c₀ j₀ passed₀ whole₀ last₀ newgas i c j passed whole last = (3 * n - i) + (m - j)
+μ-loop air gas size rising n e m newgas₀ i₀ c₀ after₀ j₀ passed₀ whole₀ last₀ newgas i c after j passed whole last = (3 * n - i) + (m - j)
 
 loop-holds : tie.Need-loop-holds Inv-loop μ-loop
 loop-holds c =
     let start : tie.Start Inv-loop μ-loop = search in (
       place-start (line-within (start .pre)),
       sym (zero-mod (start .args .n)),
+      c .next-cell .ensures,
       sym (sum-none _),
       sym (first-none (start .pre)),
       search needs,
       λ t h. absurd (omega arith),
     )
+
+-- the function's start, which `search` does not find from the end of a turn
+abbrev start-of : tie.At-loop Inv-loop μ-loop → tie.Start Inv-loop μ-loop
+start-of c = search
 
 -- the cell's place in the lists
 inside-lists : (c : tie.In-loop Inv-loop μ-loop) →
@@ -84,15 +90,16 @@ fits c =
     let start : tie.Start Inv-loop μ-loop = search in
     let l = the (tie.At-loop Inv-loop μ-loop) (search) .loop in
     let here = ap (at (start .args .gas .now)) (l .inv .1) in
-    omega (arith, gas-fits (start .pre) (l .i) (l .inv .0 .cell), l .inv .2, c .tracer-at .ensures, here)
+    omega (arith, gas-fits (start .pre) (l .i) (l .inv .0 .cell), l .inv .3, c .tracer-at .ensures, here)
 
 plus-requires : tie.Need-plus-requires Inv-loop μ-loop
 plus-requires c κs = omega (arith, fits (search))
 
-next-cell-requires : tie.Need-next-cell-requires Inv-loop μ-loop
-next-cell-requires c κs =
+next-cell-requires-2 : tie.Need-next-cell-requires-2 Inv-loop μ-loop
+next-cell-requires-2 c κs =
     let start : tie.Start Inv-loop μ-loop = search in
-    (inside-lists (search), start .pre .fit)
+    let l = the (tie.At-loop Inv-loop μ-loop) (search) .loop in
+    (rw (l .inv .2) (mod-lt (l .i + 1) (start .pre .some)), start .pre .fit)
 
 loop-again : tie.Need-loop-again Inv-loop μ-loop
 loop-again c =
@@ -106,11 +113,12 @@ loop-again c =
     let i = l .i in
     let gasAt : ℕ → ℕ = λ i. at (a .gas .now) (i % n) in (
       pass-cell (line-within (start .pre)) (l .inv .0) (ends (search)) (omega arith) lt,
-      c .next-cell .ensures ∙ ap (λ (x : ℕ). (x + 1) % n) (l .inv .1) ∙ mod-add-mod i n 1,
-      omega (arith, sum-is, l .inv .2, t, ap (at (a .gas .now)) (l .inv .1), sum-more i gasAt),
-      l .inv .3,
+      l .inv .2,
+      c .next-cell2 .ensures ∙ ap (λ (x : ℕ). (x + 1) % n) (l .inv .2) ∙ mod-add-mod (i + 1) n 1,
+      omega (arith, sum-is, l .inv .3, t, ap (at (a .gas .now)) (l .inv .1), sum-more i gasAt),
       l .inv .4,
       l .inv .5,
+      l .inv .6,
     )
 
 air-inside-requires : tie.Need-air-inside-requires Inv-loop μ-loop
@@ -143,9 +151,9 @@ plus-requires-2 c κs = omega (arith, fits (search), c .low-piece .ensures .with
 -- what the code has added up is G at the edge passed
 next-is :
     (c : tie.After-plus2 Inv-loop μ-loop) →
+    let l : tie.At-loop Inv-loop μ-loop = search in
     let a = the (tie.Start Inv-loop μ-loop) (search) .args in
-    let l = the (tie.At-loop Inv-loop μ-loop) (search) .loop in
-    c .plus2 .result .0 ≡ upTo (a .n) (a .air .now) (a .gas .now) (a .size .now) (a .rising .now) (at (a .e .now) (l .j + 1))
+    c .plus2 .result .0 ≡ upTo (a .n) (a .air .now) (a .gas .now) (a .size .now) (a .rising .now) (at (a .e .now) (l .loop .j + 1))
 next-is c =
     let piece = the (tie.After-low-piece Inv-loop μ-loop) (search) .low-piece .ensures .is in
     let slope = the (tie.After-slope-at Inv-loop μ-loop) (search) .slope-at .ensures in
@@ -155,16 +163,15 @@ next-is c =
     let have = the (tie.After-air-at Inv-loop μ-loop) (search) .air-at .ensures in
     let turn : tie.In-loop Inv-loop μ-loop = search in
     let l = turn .before .loop in
-    let start : tie.Start Inv-loop μ-loop = search in
-    next-amount (start .pre) (l .inv .0) (ends (search)) (turn .loop-test .taken) (no .if1 .left) (l .inv .1) slope (l .inv .2) have t part
-    piece (c .plus2 .ensures)
+    next-amount (start-of (turn .before) .pre) (l .inv .0) (ends (search)) (turn .loop-test .taken)
+    (no .if1 .left) (l .inv .1) slope (l .inv .3) have t part piece (c .plus2 .ensures)
 
 minus-requires : tie.Need-minus-requires Inv-loop μ-loop
 minus-requires c κs =
     let turn : tie.In-loop Inv-loop μ-loop = search in
     let start : tie.Start Inv-loop μ-loop = search in
     let l = the (tie.At-loop Inv-loop μ-loop) (search) .loop in
-    omega (arith, next-is c, l .inv .3, amounts-rise (start .pre) (l .j) (turn .loop-test .taken))
+    omega (arith, next-is c, l .inv .4, amounts-rise (start .pre) (l .j) (turn .loop-test .taken))
 
 -- new cell j is one of at most 73, and the list has room for it
 new-cell : (c : tie.In-loop Inv-loop μ-loop) →
@@ -173,7 +180,7 @@ new-cell : (c : tie.In-loop Inv-loop μ-loop) →
 new-cell c =
     let start : tie.Start Inv-loop μ-loop = search in
     let l = the (tie.At-loop Inv-loop μ-loop) (search) .loop in
-    (omega (arith, c .loop-test .taken, start .pre .few), omega (arith, c .loop-test .taken, start .pre .room, l .inv .4))
+    (omega (arith, c .loop-test .taken, start .pre .few), omega (arith, c .loop-test .taken, start .pre .room, l .inv .5))
 
 mul-newgas : tie.Need-mul-newgas Inv-loop μ-loop
 mul-newgas c = omega (arith, new-cell (search))
@@ -202,16 +209,17 @@ loop-again-2 c =
       pass-edge (line-within (start .pre)) (l .inv .0) (turn .loop-test .taken),
       l .inv .1,
       l .inv .2,
+      l .inv .3,
       next,
       search needs,
-      entries-more _ (l .newgas) (l .j) _ is-amount (new-cell (search) .1) (l .inv .5) (c .minus .ensures ∙ ap₂ _-_ next (l .inv .3)),
+      entries-more _ (l .newgas) (l .j) _ is-amount (new-cell (search) .1) (l .inv .6) (c .minus .ensures ∙ ap₂ _-_ next (l .inv .4)),
     )
 
 returns : tie.Need-returns Inv-loop μ-loop
 returns c =
     let start : tie.Start Inv-loop μ-loop = search in
     let l = c .before .loop in
-    between-is (start .pre) (l .newgas) (λ t h. l .inv .5 t (omega arith))
+    between-is (start .pre) (l .newgas) (λ t h. l .inv .6 t (omega arith))
 
 pub tracer-between-spec : {M : Type 1} → statement M
 tracer-between-spec =
@@ -219,6 +227,7 @@ tracer-between-spec =
     (tie.spec
     Inv-loop
     μ-loop
+    (λ c κs. search needs)  -- next-cell-requires
     loop-holds
     air-at-requires
     tracer-at-requires
@@ -227,7 +236,7 @@ tracer-between-spec =
     (λ c. search needs)  -- mul-edge
     (λ c. search needs)  -- shared-slice-read-edge
     plus-requires
-    next-cell-requires
+    next-cell-requires-2
     (λ c. search needs)  -- add-i
     (λ c. search needs)  -- loop-less
     loop-again

@@ -12,7 +12,7 @@ use lib.Dec.{leb}
 use Rattle.model.specs.Basic.{sum, tab, tabFrom}
 use Rattle.model.specs.Scheme.{opposite, lowPiece}
 use Rattle.model.specs.Remap.{ColumnLayer, amountAbove}
-use Rattle.model.specs.Laws.Basic.{le-or-lt, sum-ext, sum-first, sum-fewer, sum-zero, sum-le, sum-times}
+use Rattle.model.specs.Laws.Basic.{le-or-lt, sum-ext, sum-first, sum-fewer, sum-split, sum-zero, sum-le, sum-times}
 use Rattle.model.specs.Laws.Fractions.{CellRoom, lost, LeavesInRange, leaves-same, leaves-join, leaves-near, Near, two-floors, middle-leaves, low-leaves, high-leaves, all-leaves}
 use Rattle.model.specs.Laws.Scheme.{Safe, piece-none, piece-whole, piece-rises, piece-constant}
 
@@ -122,6 +122,23 @@ module _ (f : ℕ → ColumnLayer) where
     amount-rises safe x y le =
         rw (amount-is x, amount-is y)
         (sum-le n _ _ (λ k h. piece-rises (opposite (f k .slope)) (f k .air) (f k .tracer) (safe k h) (has k h) _ _ (omega arith) (omega arith)))
+
+    -- at a point that the first m layers reach, the others add nothing
+    pub amount-of : (m x : ℕ) → m ≤ n → x ≤ airOf m → amountAbove (tab n f) x ≡ sum m (λ k. layerPart k x)
+    amount-of m x h le =
+        let e : n ≡ m + (n - m) = omega arith in
+        let past : (t : ℕ) → t < n - m → layerPart (m + t) x ≡ 0 =
+        λ t p. part-none (m + t) x (omega arith) (omega (arith, sum-fewer (λ k. f k .air) m (m + t) (omega arith))) in
+        let none = sum-ext (n - m) _ (λ t. 0) past ∙ sum-zero (n - m) in
+        amount-is x ∙ ap (λ (i : ℕ). sum i (λ k. layerPart k x)) e ∙ omega (arith, sum-split m (n - m) (λ k. layerPart k x), none)
+
+    -- at a point of layer i: the whole layers before it, and the low-end piece of what is left
+    pub amount-at :
+        (i x : ℕ) → i < n → airOf i ≤ x → x ≤ airOf (suc i) →
+        amountAbove (tab n f) x ≡ tracerOf i + layerPiece (f i) (x - airOf i)
+    unfolding sum
+    amount-at i x h low high =
+        amount-of (suc i) x h high ∙ ap₂ _+_ (parts-whole i x (omega arith) low) (part-is i x low high)
 
     -- where every layer has z units of tracer for each unit of air, and no slope, so has G
     pub amount-even :

@@ -32,8 +32,7 @@ read-edges-requires c κs =
 edges-serve-requires : tie.Need-edges-serve-requires Inv-loop μ-loop
 edges-serve-requires c κs =
     let edges : tie.After-read-edges Inv-loop μ-loop = search in
-    let start : tie.Start Inv-loop μ-loop = search in
-    (start .pre .fit, edges .read-edges .ensures .roomEdges)
+    edges .read-edges .ensures .roomEdges
 
 returns : tie.Need-returns Inv-loop μ-loop
 returns c =

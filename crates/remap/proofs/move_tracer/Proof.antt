@@ -12,21 +12,23 @@ use Rattle.remap.proofs.move_tracer.Statement.{statement}
 use Rattle.remap.proofs.move_tracer.Tie as tie
 
 abbrev Inv-loop : tie.InvT-loop
-Inv-loop gas₀ air table cells k columnair₀ e₀ columngas₀ q₀ newgas₀ c₀ gas columnair e columngas q newgas c =
+Inv-loop gas₀ air table cells k columnair₀ e₀ columngas₀ q₀ size₀ rising₀ newgas₀ c₀ gas columnair e columngas q size rising newgas c =
     Upto k cells (gasNew k cells table air gas₀) gas₀ c gas
     × (length columnair ≡ mostLayers)
     × (length e ≡ mostLayers + 1)
     × (length columngas ≡ mostLayers)
     × (length q ≡ mostLayers)
+    × (length size ≡ mostLayers)
+    × (length rising ≡ mostLayers)
     × (length newgas ≡ mostLayers)
 
 abbrev μ-loop : tie.MeasureT-loop
-μ-loop gas₀ air table cells k columnair₀ e₀ columngas₀ q₀ newgas₀ c₀ gas columnair e columngas q newgas c = cells - c
+μ-loop gas₀ air table cells k columnair₀ e₀ columngas₀ q₀ size₀ rising₀ newgas₀ c₀ gas columnair e columngas q size rising newgas c = cells - c
 
 loop-holds : tie.Need-loop-holds Inv-loop μ-loop
 loop-holds c =
     let start : tie.Start Inv-loop μ-loop = search in
-    (upto-none (start .pre .long), search needs, search needs, search needs, search needs, search needs)
+    (upto-none (start .pre .long), search needs, search needs, search needs, search needs, search needs, search needs, search needs)
 
 read-edges-requires : tie.Need-read-edges-requires Inv-loop μ-loop
 read-edges-requires c κs =
@@ -58,7 +60,7 @@ remap-gas-requires c κs =
     let inv = at .loop .inv in
     let long = copied .read-column .kept .1 .1 .1 .1 .0 in
     gas-need (start .pre) (turn .loop-test .taken) (inv .0) (edges .read-edges .ensures) _ (copied .read-column .ensures)
-    (omega (arith, fit, long, inv .3)) (omega (arith, fit, inv .4)) (omega (arith, fit, inv .5))
+    (omega (arith, fit, long, inv .3)) (omega (arith, fit, inv .4)) (omega (arith, fit, inv .5)) (omega (arith, fit, inv .6)) (omega (arith, fit, inv .7))
 
 write-column-requires : tie.Need-write-column-requires Inv-loop μ-loop
 write-column-requires c κs =
@@ -69,8 +71,8 @@ write-column-requires c κs =
     let at : tie.At-loop Inv-loop μ-loop = search in
     let start : tie.Start Inv-loop μ-loop = search in
     let fit = start .pre .moves .columns .fit in
-    let long = made .remap-gas .kept .1 .1 .1 .1 .1 .1 .0 in
-    (gas-room (start .pre) (turn .loop-test .taken) (at .loop .inv .0), omega (arith, fit, long, at .loop .inv .5))
+    let long = made .remap-gas .kept .1 .1 .1 .1 .1 .1 .1 .1 .0 in
+    (gas-room (start .pre) (turn .loop-test .taken) (at .loop .inv .0), omega (arith, fit, long, at .loop .inv .7))
 
 add-c : tie.Need-add-c Inv-loop μ-loop
 add-c c =
@@ -102,6 +104,8 @@ loop-again c =
       copied .read-column .kept .1 .1 .1 .1 .0 ∙ inv .3,
       made .remap-gas .kept .1 .1 .1 .1 .1 .0 ∙ inv .4,
       made .remap-gas .kept .1 .1 .1 .1 .1 .1 .0 ∙ inv .5,
+      made .remap-gas .kept .1 .1 .1 .1 .1 .1 .1 .0 ∙ inv .6,
+      made .remap-gas .kept .1 .1 .1 .1 .1 .1 .1 .1 .0 ∙ inv .7,
     )
 
 same-length : tie.Need-same-length Inv-loop μ-loop
@@ -131,6 +135,8 @@ move-tracer-spec =
     (λ c. search needs)  -- slice-aggregate-remap-gas-3
     (λ c. search needs)  -- slice-aggregate-remap-gas-4
     (λ c. search needs)  -- slice-aggregate-remap-gas-5
+    (λ c. search needs)  -- slice-aggregate-remap-gas-6
+    (λ c. search needs)  -- slice-aggregate-remap-gas-7
     remap-gas-requires
     (λ c. search needs)  -- slice-aggregate-write-column
     write-column-requires
