@@ -12,17 +12,12 @@ use Rattle.model.specs.Remap.{airAbove, layers, newTracer, columnCount}
 use Rattle.column.specs.Column.{firsts, AreEdges}
 
 -- ---- mismatches
--- the mismatch of layer i of k by the layers' ratios
-unfoldable pub slopeAt : Bool → ℕ → List ℕ → ℕ → Mismatch
-slopeAt cap k q i =
-    elim (cap || eqb i 0 || eqb (suc i) k) [
-      | true ↦ plain
-      | false ↦ mismatch (at q (i - 1)) (at q i) (at q (suc i))
-    ]
+-- none, or the mismatch of three ratios; that of layer i of k by the layers' ratios
+unfoldable pub mismatchUnless : Bool → ℕ → ℕ → ℕ → Mismatch
+mismatchUnless none qa q qb = elim none [ true ↦ plain | false ↦ mismatch qa q qb ]
 
--- d is that of layer i, whatever number of layers, if some lies below it
-abbrev pub IsInner : Bool → List ℕ → ℕ → Mismatch → Type 0
-IsInner cap q i d = (k : ℕ) → suc i < k → d ≡ slopeAt cap k q i
+unfoldable pub slopeAt : Bool → ℕ → List ℕ → ℕ → Mismatch
+slopeAt cap k q i = mismatchUnless (cap || eqb i 0 || eqb (suc i) k) (at q (i - 1)) (at q i) (at q (suc i))
 
 -- room for the mismatches of 1 to 32 layers
 pub record SlopesNeed (k : ℕ) (q size : List ℕ) (rising : List Bool) : Type 0 where

@@ -1,9 +1,10 @@
 -- A column's layers, with the mismatches by their ratios, as the model has them.
 use Prim.Native.Nat.{ℕ, zero, suc, _+_, _-_, _*_, _%_, _≤_, _<_}
 use mathlib.Core.List.{List, _∷_}
-use mathlib.Core.Bool.{Bool, true, false, or-true, _||_, true≢false}
+use mathlib.Core.Bool.{Bool, true, false, or-true, or-false, _||_, true≢false}
 use mathlib.Core.Path.{_≡_, refl, sym, ap, ap₂, _∙_}
 use native.Mathlib.Nat.{mod-eq-of-lt}
+use native.Mathlib.Numerals.{add-one}
 use native.Mathlib.Omega.{arith}
 use borrow.Author.Tests.{eqb-false, eq-eqb, ne-eqb}
 use lib.Dec.{eqb}
@@ -18,7 +19,7 @@ use Rattle.model.specs.Laws.Column.{layerOf}
 use Rattle.substep.specs.Pieces.{AreRatios}
 use Rattle.line.specs.Line.{slopeIn, cellAt}
 use Rattle.column.specs.Column.{firsts}
-use Rattle.column.specs.Gas.{slopeAt, SlopesNeed, SlopesTo, AreSlopes}
+use Rattle.column.specs.Gas.{mismatchUnless, slopeAt, SlopesNeed, SlopesTo, AreSlopes}
 
 tab-same : {A : Type 0} (i n : ℕ) (f g : ℕ → A) → ((t : ℕ) → t < i + n → f t ≡ g t) → tabFrom i n f ≡ tabFrom i n g
 unfolding tabFrom
@@ -31,21 +32,13 @@ second false b e = e
 
 -- ---- the mismatches, as the code fills them
 module _ (cap : Bool) (k : ℕ) (q : List ℕ) (i : ℕ) where
-  pub slope-cap : cap ≡ true → plain ≡ slopeAt cap k q i
+  pub slope-above : i + 1 < k → mismatchUnless (cap || eqb i 0) (at q (i - 1)) (at q i) (at q (i + 1)) ≡ slopeAt cap k q i
   unfolding slopeAt
-  slope-cap e = rw (e, slopeAt)
-
-  pub slope-first : i ≡ 0 → plain ≡ slopeAt cap k q i
-  unfolding slopeAt
-  slope-first e = rw (eq-eqb i 0 e, or-true cap, slopeAt)
+  slope-above h = rw (add-one i, ne-eqb (suc i) k (λ (z : suc i ≡ k). omega arith), or-false (cap || eqb i 0))
 
   pub slope-last : suc i ≡ k → plain ≡ slopeAt cap k q i
-  unfolding slopeAt
-  slope-last e = rw (eq-eqb (suc i) k e, or-true (cap || eqb i 0), slopeAt)
-
-  pub slope-inner : cap ≡ false → 1 ≤ i → suc i < k → mismatch (at q (i - 1)) (at q i) (at q (suc i)) ≡ slopeAt cap k q i
-  unfolding slopeAt
-  slope-inner e h lt = rw (e, ne-eqb i 0 (λ (z : i ≡ 0). omega arith), ne-eqb (suc i) k (λ (z : suc i ≡ k). omega arith), slopeAt)
+  unfolding slopeAt mismatchUnless
+  slope-last e = rw (eq-eqb (suc i) k e, or-true (cap || eqb i 0))
 
 module _ {cap : Bool} {k : ℕ} {q size : List ℕ} {rising : List Bool} where
   pub slopes-none : SlopesNeed k q size rising → SlopesTo cap k q size rising 0
@@ -81,14 +74,14 @@ module _
   own i h = ratios .is i h ∙ sym (ap₂ ratio (at-tab k (at air) i h) (at-tab k (at gas) i h))
 
   slope-is : (i : ℕ) → i < k → slopeAt cap k q i ≡ layerMismatch mismatch cap k (firsts k air) (firsts k gas) i
-  unfolding slopeAt layerMismatch
+  unfolding slopeAt mismatchUnless layerMismatch
   slope-is i h = go (cap || eqb i 0 || eqb (suc i) k) refl
     where
       go : (b : Bool) → cap || eqb i 0 || eqb (suc i) k ≡ b → slopeAt cap k q i ≡ layerMismatch mismatch cap k (firsts k air) (firsts k gas) i
-      go true e = rw (e, slopeAt, layerMismatch)
+      go true e = rw (e, mismatchUnless, layerMismatch)
       go false e =
           let other = eqb-false (suc i) k (second (cap || eqb i 0) (eqb (suc i) k) e) in
-          rw (e, slopeAt, layerMismatch)
+          rw (e, mismatchUnless, layerMismatch)
           (λ n. mismatch (own (i - 1) (omega arith) n) (own i h n) (own (suc i) (omega arith) n))
 
   pub layers-are : tab k (cellAt k air gas size rising) ≡ layers mismatch cap k (firsts k air) (firsts k gas)
@@ -108,9 +101,9 @@ module _
 
   -- at most twice the layer's ratio
   pub slope-small : (i : ℕ) → i < k → at size i ≤ 2 * ratio (at air i) (at gas i)
-  unfolding slopeAt
+  unfolding slopeAt mismatchUnless
   slope-small i h = rw (slopes .isSize i h, ← ratios .is i h) (go (cap || eqb i 0 || eqb (suc i) k) refl)
     where
       go : (b : Bool) → cap || eqb i 0 || eqb (suc i) k ≡ b → slopeAt cap k q i .size ≤ 2 * at q i
-      go true e = rw (e, slopeAt) (omega arith)
-      go false e = rw (e, slopeAt) (mismatch-twice _ (at q i) _)
+      go true e = rw (e, mismatchUnless) (omega arith)
+      go false e = rw (e, mismatchUnless) (mismatch-twice _ (at q i) _)

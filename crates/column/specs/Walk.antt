@@ -9,7 +9,8 @@ use Rattle.model.specs.Basic.{at, sum}
 use Rattle.model.specs.Remap.{amountAbove}
 use Rattle.model.specs.Laws.Basic.{sum-ext, sum-tab}
 use Rattle.substep.specs.Pieces.{AreRatios}
-use Rattle.line.specs.Line.{lineAir, LineNeed, IsBetween}
+use Rattle.model.specs.Long.{lineAir}
+use Rattle.line.specs.Line.{LineNeed, IsBetween}
 use Rattle.line.specs.Walk.{Within}
 use Rattle.column.specs.Gas.{AreSlopes, Spans, ColumnGasNeed, IsRemapped}
 use Rattle.column.specs.Slopes.{layers-are, slope-small}

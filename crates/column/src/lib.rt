@@ -9,7 +9,7 @@ ghost use Rattle.model.specs.Limits.{tableLimit, tableScale, mostLayers};
 ghost use Rattle.model.specs.Step.{tableFits};
 ghost use Rattle.scheme.specs.Leaves.{mismatchOf};
 ghost use Rattle.column.specs.Column.{EdgesNeed, AreEdges};
-ghost use Rattle.column.specs.Gas.{IsInner, SlopesNeed, AreSlopes, Spans, IsPairs, ColumnGasNeed, IsRemapped};
+ghost use Rattle.column.specs.Gas.{mismatchUnless, SlopesNeed, AreSlopes, Spans, IsPairs, ColumnGasNeed, IsRemapped};
 use line::tracer_between;
 use scheme::mismatch;
 use substep::fill_ratios;
@@ -63,35 +63,35 @@ pub fn fill_edges(table: &[u32], p: AirSum, k: usize, e: &mut [u64])
     }
 }
 
-// The mismatch of layer i with those above and below it: none in a cap's column.
-fn mismatch_at(q: &[u64], cap: bool, i: usize) -> Mismatch
-    requires { ⌜ (1 ≤ i) × (i + 1 < length (now q)) ⌝ }
-    ensures { λ r. ⌜ IsInner cap (now (q .entry)) i (mismatchOf r) ⌝ }
+// The mismatch of a layer by the ratios above, in and below it, or none.
+fn layer_mismatch(none: bool, above: u64, own: u64, below: u64) -> Mismatch
+    ensures { λ r. ⌜ mismatchOf r ≡ mismatchUnless none above own below ⌝ }
 {
-    if cap {
+    if none {
         return Mismatch {
             size: 0,
             positive: true,
         };
     }
-    let low = q[i - 1];
-    let high = q[i + 1];
-    mismatch(low, q[i], high)
+    mismatch(above, own, below)
 }
 
-// The mismatch of each of k layers, none in the top and bottom ones, which the loop leaves out so that it needs no test of them.
+// The mismatch of each of k layers: none in a cap's column, and none in the top and bottom layers. A ratio is read once, from the top down.
 fn fill_slopes(q: &[u64], cap: bool, k: usize, size: &mut [u64], rising: &mut [bool])
     requires { ⌜ SlopesNeed k (now q) (now size) (now rising) ⌝ }
     ensures { λ r. ⌜ AreSlopes cap k (now (q .entry)) (now (size .exit)) (now (rising .exit)) ⌝ }
 {
     let last = k - 1;
-    size[0] = 0;
-    rising[0] = true;
-    let mut i = 1;
+    let mut own = q[0];
+    let mut above = own;
+    let mut i = 0;
     while i < last {
-        let d = mismatch_at(q, cap, i);
+        let below = q[i + 1];
+        let d = layer_mismatch(cap | (i == 0), above, own, below);
         size[i] = d.size;
         rising[i] = d.positive;
+        above = own;
+        own = below;
         i += 1;
     }
     size[last] = 0;

@@ -9,6 +9,7 @@ use Rattle.model.specs.Limits.{airLimit, totalLimit, mostColumns}
 use Rattle.model.specs.Basic.{at, sum, tab}
 use Rattle.model.specs.Scheme.{Mismatch, ratio}
 use Rattle.model.specs.Remap.{ColumnLayer, amountAbove}
+use Rattle.model.specs.Long.{lineAir}
 
 -- ---- the air of k cells
 -- up to 72 cells, none with more air than a cell may have
@@ -45,10 +46,6 @@ slopeIn size rising c = record { size = at size c; positive = getD rising c fals
 -- cell i of the line that lists of n cells make, laid one after the other without end
 abbrev pub cellAt : ℕ → List ℕ → List ℕ → List ℕ → List Bool → ℕ → ColumnLayer
 cellAt n air gas size rising i = record { air = at air (i % n); tracer = at gas (i % n); slope = slopeIn size rising (i % n) }
-
--- the air of its first `cells` cells
-abbrev pub lineAir : ℕ → List ℕ → ℕ → ℕ
-lineAir n air cells = sum cells (λ i. at air (i % n))
 
 -- lists of 1 to 72 cells with air in range, tracer within the limit and slopes of at most twice the ratio;
 -- up to 74 edges that never fall, from 0 to at most three times the lists' air; and room for the amounts between them

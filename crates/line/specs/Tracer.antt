@@ -1,10 +1,11 @@
--- A tracer's amounts on a line: G of a longer line, three turns of the lists, and G at the edge that the walk passes.
+-- A tracer's amounts on a line: what the walk needs of three turns of the lists, and G at the edge that it passes.
+-- Assumes what `LineNeed` says of the lists and the edges.
 use Prim.Native.Nat.{ℕ, suc, _+_, _*_, _-_, _%_, _≤_, _<_}
 use mathlib.Core.List.{List}
 use mathlib.Core.Bool.{Bool}
 use mathlib.Core.Logic.{⊎-elim}
 use mathlib.Core.Path.{_≡_, sym, ap, ap₂, _∙_}
-use native.Mathlib.Nat.{le-trans, mod-lt, mod-eq-of-lt, mul-add-mod-self-right}
+use native.Mathlib.Nat.{le-trans, mod-lt}
 use native.Mathlib.Numerals.{add-one}
 use native.Mathlib.Omega.{arith}
 use Rattle.units.specs.declared.Air.{Air}
@@ -14,49 +15,24 @@ use Rattle.model.specs.Limits.{totalLimit}
 use Rattle.model.specs.Basic.{at, sum, tab}
 use Rattle.model.specs.Scheme.{Mismatch, lowPiece}
 use Rattle.model.specs.Remap.{ColumnLayer, amountAbove}
-use Rattle.model.specs.Laws.Basic.{le-or-lt, steps-rise, term-le-sum}
-use Rattle.model.specs.Laws.Basic.{sum-more, sum-ext, sum-zero, sum-same, sum-times, sum-split, sum-fewer, sum-columns}
+use Rattle.model.specs.Laws.Basic.{le-or-lt, steps-rise, term-le-sum, sum-more, sum-fewer}
 use Rattle.model.specs.Laws.Scheme.{Safe, ratio-safe}
-use Rattle.model.specs.Laws.Above.{layerPiece, airOf, tracerOf, layerPart, amount-is, amount-none, amount-rises, part-is, part-none, parts-whole}
+use Rattle.model.specs.Laws.Above.{airOf, amount-none, amount-rises, amount-at, amount-longer}
+use Rattle.model.specs.Laws.Long.{line-all}
 use Rattle.scheme.specs.Leaves.{mismatchOf, Giver}
-use Rattle.line.specs.Line.{slopeIn, cellAt, lineAir, LineNeed, IsBetween}
+use Rattle.model.specs.Long.{lineAir}
+use Rattle.line.specs.Line.{slopeIn, cellAt, LineNeed, IsBetween}
 use Rattle.line.specs.Walk.{Within, WalkPlace, rises-next, edge-most, end-is}
 
--- ---- G
-module _ (f : ℕ → ColumnLayer) where
-  module _ (n : ℕ) (has : (k : ℕ) → k < n → 1 ≤ f k .air) where
-    -- at a point that the first m layers reach
-    amount-of : (m x : ℕ) → m ≤ n → x ≤ airOf f m → amountAbove (tab n f) x ≡ sum m (λ k. layerPart f k x)
-    amount-of m x h le =
-        let e : n ≡ m + (n - m) = omega arith in
-        let past : (t : ℕ) → t < n - m → layerPart f (m + t) x ≡ 0 =
-        λ t p. part-none f n has (m + t) x (omega arith) (le-trans le (sum-fewer (λ k. f k .air) m (m + t) (omega arith))) in
-        let none = sum-ext (n - m) _ (λ t. 0) past ∙ sum-zero (n - m) in
-        amount-is f n has x ∙ ap (λ (i : ℕ). sum i (λ k. layerPart f k x)) e ∙ omega (arith, sum-split m (n - m) (λ k. layerPart f k x), none)
-
-    -- at a point of layer i: the whole layers before it, and the low-end piece of what is left
-    amount-at :
-        (i x : ℕ) → i < n → airOf f i ≤ x → x ≤ airOf f (i + 1) →
-        amountAbove (tab n f) x ≡ tracerOf f i + layerPiece (f i) (x - airOf f i)
-    amount-at i x h low high =
-        amount-of (i + 1) x (omega arith) high ∙ sum-more i (λ k. layerPart f k x) ∙
-        ap₂ _+_ (parts-whole f n has i x (omega arith) low) (part-is f i x low (rw add-one at high))
-
-  -- a longer line has the same at a point that the shorter one reaches
-  amount-longer :
-      (m n : ℕ) → m ≤ n → ((k : ℕ) → k < n → 1 ≤ f k .air) → (x : ℕ) → x ≤ airOf f m →
-      amountAbove (tab n f) x ≡ amountAbove (tab m f) x
-  amount-longer m n h has x le = amount-of n has m x h le ∙ sym (amount-is f m (λ k p. has k (omega arith)) x)
-
--- ---- the lists laid `turns` times
-pub turns-sum : (turns n : ℕ) (f : ℕ → ℕ) → sum (turns * n) (λ i. f (i % n)) ≡ turns * sum n f
-turns-sum turns n f =
-    sum-columns turns n (λ i. f (i % n)) ∙
-    sum-ext n _ (λ i. turns * f i)
-    (λ i h.
-    let own : (k : ℕ) → k < turns → f ((k * n + i) % n) ≡ f i = λ k p. ap f (mul-add-mod-self-right k n i ∙ mod-eq-of-lt h) in
-    sum-ext turns _ (λ k. f i) own ∙ sum-same turns (f i)) ∙
-    sum-times n turns f
+-- ---- G of two lines at a point that both reach
+same-amount :
+    (f : ℕ → ColumnLayer) → ((k : ℕ) → 1 ≤ f k .air) → (m n x : ℕ) → x ≤ airOf f m → x ≤ airOf f n →
+    amountAbove (tab m f) x ≡ amountAbove (tab n f) x
+same-amount f has m n x reachM reachN =
+    ⊎-elim
+    (λ (h : m ≤ n). amount-longer f m n x (λ k _. has k) h reachM)
+    (λ (h : n < m). sym (amount-longer f n m x (λ k _. has k) (omega arith) reachN))
+    (le-or-lt m n)
 
 -- ---- the tracer
 -- G of the lists laid three times
@@ -82,14 +58,14 @@ module _
         fit = omega (arith, need .fit);
         most = λ i h. need .most (i % n) (mod-lt i (need .some));
         rises = need .rises;
-        last = rw (turns-sum 3 n (at air)) (need .last);
+        last = rw (line-all n air) (need .last);
       }
 
   -- the tracer of i cells, and of one more
   pub gas-fits : (i : ℕ) → i < 3 * n → sum i (λ i. at gas (i % n)) + at gas (i % n) ≤ 3 * totalLimit
   gas-fits i h =
       let gasAt : ℕ → ℕ = λ i. at gas (i % n) in
-      omega (arith, sum-more i gasAt, sum-fewer gasAt (i + 1) (3 * n) (omega arith), turns-sum 3 n (at gas), need .total)
+      omega (arith, sum-more i gasAt, sum-fewer gasAt (i + 1) (3 * n) (omega arith), line-all n gas, need .total)
 
   -- G at the first edge, and from each to the next
   pub first-none : G (at e 0) ≡ 0
@@ -123,7 +99,7 @@ module _
         whole ≡ sum i (λ i. at gas (i % n)) → have ≡ at air c → t ≡ at gas c → inside ≡ at e (j + 1) - passed →
         piece ≡ lowPiece (mismatchOf d) have t inside → next ≡ whole + piece → next ≡ G (at e (j + 1))
     next-amount isSlope isWhole isAir isGas isInside isPiece isNext =
-        let high : at e (j + 1) ≤ sum (i + 1) (λ i. at air (i % n)) = omega (arith, end-is line-within p ends) in
+        let high : at e (j + 1) ≤ sum (suc i) (λ i. at air (i % n)) = rw (← add-one i) (omega (arith, end-is line-within p ends)) in
         let slope = isSlope ∙ ap (slopeIn size rising) here in
         let cellAir = isAir ∙ ap (at air) here in
         let cellGas = isGas ∙ ap (at gas) here in
@@ -142,8 +118,4 @@ module _
     where
       same : (cells : ℕ) → at e m ≤ lineAir n air cells → (j : ℕ) → j ≤ m → G (at e j) ≡ amountAbove (tab cells f) (at e j)
       same cells reach j h =
-          ⊎-elim
-          (λ (p : cells ≤ 3 * n).
-          amount-longer f cells (3 * n) p (λ i q. least i) (at e j) (le-trans (steps-rise m (at e) (need .rises) j h) reach))
-          (λ (p : 3 * n < cells). sym (amount-longer f (3 * n) cells (omega arith) (λ i q. least i) (at e j) (edge-most line-within j h)))
-          (le-or-lt cells (3 * n))
+          same-amount f least (3 * n) cells (at e j) (edge-most line-within j h) (le-trans (steps-rise m (at e) (need .rises) j h) reach)

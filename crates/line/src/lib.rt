@@ -152,7 +152,7 @@ pub fn tracer_between(
     requires { ⌜ LineNeed n (now air) (now gas) (now size) (now rising) (now e) m (now newgas) ⌝ }
     ensures { λ r. ⌜ IsBetween n (now (air .entry)) (now (gas .entry)) (now (size .entry)) (now (rising .entry)) (now (e .entry)) m (now (newgas .exit)) ⌝ }
 {
-    let mut i: usize = 0; // only the proof reads it
+    let mut i: usize = 0; // the cell of the line that the walk stands in; only the proof reads it
     let mut c = 0;
     let mut after = next_cell(c, n); // known ahead, so that reading the next cell waits for nothing
     let mut j = 0;

@@ -123,6 +123,23 @@ module _ (f : ℕ → ColumnLayer) where
         rw (amount-is x, amount-is y)
         (sum-le n _ _ (λ k h. piece-rises (opposite (f k .slope)) (f k .air) (f k .tracer) (safe k h) (has k h) _ _ (omega arith) (omega arith)))
 
+    -- at a point that the first m layers reach, the others add nothing
+    pub amount-of : (m x : ℕ) → m ≤ n → x ≤ airOf m → amountAbove (tab n f) x ≡ sum m (λ k. layerPart k x)
+    amount-of m x h le =
+        let e : n ≡ m + (n - m) = omega arith in
+        let past : (t : ℕ) → t < n - m → layerPart (m + t) x ≡ 0 =
+        λ t p. part-none (m + t) x (omega arith) (omega (arith, sum-fewer (λ k. f k .air) m (m + t) (omega arith))) in
+        let none = sum-ext (n - m) _ (λ t. 0) past ∙ sum-zero (n - m) in
+        amount-is x ∙ ap (λ (i : ℕ). sum i (λ k. layerPart k x)) e ∙ omega (arith, sum-split m (n - m) (λ k. layerPart k x), none)
+
+    -- at a point of layer i: the whole layers before it, and the low-end piece of what is left
+    pub amount-at :
+        (i x : ℕ) → i < n → airOf i ≤ x → x ≤ airOf (suc i) →
+        amountAbove (tab n f) x ≡ tracerOf i + layerPiece (f i) (x - airOf i)
+    unfolding sum
+    amount-at i x h low high =
+        amount-of (suc i) x h high ∙ ap₂ _+_ (parts-whole i x (omega arith) low) (part-is i x low high)
+
     -- where every layer has z units of tracer for each unit of air, and no slope, so has G
     pub amount-even :
         (z : ℕ) → ((k : ℕ) → k < n → (f k .slope .size ≡ 0) × (f k .tracer ≡ z * f k .air)) → (x : ℕ) → x ≤ airOf n →
@@ -232,15 +249,7 @@ module _ (f : ℕ → ColumnLayer) where
       (m n x : ℕ) → ((k : ℕ) → k < n → 1 ≤ f k .air) → m ≤ n → x ≤ airOf m →
       amountAbove (tab m f) x ≡ amountAbove (tab n f) x
   amount-longer m n x has le reaches =
-      let more : n ≡ m + (n - m) = omega arith in
-      amount-is m (λ k h. has k (omega arith)) x ∙
-      omega (arith, sum-split m (n - m) (λ k. layerPart k x), sum-ext (n - m) (λ i. layerPart (m + i) x) (λ i. 0) past, sum-zero (n - m)) ∙
-      ap (λ (i : ℕ). sum i (λ k. layerPart k x)) (sym more) ∙
-      sym (amount-is n has x)
-    where
-      past : (i : ℕ) → i < n - m → layerPart (m + i) x ≡ 0
-      past i h =
-          part-none n has (m + i) x (omega arith) (le-trans reaches (sum-fewer (λ i. f i .air) m (m + i) (omega arith)))
+      amount-is m (λ k h. has k (omega arith)) x ∙ sym (amount-of n has m x le reaches)
 
   -- ---- G of layers that come again after w of them: it has what these have, and G of what is left
   module _ (w : ℕ) (round : (i : ℕ) → f (w + i) ≡ f i) where
