@@ -21,17 +21,17 @@ fn drawn(runs: &[Run]) -> (Option<&Run>, Vec<&Run>) {
 fn legend(svg: &mut Svg, long: &[&Run]) {
     let (x, y) = (102.0, 100.0);
     let sample = |n: f64| [(x, y + 28.0 * n), (x + 34.0, y + 28.0 * n)];
-    svg.rect((x - 10.0, y - 16.0), 280.0, 148.0, "fill=\"#ffffff\"");
+    svg.rect((x - 10.0, y - 16.0), 250.0, 148.0, "fill=\"#ffffff\"");
     svg.rect((x, y - 7.0), 34.0, 14.0, EXACT);
     svg.line(&sample(1.0), LIBRARY);
     svg.circle((x + 17.0, y + 28.0), 3.4, DOT);
     let mut names = vec![
         "start, and exact result".to_string(),
-        "zonal sweeps, Courant number 0.5".to_string(),
+        "zonal sweeps of 0.5 cells".to_string(),
     ];
     for (n, (run, style)) in long.iter().zip(LONG).enumerate() {
         svg.line(&sample(2.0 + n as f64), style);
-        names.push(format!("long sweeps, Courant number {:.1}", run.courant));
+        names.push(format!("long sweeps of {:.1} cells", run.courant));
     }
     for (n, name) in names.iter().enumerate() {
         let place = (x + 44.0, y + 28.0 * n as f64 + 4.0);
