@@ -2,6 +2,7 @@
 //! A call gives its count, or the number of the first refusal that applies.
 
 use reference::Grid;
+use std::ops::Range;
 
 const MOST_W: usize = 72;
 const MOST_K: usize = 32;
@@ -249,6 +250,18 @@ fn step_gas(gas: &mut [u32], air: &[u32], f: &[i32]) {
     }
 }
 
+/// Places 5 and 8 of both zonal sweeps: the row's cells.
+fn row_of(g: Grid, world: &Tested, layer: u32, row: u32, f: &[i32]) -> Result<Range<usize>, u32> {
+    if layer >= g.k || row >= g.r {
+        return Err(5);
+    }
+    if !fluxes_fit(f, 1_048_560) {
+        return Err(8);
+    }
+    let first = layer as usize * world.layer + 1 + row as usize * world.w;
+    Ok(first..first + world.w)
+}
+
 pub fn zonal(
     g: Grid,
     air: &mut [u32],
@@ -258,14 +271,7 @@ pub fn zonal(
     fluxes: &[i32],
 ) -> Outcome {
     let world = common_places(g, air, tracers, Lent::RowFluxes(fluxes.len()))?;
-    if layer >= g.k || row >= g.r {
-        return Err(5);
-    }
-    if !fluxes_fit(fluxes, 1_048_560) {
-        return Err(8);
-    }
-    let first = layer as usize * world.layer + 1 + row as usize * world.w;
-    let cells = first..first + world.w;
+    let cells = row_of(g, &world, layer, row, fluxes)?;
     let air = &mut air[cells.clone()];
     let n = (1..=16).find(|&n| serves(air, fluxes, n)).ok_or(9u32)?;
     let mut part = [0; MOST_W];
@@ -355,14 +361,7 @@ pub fn long_zonal(
     fluxes: &[i32],
 ) -> Outcome {
     let world = common_places(g, air, tracers, Lent::RowFluxes(fluxes.len()))?;
-    if layer >= g.k || row >= g.r {
-        return Err(5);
-    }
-    if !fluxes_fit(fluxes, 1_048_560) {
-        return Err(8);
-    }
-    let first = layer as usize * world.layer + 1 + row as usize * world.w;
-    let cells = first..first + world.w;
+    let cells = row_of(g, &world, layer, row, fluxes)?;
     let air = &mut air[cells.clone()];
     let row_air = total_of(air);
     if !fluxes_fit(fluxes, row_air as u32) {

@@ -1,8 +1,8 @@
 //! The picture of the wave by long sweeps.
 
-use crate::draw_wave::{axes, chart, curve, exact, DOT, EXACT, LIBRARY};
+use crate::draw_wave::{curve, dotted, sheet, DOT, EXACT, LIBRARY};
 use crate::long::{Run, Sweep};
-use crate::svg::{Anchor, Svg, SMALL, TITLE, WORDS};
+use crate::svg::{Anchor, Svg, WORDS};
 
 /// The long sweeps, by Courant number.
 const LONG: [&str; 3] = [
@@ -21,17 +21,17 @@ fn drawn(runs: &[Run]) -> (Option<&Run>, Vec<&Run>) {
 fn legend(svg: &mut Svg, long: &[&Run]) {
     let (x, y) = (102.0, 100.0);
     let sample = |n: f64| [(x, y + 28.0 * n), (x + 34.0, y + 28.0 * n)];
-    svg.rect((x - 10.0, y - 16.0), 280.0, 148.0, "fill=\"#ffffff\"");
+    svg.rect((x - 10.0, y - 16.0), 250.0, 148.0, "fill=\"#ffffff\"");
     svg.rect((x, y - 7.0), 34.0, 14.0, EXACT);
     svg.line(&sample(1.0), LIBRARY);
     svg.circle((x + 17.0, y + 28.0), 3.4, DOT);
     let mut names = vec![
         "start, and exact result".to_string(),
-        "zonal sweeps, Courant number 0.5".to_string(),
+        "zonal sweeps of 0.5 cells".to_string(),
     ];
     for (n, (run, style)) in long.iter().zip(LONG).enumerate() {
         svg.line(&sample(2.0 + n as f64), style);
-        names.push(format!("long sweeps, Courant number {:.1}", run.courant));
+        names.push(format!("long sweeps of {:.1} cells", run.courant));
     }
     for (n, name) in names.iter().enumerate() {
         let place = (x + 44.0, y + 28.0 * n as f64 + 4.0);
@@ -43,24 +43,10 @@ fn legend(svg: &mut Svg, long: &[&Run]) {
 pub fn draw(runs: &[Run], numbers: &[String]) -> String {
     let title = "The same wave by long sweeps, five times round the row";
     let more = "Fewer and longer steps, beside the zonal sweeps of Courant number 0.5; all by the proved library";
-    let mut svg = Svg::new(
-        900,
-        480 + 19 * numbers.len() as u32,
-        title,
-        &numbers.join(" "),
-    );
-    let chart = chart();
+    let (mut svg, chart) = sheet(title, more, numbers);
     let (zonal, long) = drawn(runs);
-    svg.text((32.0, 34.0), Anchor::Start, TITLE, title);
-    svg.text((32.0, 56.0), Anchor::Start, SMALL, more);
-    axes(&mut svg, &chart);
-    exact(&mut svg, &chart);
     if let Some(run) = zonal {
-        let library = curve(&chart, &run.after);
-        svg.line(&library, LIBRARY);
-        for point in library {
-            svg.circle(point, 3.4, DOT);
-        }
+        dotted(&mut svg, &chart, &run.after);
     }
     for (run, style) in long.iter().zip(LONG) {
         svg.line(&curve(&chart, &run.after), style);

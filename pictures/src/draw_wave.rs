@@ -10,7 +10,7 @@ pub const DOT: &str = "fill=\"#0b5fa5\"";
 const HARMONIC: &str = "stroke=\"#c75b12\" stroke-width=\"1.8\" stroke-dasharray=\"7 4\"";
 const UPSTREAM: &str = "stroke=\"#6b6b6b\" stroke-width=\"1.8\" stroke-dasharray=\"2 4\"";
 
-pub fn chart() -> Chart {
+fn chart() -> Chart {
     Chart {
         corner: (80.0, 78.0),
         size: (780.0, 330.0),
@@ -28,7 +28,7 @@ pub fn curve(chart: &Chart, row: &[f64]) -> Vec<Point> {
     )
 }
 
-pub fn axes(svg: &mut Svg, chart: &Chart) {
+fn axes(svg: &mut Svg, chart: &Chart) {
     let across: Vec<_> = (0..=W)
         .step_by(5)
         .map(|x| (x as f64, x.to_string()))
@@ -45,11 +45,32 @@ pub fn axes(svg: &mut Svg, chart: &Chart) {
     );
 }
 
-pub fn exact(svg: &mut Svg, chart: &Chart) {
+fn exact(svg: &mut Svg, chart: &Chart) {
     let (west, east) = (WAVE.start as f64, WAVE.end as f64);
     let (x, y) = chart.at(west, 1.0);
     let (right, bottom) = chart.at(east, 0.0);
     svg.rect((x, y), right - x, bottom - y, EXACT);
+}
+
+/// The title, the line under it, the axes and the exact result; `numbers` are the lines under the chart.
+pub fn sheet(title: &str, more: &str, numbers: &[String]) -> (Svg, Chart) {
+    let height = 480 + 19 * numbers.len() as u32;
+    let mut svg = Svg::new(900, height, title, &numbers.join(" "));
+    let chart = chart();
+    svg.text((32.0, 34.0), Anchor::Start, TITLE, title);
+    svg.text((32.0, 56.0), Anchor::Start, SMALL, more);
+    axes(&mut svg, &chart);
+    exact(&mut svg, &chart);
+    (svg, chart)
+}
+
+/// The library's row, with a dot for each cell.
+pub fn dotted(svg: &mut Svg, chart: &Chart, row: &[f64]) {
+    let places = curve(chart, row);
+    svg.line(&places, LIBRARY);
+    for place in places {
+        svg.circle(place, 3.4, DOT);
+    }
 }
 
 fn legend(svg: &mut Svg) {
@@ -84,25 +105,11 @@ pub fn draw(run: &Run, numbers: &[String]) -> String {
     let title = "Rectangular wave, five times round a row of 50 cells";
     let more =
         format!("Courant number 0.5, {STEPS} steps, as in Figure 3 of Lin and others (1994)");
-    let mut svg = Svg::new(
-        900,
-        480 + 19 * numbers.len() as u32,
-        title,
-        &numbers.join(" "),
-    );
-    let chart = chart();
-    svg.text((32.0, 34.0), Anchor::Start, TITLE, title);
-    svg.text((32.0, 56.0), Anchor::Start, SMALL, &more);
-    axes(&mut svg, &chart);
-    exact(&mut svg, &chart);
+    let (mut svg, chart) = sheet(title, &more, numbers);
     let compared = |mismatch| curve(&chart, &plain::carried(&run.before, STEPS, mismatch));
     svg.line(&compared(plain::upstream), UPSTREAM);
     svg.line(&compared(plain::harmonic), HARMONIC);
-    let library = curve(&chart, &run.after);
-    svg.line(&library, LIBRARY);
-    for point in library {
-        svg.circle(point, 3.4, DOT);
-    }
+    dotted(&mut svg, &chart, &run.after);
     legend(&mut svg);
     svg.lines((32.0, 478.0), WORDS, numbers);
     svg.finish()

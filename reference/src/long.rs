@@ -1,11 +1,9 @@
 //! "Fast rows near the caps": document 02's long zonal sweep of one row in one layer.
 
-use crate::grid::{signed, write, Grid, World, MOST_AIR};
+use crate::grid::{signed, write, World, MOST_AIR};
 use crate::refusal;
 use crate::scheme::{mismatch, piece_from_low_end, ratio};
-
-/// "8, with its zonal limit": "size above 1,048,560 (zonal)"
-const MOST_FLUX: u32 = 1_048_560;
+use crate::zonal::row_of;
 
 /// One tracer of a row on its line: "Lay the row's air out on a line from column 0."
 struct Line<'a> {
@@ -103,13 +101,7 @@ fn check(air: &[i64], fluxes: &[i64]) -> Result<(), u32> {
 /// "Counts not named are 0."
 pub fn sweep(world: &mut World, layer: u32, row: u32, fluxes: &[i32]) -> Result<u64, u32> {
     let grid = world.grid;
-    let layer = Grid::present(layer, grid.layers())?;
-    let row = Grid::present(row, grid.rows())?;
-    if fluxes.iter().any(|flux| flux.unsigned_abs() > MOST_FLUX) {
-        return Err(refusal::FLUX);
-    }
-    let fluxes: Vec<i64> = fluxes.iter().map(|&flux| i64::from(flux)).collect();
-    let cells = grid.row_range(layer, row);
+    let (cells, fluxes) = row_of(grid, layer, row, fluxes)?;
     let air = signed(&world.air[cells.clone()]);
     check(&air, &fluxes)?;
 

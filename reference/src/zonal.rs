@@ -4,6 +4,7 @@ use crate::grid::{signed, write, Grid, World};
 use crate::refusal;
 use crate::scheme::parts;
 use crate::substep::{Face, Neighbours, Region};
+use std::ops::Range;
 
 /// "size above 1,048,560 (zonal)"
 const MOST_FLUX: u32 = 1_048_560;
@@ -52,18 +53,26 @@ fn smallest_count(region: &Region, air: &[i64], fluxes: &[i64]) -> Result<i64, u
         .ok_or(refusal::ZONAL)
 }
 
-/// The sweep, from the check of its indices on. "The sweep writes only that row's cells inside
-/// its layer, in the air and in all tracers".
-pub fn sweep(world: &mut World, layer: u32, row: u32, fluxes: &[i32]) -> Result<u64, u32> {
-    let grid = world.grid;
+/// A row's cells and its fluxes.
+type Row = (Range<usize>, Vec<i64>);
+
+/// The row of a zonal or a long zonal sweep, or refusal 5 or 8.
+pub(crate) fn row_of(grid: Grid, layer: u32, row: u32, fluxes: &[i32]) -> Result<Row, u32> {
     let layer = Grid::present(layer, grid.layers())?;
     let row = Grid::present(row, grid.rows())?;
     if fluxes.iter().any(|flux| flux.unsigned_abs() > MOST_FLUX) {
         return Err(refusal::FLUX);
     }
-    let fluxes: Vec<i64> = fluxes.iter().map(|&flux| i64::from(flux)).collect();
+    let fluxes = fluxes.iter().map(|&flux| i64::from(flux)).collect();
+    Ok((grid.row_range(layer, row), fluxes))
+}
+
+/// The sweep, from the check of its indices on. "The sweep writes only that row's cells inside
+/// its layer, in the air and in all tracers".
+pub fn sweep(world: &mut World, layer: u32, row: u32, fluxes: &[i32]) -> Result<u64, u32> {
+    let grid = world.grid;
+    let (cells, fluxes) = row_of(grid, layer, row, fluxes)?;
     let region = region(grid.columns());
-    let cells = grid.row_range(layer, row);
 
     let mut air = signed(&world.air[cells.clone()]);
     let n = smallest_count(&region, &air, &fluxes)?;

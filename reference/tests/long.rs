@@ -4,11 +4,6 @@ mod common;
 use common::*;
 use reference::{script, World};
 
-/// The row of the request's numbers.
-fn row_of_four() -> World {
-    row_world([100; 4], [0, 100, 200, 100])
-}
-
 /// The sweep is accepted with count 0 and leaves this row; the caps stay as they were.
 fn expect_row(world: &World, fluxes: [i32; 4], air: [u32; 4], tracer: [u32; 4]) {
     let after = expect_accepted(world, &long_zonal(0, 0, &fluxes), 0);

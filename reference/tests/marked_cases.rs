@@ -5,11 +5,6 @@ use common::*;
 use reference::scheme::{mismatch, part, piece_from_high_end, piece_from_low_end, ratio};
 use reference::{Call, World};
 
-/// The row of m1 to m5.
-fn row_of_four() -> World {
-    row_world([100; 4], [0, 100, 200, 100])
-}
-
 /// The sweep is accepted with this count and leaves this row; the caps stay as they were.
 fn expect_row(world: &World, fluxes: [i32; 4], count: u64, air: [u32; 4], tracer: [u32; 4]) {
     let after = expect_accepted(world, &zonal(0, 0, &fluxes), count);

@@ -39,6 +39,11 @@ pub fn row_world(air: [u32; 4], tracer: [u32; 4]) -> World {
     }
 }
 
+/// The row of m1 to m5, and of the numbers of the long sweep's request.
+pub fn row_of_four() -> World {
+    row_world([100; 4], [0, 100, 200, 100])
+}
+
 pub fn accepted(count: u64) -> Answer {
     Answer { number: 0, count }
 }
@@ -325,6 +330,21 @@ fn random_table(random: &mut Random, layers: u32) -> Vec<u32> {
     table
 }
 
+/// A layer, a row, and fluxes for its air. Layer and row are mostly present.
+fn random_row(
+    random: &mut Random,
+    world: &World,
+    fluxes: fn(&mut Random, &[u32]) -> Vec<i32>,
+) -> (u32, u32, Vec<i32>) {
+    let grid = &world.grid;
+    let layer = random_index(random, grid.k as usize);
+    let row = random_index(random, grid.r as usize);
+    let first = layer as usize * layer_cells(grid) + 1 + (row * grid.w) as usize;
+    let row_air = world.air.get(first..first + grid.w as usize);
+    let spare = vec![100; grid.w as usize];
+    (layer, row, fluxes(random, row_air.unwrap_or(&spare)))
+}
+
 /// A call on this world: mostly one that is accepted.
 pub fn random_call(random: &mut Random, world: &World) -> Call {
     let grid = &world.grid;
@@ -343,12 +363,7 @@ pub fn random_call(random: &mut Random, world: &World) -> Call {
             withdrawal(tracer, cell, random.amount(0, most + 1))
         }
         2..=6 => {
-            let layer = random_index(random, grid.k as usize);
-            let row = random_index(random, grid.r as usize);
-            let first = layer as usize * layer_cells + 1 + (row * grid.w) as usize;
-            let row_air = world.air.get(first..first + grid.w as usize);
-            let spare = vec![100; grid.w as usize];
-            let fluxes = random_row_fluxes(random, row_air.unwrap_or(&spare));
+            let (layer, row, fluxes) = random_row(random, world, random_row_fluxes);
             Call::Zonal { layer, row, fluxes }
         }
         7..=10 => {
@@ -366,12 +381,7 @@ pub fn random_call(random: &mut Random, world: &World) -> Call {
             tracer: random_index(random, grid.n as usize),
         },
         16..=19 => {
-            let layer = random_index(random, grid.k as usize);
-            let row = random_index(random, grid.r as usize);
-            let first = layer as usize * layer_cells + 1 + (row * grid.w) as usize;
-            let row_air = world.air.get(first..first + grid.w as usize);
-            let spare = vec![100; grid.w as usize];
-            let fluxes = random_long_fluxes(random, row_air.unwrap_or(&spare));
+            let (layer, row, fluxes) = random_row(random, world, random_long_fluxes);
             Call::LongZonal { layer, row, fluxes }
         }
         _ => Call::Cell {
