@@ -1,6 +1,5 @@
 // The public calls for C and Rust. Each takes the grid's four numbers and the lent buffers, and returns one number: answer · 2^32 + count.
 ghost use mathlib.Core.Path.{_≡_};
-ghost use Prim.Native.Nat.{_+_, _*_};
 ghost use Rattle.model.specs.Step.{load, emission, withdrawal, zonal, longZonal, meridional, remap, total, cell as cell-call};
 ghost use Rattle.boundary.specs.Returned.{packedOf, Returns, lentWorld};
 use units::Answer;

@@ -1,6 +1,6 @@
 -- What follows from demand 3 in the buyer's words: of what calls keep, each statement uses the theorem `demand-3` alone. Each of its fields is used, so that a theorem that says less is refused here.
 -- Assumes what the theorem assumes, that `step` accepts the load.
-use Prim.Native.Nat.{ℕ, suc, _+_, _*_, _-_, _≤_, _<_}
+use Prim.Native.Nat.{ℕ, suc, _+_, _*_, _≤_, _<_}
 use mathlib.Core.List.{List}
 use mathlib.Core.Bool.{Bool, true, and-eq-true-iff}
 use mathlib.Core.Path.{_≡_, refl, sym, _∙_, ap, ap₂}

@@ -3,15 +3,14 @@
 use Prim.Native.Nat.{ℕ, suc, _+_, _≤_, _<_}
 use mathlib.Core.List.{List, [], _∷_, _++_}
 use mathlib.Core.Bool.{Bool, true}
-use mathlib.Core.Path.{_≡_, refl, sym, _∙_}
-use lib.IntN.{ℤ, pos, negℤ}
+use mathlib.Core.Path.{_≡_, refl, _∙_}
+use lib.IntN.{pos, negℤ}
 use lib.ListN.{take, replicate}
 use Rattle.model.specs.Basic.{tab}
-use Rattle.model.specs.World.{World, layerStart, rowStart, gasTotal, airTotal}
-use Rattle.model.specs.Sweep.{ring, layer}
-use Rattle.model.specs.Step.{Call, load, emission, withdrawal, zonal, longZonal, meridional, remap, total, cell, firstOf, meaning, lentFits, ownPlaces, refusal, accepted, step}
+use Rattle.model.specs.World.{World, gasTotal, airTotal}
+use Rattle.model.specs.Step.{Call, load, emission, withdrawal, zonal, longZonal, meridional, remap, total, cell, firstOf, meaning, lentFits, ownPlaces, refusal, step}
 use Rattle.model.specs.Lists.{Loaded, loadedWorld, callAt, after, point, history, HasRatio, CallInRange, Alike, namesNoOther, SameReply}
-use Rattle.model.specs.Laws.Step.{Fits, Reached, own-refusal, loaded-reached, step-accepted, answer-is}
+use Rattle.model.specs.Laws.Step.{Reached, own-refusal, loaded-reached}
 use Rattle.model.specs.Laws.Keeps.{Kept, MeaningKeeps, StepKeeps, step-keeps, names-grid}
 use Rattle.model.specs.Laws.Lists.{point-range, list-kept, list-alike, points-ratio}
 use Rattle.model.specs.Laws.Amounts.{load-keeps, emission-keeps, withdrawal-keeps, total-keeps, cell-keeps}

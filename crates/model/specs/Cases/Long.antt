@@ -1,6 +1,6 @@
 -- Cases y1-1 to y1-23 of document 02, Slip 1, as one table with one theorem about `step`; then its range, computed: a cell that lies across column 0, and that e = 2 is needed in full.
 -- Assumes nothing. Numbers that document 02 and the request do not give come from the second implementation (reference/cases/long.txt).
-use Prim.Native.Nat.{ℕ, _+_, _*_, _%_}
+use Prim.Native.Nat.{ℕ, _*_, _%_}
 use mathlib.Core.List.{List, [], _∷_, _++_}
 use mathlib.Core.Bool.{Bool, true, false}
 use mathlib.Core.Path.{_≡_, refl}
@@ -13,7 +13,7 @@ use Rattle.model.specs.Long.{longAir, longGas}
 use Rattle.model.specs.Range.{inRange, isNear, overlaps, isNearOverlap, longCellInRange}
 use Rattle.model.specs.Step.{Call, zonal, longZonal}
 use Rattle.model.specs.Cases.{Case, Hold, hold, computes}
-use Rattle.model.specs.Cases.Marked.{grid, world, four, six, row, gives, refuses, hundreds, peak}
+use Rattle.model.specs.Cases.Marked.{grid, world, four, six, row, gives, refuses, peak}
 use Rattle.model.specs.Cases.Further.{keeps, ten, twos}
 
 abbrev long : ℤ → ℤ → ℤ → ℤ → Call

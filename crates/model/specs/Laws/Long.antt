@@ -3,7 +3,7 @@
 use Prim.Native.Nat.{ℕ, zero, suc, _+_, _*_, _-_, _/_, _%_, _≤_, _<_, min, max}
 use mathlib.Core.List.{List}
 use mathlib.Core.Bool.{Bool, true}
-use mathlib.Core.Path.{_≡_, refl, sym, _∙_, ap, ap₂}
+use mathlib.Core.Path.{_≡_, sym, _∙_, ap, ap₂}
 use native.Mathlib.Nat.{add-mod-left, mod-lt, mod-eq-of-lt, div-lt-iff-lt-mul, div-add-mod', le-refl, le-trans}
 use native.Mathlib.Omega.{arith}
 use borrow.Author.Tests.{lt-ltb}
@@ -12,8 +12,8 @@ use lib.ListN.{length}
 use lib.IntN.{ℤ, pos, negsuc, natAbs}
 use Rattle.model.specs.Basic.{at, sum, tab}
 use Rattle.model.specs.Scheme.{Rule}
-use Rattle.model.specs.Sweep.{ring, westOf, flux, forward, backward, leaving, cellMismatch}
-use Rattle.model.specs.Remap.{ColumnLayer, airAbove, amountAbove}
+use Rattle.model.specs.Sweep.{ring, westOf, flux, forward, backward, leaving}
+use Rattle.model.specs.Remap.{airAbove, amountAbove}
 use Rattle.model.specs.Long.{rowCell, lineCell, lineAir, turns, carried, departure, mark, wholeFlow, longAir, longGas}
 use Rattle.model.specs.Range.{isNear, overlaps, isNearOverlap, longCellInRange}
 use Rattle.model.specs.Laws.Basic.{sum-ext, sum-split, sum-fewer, sum-steps, sum-tab, length-tab, at-tab, some-true}
@@ -22,7 +22,7 @@ use Rattle.model.specs.Laws.Ring.{west-inner, ring-regular}
 use Rattle.model.specs.Laws.Substep.{AirIn, air-bounds, length-after-flow, at-after-flow, cell-safe, even-mismatch}
 use Rattle.model.specs.Laws.Fractions.{Monotone, Bounded, in-range}
 use Rattle.model.specs.Laws.Range.{near-self, cell-leans}
-use Rattle.model.specs.Laws.Above.{amount-rises, between-even, layer-between, amount-between, amount-longer, amount-turn}
+use Rattle.model.specs.Laws.Above.{amount-rises, between-sum, between-even, layer-between, amount-between, amount-longer, amount-turn}
 use Rattle.model.specs.Laws.Moved.{Even, KeepsAir, KeepsGas}
 
 -- ---- the line
@@ -191,10 +191,14 @@ module _ (W : ℕ) (fluxes : List ℤ) (air : List ℕ) (serves : LongServes W f
 
       -- together the cells have the row's tracer
       long-total : sum W (at (longGas rule W fluxes air gas)) ≡ sum W (at gas)
-      unfolding longGas
+      unfolding longGas carried
       long-total =
           sum-tab W (λ i. mark rule W fluxes air gas (suc i) - mark rule W fluxes air gas i) ∙
-          omega (arith, sum-steps W (mark rule W fluxes air gas) marks-rise, mark-turn)
+          omega (
+            arith,
+            between-sum (lineCell rule W air gas) (turns * W) (line-has rule W air gas (serves .some) has) (departure W fluxes air) W rises cells-safe,
+            mark-turn,
+          )
 
       -- a whole-number ratio stays
       long-even : (z : ℕ) → Even W z air gas → Even W z (longAir W fluxes air) (longGas rule W fluxes air gas)

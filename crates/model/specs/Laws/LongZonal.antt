@@ -10,9 +10,9 @@ use borrow.Author.Tests.{leb-true, not-false}
 use lib.Dec.{lit<}
 use lib.IntN.{ℤ, pos, natAbs}
 use lib.ListN.{length, List·getD-eq-default}
-use Rattle.model.specs.Basic.{at, part}
-use Rattle.model.specs.World.{Grid, World, worldCells, rowStart, gas}
-use Rattle.model.specs.Scheme.{Rule, ruleOf}
+use Rattle.model.specs.Basic.{part}
+use Rattle.model.specs.World.{World, worldCells, rowStart, gas}
+use Rattle.model.specs.Scheme.{ruleOf}
 use Rattle.model.specs.Sweep.{flux}
 use Rattle.model.specs.Long.{longAir, longGas, longAirFits, longSwept}
 use Rattle.model.specs.Step.{longZonal, firstOf, fluxesWithin, noExchange, meaning, ownPlaces, accepted, refusal, step}

@@ -1,5 +1,5 @@
 -- What an accepted meridional sweep keeps; and the frame of any meridional sweep.
-use Prim.Native.Nat.{ℕ, _<_}
+use Prim.Native.Nat.{ℕ}
 use mathlib.Core.List.{List}
 use mathlib.Core.Path.{_≡_}
 use native.Mathlib.Omega.{arith}

@@ -1,6 +1,6 @@
 -- What a sweep of some of the world's cells keeps, over any regular mesh: inside the swept cells, outside them, and in two worlds alike.
 -- Assumes a world that passes places 1 to 4, or, for what is kept, one that calls reach; the swept cells inside it, and a count that serves.
-use Prim.Native.Nat.{ℕ, zero, suc, _+_, _≤_, _<_}
+use Prim.Native.Nat.{ℕ, _+_, _≤_, _<_}
 use mathlib.Core.List.{List}
 use mathlib.Core.Bool.{Bool, true, true≢false}
 use mathlib.Core.Path.{_≡_, refl, sym, ap₂}

@@ -1,6 +1,6 @@
 -- What an accepted zonal sweep keeps; and the frame of any zonal sweep: what it changes, and on what its answer, count and new row depend.
 -- Assumes for what is kept a world that fits, and takes the range as given; for the frame nothing, or that places 1 to 4 are passed.
-use Prim.Native.Nat.{ℕ, zero, suc, _<_}
+use Prim.Native.Nat.{ℕ, zero, suc}
 use mathlib.Core.List.{List, []}
 use mathlib.Core.Bool.{not}
 use mathlib.Core.Path.{_≡_, refl, sym, _∙_, ap, ap₂}
