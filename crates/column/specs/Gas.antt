@@ -4,11 +4,12 @@ use mathlib.Core.List.{List}
 use mathlib.Core.Bool.{Bool, true, false, _||_}
 use mathlib.Core.Path.{_≡_}
 use lib.Dec.{eqb}
-use lib.ListN.{length, getD}
+use lib.ListN.{length}
 use Rattle.model.specs.Limits.{airLimit, totalLimit}
 use Rattle.model.specs.Basic.{at, sum}
 use Rattle.model.specs.Scheme.{Mismatch, mismatch, plain}
 use Rattle.model.specs.Remap.{airAbove, layers, newTracer, columnCount}
+use Rattle.line.specs.Slopes.{SlopesTo}
 use Rattle.column.specs.Column.{firsts, AreEdges}
 
 -- ---- mismatches
@@ -27,15 +28,11 @@ pub record SlopesNeed (k : ℕ) (q size : List ℕ) (rising : List Bool) : Type 
   pub roomSize : k ≤ length size
   pub roomRising : k ≤ length rising
 
--- lists that long hold those of the first n layers, and of all
-pub record SlopesTo (cap : Bool) (k : ℕ) (q size : List ℕ) (rising : List Bool) (n : ℕ) : Type 0 where
-  pub longSize : k ≤ length size
-  pub longRising : k ≤ length rising
-  pub isSize : (i : ℕ) → i < n → at size i ≡ slopeAt cap k q i .size
-  pub isSign : (i : ℕ) → i < n → getD rising i false ≡ slopeAt cap k q i .positive
-
-abbrev pub AreSlopes : Bool → ℕ → List ℕ → List ℕ → List Bool → Type 0
-AreSlopes cap k q size rising = SlopesTo cap k q size rising k
+-- two lists hold those of all layers
+pub record AreSlopes (cap : Bool) (k : ℕ) (q size : List ℕ) (rising : List Bool) : Type 0 where
+  pub roomSize : k ≤ length size
+  pub roomRising : k ≤ length rising
+  pub all : SlopesTo (slopeAt cap k q) k size rising
 
 -- ---- a tracer's remap
 -- 1 to 32 layers with air in range, and edges that rise from 0 to their sum

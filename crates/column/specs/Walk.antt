@@ -40,8 +40,8 @@ module _
         fit = omega (arith, spans .fit);
         roomAir = spans .roomAir;
         roomGas = need .roomGas;
-        roomSize = slopes .longSize;
-        roomRising = slopes .longRising;
+        roomSize = slopes .roomSize;
+        roomRising = slopes .roomRising;
         least = spans .least;
         most = spans .most;
         total = need .total;

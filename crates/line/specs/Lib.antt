@@ -1,3 +1,4 @@
 pub mod Line
 pub mod Walk
 pub mod Tracer
+pub mod Slopes

@@ -9,7 +9,7 @@ use Rattle.model.specs.Limits.{airLimit, totalLimit, mostColumns}
 use Rattle.model.specs.Basic.{at, sum, tab}
 use Rattle.model.specs.Scheme.{Mismatch, ratio}
 use Rattle.model.specs.Remap.{ColumnLayer, amountAbove}
-use Rattle.model.specs.Long.{lineAir}
+use Rattle.model.specs.Long.{lineAir, turns}
 
 -- ---- the air of k cells
 -- up to 72 cells, none with more air than a cell may have
@@ -64,7 +64,7 @@ pub record LineNeed (n : ℕ) (air gas size : List ℕ) (rising : List Bool) (e 
   pub roomEdges : m < length e
   pub first : at e 0 ≡ 0
   pub rises : (j : ℕ) → j < m → at e j ≤ at e (suc j)
-  pub last : at e m ≤ 3 * sum n (at air)
+  pub last : at e m ≤ turns * sum n (at air)
   pub room : m ≤ length newgas
 
 -- r has the line's tracer between the edges, whatever number of its cells is looked at, if they reach the last edge

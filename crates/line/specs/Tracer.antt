@@ -20,7 +20,7 @@ use Rattle.model.specs.Laws.Scheme.{Safe, ratio-safe}
 use Rattle.model.specs.Laws.Above.{airOf, amount-none, amount-rises, amount-at, amount-longer}
 use Rattle.model.specs.Laws.Long.{line-all}
 use Rattle.scheme.specs.Leaves.{mismatchOf, Giver}
-use Rattle.model.specs.Long.{lineAir}
+use Rattle.model.specs.Long.{lineAir, turns}
 use Rattle.line.specs.Line.{slopeIn, cellAt, LineNeed, IsBetween}
 use Rattle.line.specs.Walk.{Within, WalkPlace, rises-next, edge-most, end-is}
 
@@ -37,7 +37,7 @@ same-amount f has m n x reachM reachN =
 -- ---- the tracer
 -- G of the lists laid three times
 abbrev pub upTo : ℕ → List ℕ → List ℕ → List ℕ → List Bool → ℕ → ℕ
-upTo n air gas size rising x = amountAbove (tab (3 * n) (cellAt n air gas size rising)) x
+upTo n air gas size rising x = amountAbove (tab (turns * n) (cellAt n air gas size rising)) x
 
 module _
     {n : ℕ} {air gas size : List ℕ} {rising : List Bool} {e : List ℕ} {m : ℕ} {newgas : List ℕ}
@@ -51,7 +51,7 @@ module _
   least : (i : ℕ) → 1 ≤ at air (i % n)
   least i = need .least (i % n) (mod-lt i (need .some))
 
-  pub line-within : Within (λ i. at air (i % n)) (3 * n) e m
+  pub line-within : Within (λ i. at air (i % n)) (turns * n) e m
   line-within =
       record {
         some = omega (arith, need .some);
@@ -62,19 +62,19 @@ module _
       }
 
   -- the tracer of i cells, and of one more
-  pub gas-fits : (i : ℕ) → i < 3 * n → sum i (λ i. at gas (i % n)) + at gas (i % n) ≤ 3 * totalLimit
+  pub gas-fits : (i : ℕ) → i < turns * n → sum i (λ i. at gas (i % n)) + at gas (i % n) ≤ turns * totalLimit
   gas-fits i h =
       let gasAt : ℕ → ℕ = λ i. at gas (i % n) in
-      omega (arith, sum-more i gasAt, sum-fewer gasAt (i + 1) (3 * n) (omega arith), line-all n gas, need .total)
+      omega (arith, sum-more i gasAt, sum-fewer gasAt (i + 1) (turns * n) (omega arith), line-all n gas, need .total)
 
   -- G at the first edge, and from each to the next
   pub first-none : G (at e 0) ≡ 0
-  first-none = ap G (need .first) ∙ amount-none f (3 * n) (λ i h. least i)
+  first-none = ap G (need .first) ∙ amount-none f (turns * n) (λ i h. least i)
 
   pub amounts-rise : (j : ℕ) → j < m → G (at e j) ≤ G (at e (j + 1))
-  amounts-rise j h = amount-rises f (3 * n) (λ i h. least i) safe (at e j) (at e (j + 1)) (rises-next line-within j h)
+  amounts-rise j h = amount-rises f (turns * n) (λ i h. least i) safe (at e j) (at e (j + 1)) (rises-next line-within j h)
     where
-      safe : (i : ℕ) → i < 3 * n → Safe (slopeIn size rising (i % n)) (at air (i % n)) (at gas (i % n))
+      safe : (i : ℕ) → i < turns * n → Safe (slopeIn size rising (i % n)) (at air (i % n)) (at gas (i % n))
       safe i p = ratio-safe (slopeIn size rising (i % n)) (at air (i % n)) (at gas (i % n)) (need .small (i % n) (mod-lt i (need .some)))
 
   -- the piece of a cell
@@ -92,7 +92,7 @@ module _
 
   -- the edge passed lies in cell i, which ends at `end`: what the code adds up is G there
   module _
-      {i j passed end c : ℕ} (p : WalkPlace (λ i. at air (i % n)) (3 * n) e m i j passed) (ends : end ≡ passed + at air (i % n))
+      {i j passed end c : ℕ} (p : WalkPlace (λ i. at air (i % n)) (turns * n) e m i j passed) (ends : end ≡ passed + at air (i % n))
       (h : j < m) (le : at e (j + 1) ≤ end) (here : c ≡ i % n) where
     pub next-amount :
         {d : code.Mismatch} {whole have t inside piece next : ℕ} → mismatchOf d ≡ slopeIn size rising c →
@@ -104,7 +104,7 @@ module _
         let cellAir = isAir ∙ ap (at air) here in
         let cellGas = isGas ∙ ap (at gas) here in
         isNext ∙ ap₂ _+_ isWhole (isPiece ∙ (λ z. lowPiece (slope z) (cellAir z) (cellGas z) (isInside z))) ∙
-        sym (rw (p .is) (amount-at f (3 * n) (λ i h. least i) i (at e (j + 1)) (p .cell) (rw (p .is) at (p .ahead h)) high))
+        sym (rw (p .is) (amount-at f (turns * n) (λ i h. least i) i (at e (j + 1)) (p .cell) (rw (p .is) at (p .ahead h)) high))
 
   -- the amounts between the edges, however many cells are looked at
   pub between-is : (r : List ℕ) → ((j : ℕ) → j < m → at r j ≡ G (at e (j + 1)) - G (at e j)) → IsBetween n air gas size rising e m r
@@ -118,4 +118,4 @@ module _
     where
       same : (cells : ℕ) → at e m ≤ lineAir n air cells → (j : ℕ) → j ≤ m → G (at e j) ≡ amountAbove (tab cells f) (at e j)
       same cells reach j h =
-          same-amount f least (3 * n) cells (at e j) (edge-most line-within j h) (le-trans (steps-rise m (at e) (need .rises) j h) reach)
+          same-amount f least (turns * n) cells (at e j) (edge-most line-within j h) (le-trans (steps-rise m (at e) (need .rises) j h) reach)

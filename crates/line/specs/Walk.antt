@@ -7,14 +7,15 @@ use mathlib.Core.Path.{_≡_, sym, ap}
 use native.Mathlib.Nat.{le-trans}
 use native.Mathlib.Numerals.{add-one}
 use native.Mathlib.Omega.{arith}
-use Rattle.model.specs.Limits.{airLimit}
+use Rattle.model.specs.Limits.{airLimit, mostColumns}
+use Rattle.model.specs.Long.{turns}
 use Rattle.model.specs.Basic.{at, sum}
 use Rattle.model.specs.Laws.Basic.{le-or-lt, steps-rise, sum-none, sum-more, sum-le, sum-same}
 
--- m + 1 edges within 1 to 216 cells, three times 72, none with more air than a cell may have
+-- m + 1 edges within the cells of up to three turns of 72, none with more air than a cell may have
 pub record Within (a : ℕ → ℕ) (cells : ℕ) (e : List ℕ) (m : ℕ) : Type 0 where
   pub some : 1 ≤ cells
-  pub fit : cells ≤ 216
+  pub fit : cells ≤ turns * mostColumns
   pub most : (i : ℕ) → i < cells → a i ≤ airLimit
   pub rises : (j : ℕ) → j < m → at e j ≤ at e (suc j)
   pub last : at e m ≤ sum cells a
@@ -37,7 +38,7 @@ module _ {a : ℕ → ℕ} {cells : ℕ} {e : List ℕ} {m : ℕ} (within : With
   place-start = record { cell = within .some; edge = omega arith; is = sym (sum-none a); ahead = λ h. omega arith }
 
   module _ {i j passed : ℕ} (p : WalkPlace a cells e m i j passed) where
-    pub passed-fits : passed ≤ 216 * airLimit
+    pub passed-fits : passed ≤ turns * mostColumns * airLimit
     passed-fits =
         let each = sum-le i a (λ t. airLimit) (λ t h. within .most t (omega (arith, p .cell))) in
         omega (arith, p .is, each, sum-same i airLimit, p .cell, within .fit)

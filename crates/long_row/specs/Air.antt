@@ -8,12 +8,12 @@ use borrow.Author.Tests.{le-leb, lt-leb, ltb-true, ltb-false}
 use lib.Dec.{leb, ltb}
 use lib.IntN.{ℤ}
 use lib.ListN.{length, set, length-set}
-use Rattle.model.specs.Limits.{airLimit}
+use Rattle.model.specs.Limits.{airLimit, mostColumns}
 use Rattle.model.specs.Basic.{at, part, sum, tab, every}
 use Rattle.model.specs.World.{airFits}
 use Rattle.model.specs.Sweep.{westOf, flux, forward, backward}
 use Rattle.model.specs.Remap.{airAbove}
-use Rattle.model.specs.Long.{departure, longAir, longAirFits}
+use Rattle.model.specs.Long.{turns, departure, longAir, longAirFits}
 use Rattle.model.specs.Laws.Basic.{every-ext, length-part, at-part, tab-at, tab-ext, sum-le, sum-same, sum-fewer}
 use Rattle.model.specs.Laws.Entries.{entries-more}
 use Rattle.model.specs.Laws.Substep.{AirIn, air-bounds}
@@ -23,7 +23,7 @@ use Rattle.line.specs.Line.{AirNeed, servesAt, Served, IsNewAir}
 -- 1 to 72 columns with air in range, a flux for each, and none above the row's air: what place 16 tests
 pub record LongNeed (air : List ℕ) (fluxes : List ℤ) : Type 0 where
   pub some : 1 ≤ length air
-  pub wide : length air ≤ 72
+  pub wide : length air ≤ mostColumns
   pub long : length fluxes ≡ length air
   pub airIn : AirIn (length air) air
   pub oneTurn : OneTurn (length air) fluxes air
@@ -41,22 +41,22 @@ pub record AreDepartures (air : List ℕ) (fluxes : List ℤ) (e : List ℕ) : T
   pub is : EdgesTo air fluxes e (length air + 2)
 
 -- such a list, of whatever fluxes, where the air afterwards serves
-pub record Departed (air e : List ℕ) : Type 0 where
+pub record DeparturesServe (air e : List ℕ) : Type 0 where
   pub some : 1 ≤ length air
-  pub wide : length air ≤ 72
+  pub wide : length air ≤ mostColumns
   pub airIn : AirIn (length air) air
   pub room : length air + 1 < length e
   pub first : at e 0 ≡ 0
   pub rises : (j : ℕ) → j < length air → at e (suc j) < at e (suc (suc j))
   pub most : (j : ℕ) → j < length air → at e (suc (suc j)) - at e (suc j) ≤ airLimit
-  pub last : at e (suc (length air)) ≤ 3 * airAbove air (length air)
+  pub last : at e (suc (length air)) ≤ turns * airAbove air (length air)
 
 -- the air between the departures of each cell's two faces
 abbrev pub airBy : ℕ → List ℕ → List ℕ
 airBy W e = tab W (λ i. at e (suc (suc i)) - at e (suc i))
 
 -- ---- the row's air
-pub air-need : {air : List ℕ} → length air ≤ 72 → AirIn (length air) air → AirNeed (length air) air
+pub air-need : {air : List ℕ} → length air ≤ mostColumns → AirIn (length air) air → AirNeed (length air) air
 air-need {air} wide airIn =
     record { fit = wide; room = omega arith; most = λ i h. air-bounds (at air i) (airIn i h) .1 }
 
@@ -139,8 +139,8 @@ module _ {air : List ℕ} {fluxes : List ℤ} (need : LongNeed air fluxes) where
         ap (λ (b : Bool). b && leb (at e (suc (suc j)) - at e (suc j)) airLimit) (some-between (at e (suc j)) (at e (suc (suc j)))) ∙
         ap airFits (between j h))
 
-    pub departed : W + 1 < length e → AirIn W (longAir W fluxes air) → Departed air e
-    departed room serves =
+    pub departures-serve : W + 1 < length e → AirIn W (longAir W fluxes air) → DeparturesServe air e
+    departures-serve room serves =
         let all : LongServes W fluxes air = record { some = need .some; oneTurn = need .oneTurn; airIn = serves } in
         record {
           some = need .some;
@@ -156,14 +156,14 @@ module _ {air : List ℕ} {fluxes : List ℤ} (need : LongNeed air fluxes) where
         }
 
 -- ---- the departures that are lent
-module _ {air e : List ℕ} (gone : Departed air e) where
+module _ {air e : List ℕ} (departures : DeparturesServe air e) where
   pub faces-serve : Served (length air) (faces (length air) e)
   faces-serve =
       let at-face = lent-at (length air) e in
       record {
-        room = omega (arith, length-part e 1 (length air + 2 - 1) (omega (arith, gone .room)));
-        rises = λ j h. rw (at-face j (omega arith), at-face (suc j) h) (gone .rises j h);
-        most = λ j h. rw (at-face j (omega arith), at-face (suc j) h) (gone .most j h);
+        room = omega (arith, length-part e 1 (length air + 2 - 1) (omega (arith, departures .room)));
+        rises = λ j h. rw (at-face j (omega arith), at-face (suc j) h) (departures .rises j h);
+        most = λ j h. rw (at-face j (omega arith), at-face (suc j) h) (departures .most j h);
       }
 
   pub air-by : {r : List ℕ} → length r ≡ length air → IsNewAir (length air) (faces (length air) e) r → r ≡ airBy (length air) e

@@ -1,30 +1,28 @@
 -- A tracer's amounts in a row through a long sweep: the ring's slopes in lists, and what the functions require and ensure. W is the row's length.
 use Prim.Native.Nat.{ℕ, zero, suc, _+_, _-_, _*_, _%_, _≤_, _<_}
-use mathlib.Core.List.{List, _∷_}
-use mathlib.Core.Bool.{Bool, false}
+use mathlib.Core.List.{List}
+use mathlib.Core.Bool.{Bool}
 use mathlib.Core.Path.{_≡_, refl, sym, ap, ap₂, _∙_}
 use native.Mathlib.Nat.{mod-lt}
 use native.Mathlib.Omega.{arith}
 use lib.IntN.{ℤ}
-use lib.ListN.{length, getD, set}
+use lib.ListN.{length}
 use Rattle.model.specs.Limits.{totalLimit}
-use Rattle.model.specs.Basic.{at, part, sum, tabFrom, tab}
+use Rattle.model.specs.Basic.{at, part, sum, tab}
 use Rattle.model.specs.Scheme.{Mismatch, mismatch}
 use Rattle.model.specs.Sweep.{ring, westOf, eastOf, cellMismatch}
 use Rattle.model.specs.Remap.{ColumnLayer, amountAbove}
 use Rattle.model.specs.Long.{lineCell, lineAir, turns, carried, departure, longGas}
 use Rattle.model.specs.Laws.Basic.{length-part, at-part, tab-at, tab-ext}
-use Rattle.model.specs.Laws.Entries.{entries-more}
 use Rattle.model.specs.Laws.Ring.{west-in, east-in}
 use Rattle.model.specs.Laws.Scheme.{mismatch-twice}
 use Rattle.model.specs.Laws.Substep.{air-bounds}
 use Rattle.model.specs.Laws.Long.{line-all}
-use Rattle.units.specs.declared.Mismatch as code
-use Rattle.scheme.specs.Leaves.{mismatchOf, IsMismatch}
 use Rattle.substep.specs.Pieces.{HasAir, AreRatios, mismatchIn}
 use Rattle.row.specs.Columns.{column-neighbours}
 use Rattle.line.specs.Line.{slopeIn, cellAt, LineNeed, IsBetween}
-use Rattle.long_row.specs.Air.{AreDepartures, Departed}
+use Rattle.line.specs.Slopes.{SlopesTo, slope-is}
+use Rattle.long_row.specs.Air.{AreDepartures, DeparturesServe}
 
 -- ---- slopes
 -- ratios of W columns, and room for their slopes
@@ -33,35 +31,17 @@ pub record SlopesNeed (W : ℕ) (q size : List ℕ) (rising : List Bool) : Type 
   pub roomSize : W ≤ length size
   pub roomRising : W ≤ length rising
 
--- two lists hold the mismatch of each of the first n of W columns with its neighbours in the ring
-pub record SlopesTo (W n : ℕ) (q size : List ℕ) (rising : List Bool) : Type 0 where
-  pub sizes : (c : ℕ) → c < n → at size c ≡ mismatchIn q (westOf W c) c (eastOf W c) .size
-  pub signs : (c : ℕ) → c < n → getD rising c false ≡ mismatchIn q (westOf W c) c (eastOf W c) .positive
+-- the mismatch of column c with its neighbours in the ring, by the ratios; two lists hold those of all columns
+abbrev pub ringSlope : ℕ → List ℕ → ℕ → Mismatch
+ringSlope W q c = mismatchIn q (westOf W c) c (eastOf W c)
 
 abbrev pub AreSlopes : ℕ → List ℕ → List ℕ → List Bool → Type 0
-AreSlopes W q size rising = SlopesTo W W q size rising
-
-pub slopes-none : {W : ℕ} {q size : List ℕ} {rising : List Bool} → SlopesTo W 0 q size rising
-slopes-none = record { sizes = λ c h. absurd (omega arith); signs = λ c h. absurd (omega arith) }
-
-pub slopes-more :
-    {W n : ℕ} {q size : List ℕ} {rising : List Bool} {west east : ℕ} {d : code.Mismatch} →
-    SlopesTo W n q size rising → n < length size → n < length rising → west ≡ westOf W n → east ≡ eastOf W n →
-    IsMismatch (at q west) (at q n) (at q east) d →
-    SlopesTo W (n + 1) q (set size n (d .size)) (set rising n (d .positive))
-slopes-more {W} {n} {q} {size} {rising} {west} {east} {d} old room room' isWest isEast is =
-    let same : mismatchOf d ≡ mismatchIn q (westOf W n) n (eastOf W n) = rw (isWest, isEast) at (is .is) in
-    record {
-      sizes = entries-more 0 size n (d .size) (λ c x. x ≡ mismatchIn q (westOf W c) c (eastOf W c) .size) room (old .sizes) (ap (λ (D : Mismatch). D .size) same);
-      signs =
-          entries-more false rising n (d .positive) (λ c b. b ≡ mismatchIn q (westOf W c) c (eastOf W c) .positive) room' (old .signs)
-          (ap (λ (D : Mismatch). D .positive) same);
-    }
+AreSlopes W q size rising = SlopesTo (ringSlope W q) W size rising
 
 -- ---- a tracer
 -- W amounts within the limit, over a row's air and its departures
 pub record LongGasNeed (gas air e : List ℕ) : Type 0 where
-  pub gone : Departed air e
+  pub departures : DeparturesServe air e
   pub long : length gas ≡ length air
   pub total : sum (length air) (at gas) ≤ totalLimit
 
@@ -77,11 +57,6 @@ gas-by-is {air} {e} {fluxes} are gas =
     λ j h. ap (carried mismatch (length air) air gas) (are .is (suc j) (omega arith)) in
     tab-ext (length air) _ _ (λ i h. ap₂ _-_ (mark (suc i) h) (mark i (omega arith)))
 
-tab-same : {A : Type 0} (i n : ℕ) (f g : ℕ → A) → ((t : ℕ) → f t ≡ g t) → tabFrom i n f ≡ tabFrom i n g
-unfolding tabFrom
-tab-same i zero f g same = refl
-tab-same i (suc n) f g same = ap₂ _∷_ (same i) (tab-same (suc i) n f g same)
-
 module _ {gas air e : List ℕ} (need : LongGasNeed gas air e) where
   abbrev W : ℕ
   W = length air
@@ -92,27 +67,27 @@ module _ {gas air e : List ℕ} (need : LongGasNeed gas air e) where
         airLong = omega arith;
         gasLong = omega (arith, need .long);
         room = room;
-        some = λ c h. air-bounds (at air c) (need .gone .airIn c h) .0;
+        some = λ c h. air-bounds (at air c) (need .departures .airIn c h) .0;
       }
 
   module _ {q size : List ℕ} {rising : List Bool} (ratios : AreRatios W air gas q) (slopes : AreSlopes W q size rising) where
     pub line-need : {newgas : List ℕ} → W ≤ length size → W ≤ length rising → W + 1 ≤ length newgas → LineNeed W air gas size rising e (W + 1) newgas
     line-need roomSize roomRising room =
-        let gone = need .gone in
+        let departures = need .departures in
         record {
-          some = gone .some;
-          fit = gone .wide;
+          some = departures .some;
+          fit = departures .wide;
           roomAir = omega arith;
           roomGas = omega (arith, need .long);
           roomSize = roomSize;
           roomRising = roomRising;
-          least = λ c h. air-bounds (at air c) (gone .airIn c h) .0;
-          most = λ c h. air-bounds (at air c) (gone .airIn c h) .1;
+          least = λ c h. air-bounds (at air c) (departures .airIn c h) .0;
+          most = λ c h. air-bounds (at air c) (departures .airIn c h) .1;
           total = need .total;
           small = λ c h. rw (← ratios .is c h, slopes .sizes c h) (mismatch-twice _ (at q c) _);
-          few = omega (arith, gone .wide);
-          roomEdges = gone .room;
-          first = gone .first;
+          few = omega (arith, departures .wide);
+          roomEdges = departures .room;
+          first = departures .first;
           rises = rises;
           last = last;
           room = room;
@@ -121,21 +96,21 @@ module _ {gas air e : List ℕ} (need : LongGasNeed gas air e) where
         next : W + 1 ≡ suc W
         next = omega arith
 
-        last : at e (W + 1) ≤ 3 * sum W (at air)
-        last = rw next (need .gone .last)
+        last : at e (W + 1) ≤ turns * sum W (at air)
+        last = rw next (need .departures .last)
 
         rises : (j : ℕ) → j < W + 1 → at e j ≤ at e (suc j)
-        rises zero h = omega (arith, need .gone .first)
-        rises (suc j) h = omega (arith, need .gone .rises j (omega arith))
+        rises zero h = omega (arith, need .departures .first)
+        rises (suc j) h = omega (arith, need .departures .rises j (omega arith))
 
     -- the line of the lists is the model's
     cell-is : (i : ℕ) → cellAt W air gas size rising i ≡ lineCell mismatch W air gas i
     cell-is i =
         let c : ℕ = i % W in
-        let h : c < W = mod-lt i (need .gone .some) in
+        let h : c < W = mod-lt i (need .departures .some) in
         let near = column-neighbours W c h (westOf W c) (eastOf W c) refl refl in
         let slope : slopeIn size rising c ≡ cellMismatch mismatch (ring W) air gas c =
-        (λ n. record { size = slopes .sizes c h n; positive = slopes .signs c h n }) ∙
+        slope-is slopes c h ∙
         (λ n. mismatch (ratios .is (westOf W c) (west-in W c h) n) (ratios .is c h n) (ratios .is (eastOf W c) (east-in W c h) n)) ∙
         sym (near .is air gas) in
         ap (λ (d : Mismatch). record { air = at air c; tracer = at gas c; slope = d }) slope
@@ -144,7 +119,7 @@ module _ {gas air e : List ℕ} (need : LongGasNeed gas air e) where
     unfolding carried
     line-is x =
         ap (λ (l : List ColumnLayer). amountAbove l x)
-        (tab-same 0 (turns * W) (cellAt W air gas size rising) (lineCell mismatch W air gas) cell-is)
+        (tab-ext (turns * W) (cellAt W air gas size rising) (lineCell mismatch W air gas) (λ i h. cell-is i))
 
     -- the amounts between the departures, lent as `&between[1..end]` with end = W + 1
     pub gas-by :
@@ -164,4 +139,4 @@ module _ {gas air e : List ℕ} (need : LongGasNeed gas air e) where
         reach : at e (W + 1) ≤ lineAir W air (turns * W)
         reach =
             let next : W + 1 ≡ suc W = omega arith in
-            rw (next, line-all W air) (need .gone .last)
+            rw (next, line-all W air) (need .departures .last)

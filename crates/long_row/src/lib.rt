@@ -5,7 +5,7 @@ ghost use Prim.Native.Nat.{_+_, _-_, _≤_, _<_};
 ghost use lib.ListN.{length};
 ghost use Rattle.model.specs.Sweep.{forward, backward};
 ghost use Rattle.model.specs.Long.{longAirFits};
-ghost use Rattle.long_row.specs.Air.{LongNeed, AreDepartures, Departed, airBy};
+ghost use Rattle.long_row.specs.Air.{LongNeed, AreDepartures, DeparturesServe, airBy};
 ghost use Rattle.long_row.specs.Gas.{SlopesNeed, AreSlopes, LongGasNeed, gasBy};
 use line::air_sum;
 use line::edges_serve;
@@ -72,7 +72,7 @@ pub fn air_serves(air: &[u32], fluxes: &[i32]) -> bool
 
 // The row's air afterwards.
 pub fn move_air(e: &[u64], air: &mut [u32])
-    requires { ⌜ Departed (now air) (now e) ⌝ }
+    requires { ⌜ DeparturesServe (now air) (now e) ⌝ }
     ensures { λ r. ⌜ now (air .exit) ≡ airBy (length (now (air .entry))) (now (e .entry)) ⌝ }
 {
     let w = air.len();

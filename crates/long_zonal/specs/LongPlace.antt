@@ -6,6 +6,7 @@ use mathlib.Core.Path.{_≡_, refl, sym, ap, ap₂, _∙_}
 use native.Mathlib.Omega.{arith}
 use lib.IntN.{ℤ}
 use lib.ListN.{length}
+use Rattle.model.specs.Limits.{mostColumns}
 use Rattle.model.specs.World.{World, worldCells, rowStart}
 use Rattle.model.specs.Remap.{airAbove}
 use Rattle.model.specs.Long.{longAirFits}
@@ -39,7 +40,7 @@ module _ {w : World} {fluxes : List ℤ} {first : ℕ} (row : RowIn w fluxes fir
       rw (length-lent row, part-lent (w .air) first (w .grid .W))
       (cells-in first (w .grid .W) (worldCells (w .grid)) (row .inside) (w .air) (row .fits .air))
 
-  lent-wide : length (lentRow w first) ≤ 72
+  lent-wide : length (lentRow w first) ≤ mostColumns
   lent-wide = rw (length-lent row) (in-range (w .grid) (row .fits .grid) .highW)
 
   pub lent-need : AirNeed (length (lentRow w first)) (lentRow w first)

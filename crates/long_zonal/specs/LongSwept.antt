@@ -22,7 +22,7 @@ use Rattle.places.specs.declared.Placed.{Placed}
 use Rattle.places.specs.Walk.{none}
 use Rattle.substep.specs.Lent.{put-back}
 use Rattle.row_place.specs.RowPlace.{lentRow, length-lent, row-lent}
-use Rattle.long_row.specs.Air.{LongNeed, AreDepartures, Departed, airBy, air-by-is, departed}
+use Rattle.long_row.specs.Air.{LongNeed, AreDepartures, DeparturesServe, airBy, air-by-is, departures-serve}
 use Rattle.long_row.specs.Gas.{gas-by-is}
 use Rattle.long_zonal.specs.LongPlace.{LongFound, long-need}
 use Rattle.long_zonal.specs.LongTracers.{RowsNeed, rowsSwept}
@@ -54,14 +54,14 @@ pub record IsSwept (g : Grid) (tracers air : List ℕ) (first : ℕ) (fluxes : L
 module _
     {g : Grid} {tracers air : List ℕ} {first : ℕ} {fluxes : List ℤ} (ready : RowReady g tracers air first fluxes)
     {e : List ℕ} (are : AreDepartures air fluxes e) where
-  pub gone : length air + 1 < length e → Departed air e
-  gone room = departed (ready .row) are room (ready .serves)
+  pub departures : length air + 1 < length e → DeparturesServe air e
+  departures room = departures-serve (ready .row) are room (ready .serves)
 
   module _ {cells : ℕ} (same : cells ≡ worldCells g) where
     pub rows-need : length air + 1 < length e → RowsNeed tracers air e first cells (g .N)
     rows-need room =
         record {
-          gone = gone room;
+          departures = departures room;
           few = ready .range .highN;
           fewCells = rw same (cells-most (ready .range));
           long = rw same (ready .tracersLong);

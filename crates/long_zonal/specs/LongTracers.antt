@@ -12,12 +12,12 @@ use Rattle.model.specs.Laws.Basic.{length-part, length-tab, length-written}
 use Rattle.model.specs.Laws.Entries.{part-sum-le}
 use Rattle.units.specs.EachTracer.{Changes, changedUpTo, gas-inside, length-gas, part-kept, part-more}
 use Rattle.substep.specs.Lent.{part-lent, put-back}
-use Rattle.long_row.specs.Air.{Departed}
+use Rattle.long_row.specs.Air.{DeparturesServe}
 use Rattle.long_row.specs.Gas.{LongGasNeed, gasBy}
 
 -- n tracers of `cells` amounts each, a row from cell `first` on inside them, and its departures
 pub record RowsNeed (tracers air e : List ℕ) (first cells n : ℕ) : Type 0 where
-  pub gone : Departed air e
+  pub departures : DeparturesServe air e
   pub few : n ≤ mostTracers
   pub fewCells : cells ≤ mostCells
   pub long : length tracers ≡ n * cells
@@ -73,7 +73,7 @@ module _ {tracers air e : List ℕ} {first cells n : ℕ} (need : RowsNeed trace
         let whole = length-gas tracers n cells (need .long) h in
         rw lent-is
         record {
-          gone = need .gone;
+          departures = need .departures;
           long = length-part (part tracers (t * cells) cells) first W (rw whole (need .inside));
           total = le-trans (part-sum-le cells (part tracers (t * cells) cells) first W (need .inside)) (need .totals t h);
         }

@@ -1,14 +1,15 @@
 -- `column::fill_slopes` meets its contract. The loop's invariant: the lists hold the mismatches of the layers passed.
-use Prim.Native.Nat.{ℕ, _+_, _-_, _<_}
-use mathlib.Core.Bool.{_||_}
+use Prim.Native.Nat.{ℕ, _+_, _-_, _≤_, _<_}
+use mathlib.Core.Bool.{true, _||_}
 use mathlib.Core.Path.{_≡_, refl, ap, ap₂, _∙_}
 use native.Mathlib.Omega.{arith}
 use lib.Dec.{eqb}
-use lib.ListN.{length}
+use lib.ListN.{length, length-set}
 use Rattle.model.specs.Basic.{at}
 use Rattle.model.specs.Scheme.{plain}
-use Rattle.column.specs.Gas.{mismatchUnless, SlopesTo}
-use Rattle.column.specs.Slopes.{slope-above, slope-last, slopes-none, slopes-more}
+use Rattle.line.specs.Slopes.{SlopesTo, slopes-none, slopes-more}
+use Rattle.column.specs.Gas.{mismatchUnless, slopeAt}
+use Rattle.column.specs.Slopes.{slope-above, slope-last}
 use Rattle.units.specs.The.{the}
 use borrow.Author.Needs.{needs}
 use Rattle.column.proofs.fill_slopes.Statement.{statement}
@@ -21,7 +22,7 @@ Inv-loop q cap k size₀ rising₀ last own₀ above₀ i₀ size rising own abo
     × (own ≡ at q i)
     × (length size ≡ length size₀)
     × (length rising ≡ length rising₀)
-    × SlopesTo cap k q size rising i
+    × SlopesTo (slopeAt cap k q) i size rising
 
 abbrev μ-loop : tie.MeasureT-loop
 μ-loop q cap k size₀ rising₀ last own₀ above₀ i₀ size rising own above i = k - i
@@ -29,7 +30,7 @@ abbrev μ-loop : tie.MeasureT-loop
 loop-holds : tie.Need-loop-holds Inv-loop μ-loop
 loop-holds c =
     let start : tie.Start Inv-loop μ-loop = search in
-    (start .pre .some, refl, refl, search needs, search needs, slopes-none (start .pre))
+    (start .pre .some, refl, refl, search needs, search needs, slopes-none)
 
 loop-again : tie.Need-loop-again Inv-loop μ-loop
 loop-again c =
@@ -43,7 +44,7 @@ loop-again c =
       refl,
       search needs,
       search needs,
-      slopes-more (l .i) (l .inv .5) (search needs) (l .inv .0) _
+      slopes-more (l .i) (l .inv .5) (search needs) (search needs) (search needs) _
           (is ∙ read ∙ slope-above (a .cap) (a .k) (a .q .now) (l .i) (omega arith)),
     )
 
@@ -53,8 +54,15 @@ returns c =
     let l = the (tie.At-loop Inv-loop μ-loop) (search) .loop in
     let a = start .args in
     let end : a .k - 1 + 1 ≡ a .k = omega (arith, start .pre .some) in
+    let roomSize : a .k ≤ length (l .size) = omega (arith, start .pre .roomSize, l .inv .3) in
+    let roomRising : a .k ≤ length (l .rising) = omega (arith, start .pre .roomRising, l .inv .4) in
     let bottom = slope-last (a .cap) (a .k) (a .q .now) (a .k - 1) (omega (arith, start .pre .some)) in
-    rw end at (slopes-more (a .k - 1) (l .inv .5) (omega arith) (omega (arith, start .pre .some)) plain bottom)
+    let last : a .k - 1 < a .k = omega (arith, start .pre .some) in
+    record {
+      roomSize = rw (length-set (l .size) (a .k - 1) 0) roomSize;
+      roomRising = rw (length-set (l .rising) (a .k - 1) true) roomRising;
+      all = rw end at (slopes-more (a .k - 1) (l .inv .5) (omega arith) (omega arith) (omega arith) plain bottom);
+    }
 
 pub fill-slopes-spec : {M : Type 1} → statement M
 fill-slopes-spec =

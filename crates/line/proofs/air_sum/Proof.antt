@@ -2,6 +2,7 @@
 use Prim.Native.Nat.{_*_, _-_, _≤_}
 use mathlib.Core.Path.{_≡_, sym, ap, _∙_}
 use native.Mathlib.Omega.{arith}
+use Rattle.model.specs.Limits.{airLimit}
 use Rattle.model.specs.Basic as model
 use Rattle.model.specs.Laws.Basic.{sum-none, sum-more}
 use Rattle.units.specs.The.{the}
@@ -10,7 +11,7 @@ use Rattle.line.proofs.air_sum.Statement.{statement}
 use Rattle.line.proofs.air_sum.Tie as tie
 
 abbrev Inv-loop : tie.InvT-loop
-Inv-loop air k sum₀ i₀ sum i = (i ≤ k) × (sum .0 ≡ model.sum i (model.at air)) × (sum .0 ≤ 65535 * i)
+Inv-loop air k sum₀ i₀ sum i = (i ≤ k) × (sum .0 ≡ model.sum i (model.at air)) × (sum .0 ≤ airLimit * i)
 
 abbrev μ-loop : tie.MeasureT-loop
 μ-loop air k sum₀ i₀ sum i = k - i

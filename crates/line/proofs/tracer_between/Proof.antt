@@ -6,7 +6,9 @@ use mathlib.Core.Path.{_≡_, sym, ap, ap₂, _∙_}
 use native.Mathlib.Nat.{mod-lt, mod-add-mod, zero-mod}
 use native.Mathlib.Omega.{arith}
 use lib.ListN.{length}
+use Rattle.model.specs.Limits.{mostColumns}
 use Rattle.model.specs.Basic.{at, sum}
+use Rattle.model.specs.Long.{turns}
 use Rattle.model.specs.Laws.Basic.{sum-none, sum-more}
 use Rattle.model.specs.Laws.Entries.{entries-more}
 use Rattle.line.specs.Walk.{WalkPlace, place-start, pass-cell, pass-edge, passed-fits}
@@ -18,7 +20,7 @@ use Rattle.line.proofs.tracer_between.Tie as tie
 
 abbrev Inv-loop : tie.InvT-loop
 Inv-loop air gas size rising n e m newgas₀ i₀ c₀ after₀ j₀ passed₀ whole₀ last₀ newgas i c after j passed whole last =
-    WalkPlace (λ i. at air (i % n)) (3 * n) e m i j (passed .0)
+    WalkPlace (λ i. at air (i % n)) (turns * n) e m i j (passed .0)
     × (c ≡ i % n)
     × (after ≡ (i + 1) % n)
     × (whole .0 ≡ sum i (λ i. at gas (i % n)))
@@ -27,7 +29,7 @@ Inv-loop air gas size rising n e m newgas₀ i₀ c₀ after₀ j₀ passed₀ w
     × ((t : ℕ) → t < j → at newgas t ≡ upTo n air gas size rising (at e (t + 1)) - upTo n air gas size rising (at e t))
 
 abbrev μ-loop : tie.MeasureT-loop
-μ-loop air gas size rising n e m newgas₀ i₀ c₀ after₀ j₀ passed₀ whole₀ last₀ newgas i c after j passed whole last = (3 * n - i) + (m - j)
+μ-loop air gas size rising n e m newgas₀ i₀ c₀ after₀ j₀ passed₀ whole₀ last₀ newgas i c after j passed whole last = (turns * n - i) + (m - j)
 
 loop-holds : tie.Need-loop-holds Inv-loop μ-loop
 loop-holds c =
@@ -176,7 +178,7 @@ minus-requires c κs =
 -- new cell j is one of at most 73, and the list has room for it
 new-cell : (c : tie.In-loop Inv-loop μ-loop) →
     let l = the (tie.At-loop Inv-loop μ-loop) (search) .loop in
-    (l .j < 73) × (l .j < length (l .newgas))
+    (l .j < mostColumns + 1) × (l .j < length (l .newgas))
 new-cell c =
     let start : tie.Start Inv-loop μ-loop = search in
     let l = the (tie.At-loop Inv-loop μ-loop) (search) .loop in

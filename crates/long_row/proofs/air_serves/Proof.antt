@@ -8,8 +8,8 @@ use Rattle.long_row.proofs.air_serves.Tie as tie
 returns : tie.Need-returns
 returns c =
     let s : tie.Start = search needs in
-    let gone : tie.After-fill-departures = search needs in
-    c .edges-serve .ensures ∙ serves-is (s .pre) (gone .fill-departures .ensures)
+    let departures : tie.After-fill-departures = search needs in
+    c .edges-serve .ensures ∙ serves-is (s .pre) (departures .fill-departures .ensures)
 
 pub air-serves-spec : {M : Type 1} → statement M
 air-serves-spec =

@@ -1,17 +1,19 @@
 -- `long_row::fill_slopes` meets its contract. The loop's invariant: the slopes of the columns passed.
-use Prim.Native.Nat.{_≤_, _-_}
-use mathlib.Core.Path.{_≡_}
+use Prim.Native.Nat.{ℕ, _≤_, _-_}
+use mathlib.Core.Path.{_≡_, ap₂, _∙_}
 use native.Mathlib.Omega.{arith}
 use lib.ListN.{length}
 use Rattle.units.specs.The.{the}
-use Rattle.long_row.specs.Gas.{SlopesTo, slopes-none, slopes-more}
+use Rattle.substep.specs.Pieces.{mismatchIn}
+use Rattle.line.specs.Slopes.{SlopesTo, slopes-none, slopes-more}
+use Rattle.long_row.specs.Gas.{ringSlope}
 use borrow.Author.Needs.{needs}
 use Rattle.long_row.proofs.fill_slopes.Statement.{statement}
 use Rattle.long_row.proofs.fill_slopes.Tie as tie
 
 abbrev Inv-loop : tie.InvT-loop
 Inv-loop q w size₀ rising₀ c₀ size rising c =
-    (c ≤ w) × (length size ≡ length size₀) × (length rising ≡ length rising₀) × SlopesTo w c q size rising
+    (c ≤ w) × (length size ≡ length size₀) × (length rising ≡ length rising₀) × SlopesTo (ringSlope w q) c size rising
 
 abbrev μ-loop : tie.MeasureT-loop
 μ-loop q w size₀ rising₀ c₀ size rising c = w - c
@@ -21,6 +23,7 @@ loop-holds c = (search needs, search needs, search needs, slopes-none)
 
 loop-again : tie.Need-loop-again Inv-loop μ-loop
 loop-again c =
+    let a = the (tie.Start Inv-loop μ-loop) (search) .args in
     let l = the (tie.At-loop Inv-loop μ-loop) (search) .loop in
     let west = the (tie.After-west-of Inv-loop μ-loop) (search) .west-of .ensures .0 in
     let east = the (tie.After-east-of Inv-loop μ-loop) (search) .east-of .ensures .0 in
@@ -28,7 +31,7 @@ loop-again c =
       search needs,
       search needs,
       search needs,
-      slopes-more (l .inv .3) (search needs) (search needs) west east d,
+      slopes-more (l .c) (l .inv .3) (search needs) (search needs) (search needs) _ (d .is ∙ ap₂ (λ (x y : ℕ). mismatchIn (a .q .now) x (l .c) y) west east),
     )
 
 returns : tie.Need-returns Inv-loop μ-loop

@@ -8,7 +8,7 @@ use Rattle.long_row.proofs.move_gas.Tie as tie
 fill-ratios-requires : tie.Need-fill-ratios-requires
 fill-ratios-requires c κs =
     let s : tie.Start = search needs in
-    ratios-need (s .pre) _ (s .pre .gone .wide)
+    ratios-need (s .pre) _ (s .pre .departures .wide)
 
 tracer-between-requires : tie.Need-tracer-between-requires
 tracer-between-requires c κs =

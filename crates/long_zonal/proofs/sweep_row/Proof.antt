@@ -1,5 +1,5 @@
 -- `long_zonal::sweep_row` meets its contract: every tracer's row and then the air, between the same departures, are the model's.
-use Rattle.long_zonal.specs.LongSwept.{gone, rows-need, all-swept}
+use Rattle.long_zonal.specs.LongSwept.{departures, rows-need, all-swept}
 use borrow.Author.Needs.{needs}
 use Rattle.long_zonal.proofs.sweep_row.Statement.{statement}
 use Rattle.long_zonal.proofs.sweep_row.Tie as tie
@@ -15,7 +15,7 @@ move-air-requires : tie.Need-move-air-requires
 move-air-requires c κs =
     let faces : tie.After-fill-departures = search in
     let start : tie.Start = search in
-    gone (start .pre) (faces .fill-departures .ensures) (search needs)
+    departures (start .pre) (faces .fill-departures .ensures) (search needs)
 
 returns : tie.Need-returns
 returns c =

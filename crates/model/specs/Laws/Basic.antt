@@ -141,10 +141,13 @@ tab-at n l e =
     ext-getD 0 (tab n (at l)) l (length-tab n (at l) ∙ sym e)
     (λ i h. at-tab n (at l) i (rw (length-tab n (at l)) at h))
 
-pub tab-ext : (n : ℕ) (f g : ℕ → ℕ) → ((i : ℕ) → i < n → f i ≡ g i) → tab n f ≡ tab n g
-tab-ext n f g h =
-    ext-getD 0 (tab n f) (tab n g) (length-tab n f ∙ sym (length-tab n g))
-    (λ i p. let q : i < n = rw (length-tab n f) at p in at-tab n f i q ∙ h i q ∙ sym (at-tab n g i q))
+tab-from-ext : {A : Type 0} (i n : ℕ) (f g : ℕ → A) → ((t : ℕ) → t < i + n → f t ≡ g t) → tabFrom i n f ≡ tabFrom i n g
+unfolding tabFrom
+tab-from-ext i zero f g h = refl
+tab-from-ext i (suc n) f g h = ap₂ _∷_ (h i (omega arith)) (tab-from-ext (suc i) n f g (λ t p. h t (omega arith)))
+
+pub tab-ext : {A : Type 0} (n : ℕ) (f g : ℕ → A) → ((i : ℕ) → i < n → f i ≡ g i) → tab n f ≡ tab n g
+tab-ext n f g h = tab-from-ext 0 n f g (λ t p. h t (omega arith))
 
 -- ---- every and some
 pub both : (a b : Bool) → a && b ≡ true → (a ≡ true) × (b ≡ true)

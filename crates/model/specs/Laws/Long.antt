@@ -38,7 +38,7 @@ module _ (W : ℕ) (air : List ℕ) where
       ap₂ _+_ (line-first W (le-refl W)) (sum-ext j _ _ (λ i p. ap (at air) (add-mod-left W i)))
 
   -- all turns
-  pub line-all : lineAir W air (turns * W) ≡ 3 * airAbove air W
+  pub line-all : lineAir W air (turns * W) ≡ turns * airAbove air W
   line-all =
       let e : turns * W ≡ W + (W + W) = omega arith in
       ap (lineAir W air) e ∙ omega (arith, line-turn (W + W), line-turn W, line-first W (le-refl W))
