@@ -114,6 +114,12 @@ pub across-column-0 :
 unfolding computes inRange isNear overlaps isNearOverlap
 across-column-0 = refl
 
+-- by fluxes of 100 it takes column 5 alone, and only touches columns 4 and 0: these are near as neighbours, and 1 is not
+pub touching-is-not-overlapping :
+    tab 6 (λ c. isNearOverlap 6 (overlaps 6 (replicate 6 (pos 100)) (replicate 6 100) 0) c) ≡ true ∷ false ∷ false ∷ false ∷ true ∷ true ∷ []
+unfolding computes inRange isNear overlaps isNearOverlap
+touching-is-not-overlapping = refl
+
 pub across-in-range :
     longCellInRange 6 halves (replicate 6 100) across (longAir 6 halves (replicate 6 100)) (longGas mismatch 6 halves (replicate 6 100) across) 0 ≡ true
 unfolding computes inRange isNear overlaps isNearOverlap longCellInRange
