@@ -39,9 +39,9 @@
  *   puldeho_raw_emission           448
  *   puldeho_raw_withdrawal         384
  *   puldeho_raw_zonal           25,536
- *   puldeho_raw_long_zonal      18,640
+ *   puldeho_raw_long_zonal      18,656
  *   puldeho_raw_meridional      93,952
- *   puldeho_raw_remap           17,872
+ *   puldeho_raw_remap           17,840
  *   puldeho_raw_total              416
  *   puldeho_raw_cell               384
  * A function puldeho_why_NAME wants at most PULDEHO_WHY_STACK bytes.
