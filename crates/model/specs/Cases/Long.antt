@@ -1,6 +1,6 @@
--- Cases y1-1 to y1-23 of document 02, Slip 1, as one table with one theorem about `step`; then its range, computed: a cell that lies across column 0, and that e = 2 is needed in full.
+-- Cases y1-1 to y1-23 of document 02, Slip 1, as one table with one theorem about `step`, and the answer of y1-24; then its range, computed: a cell that lies across column 0, and that e = 2 is needed in full.
 -- Assumes nothing. Numbers that document 02 and the request do not give come from the second implementation (reference/cases/long.txt).
-use Prim.Native.Nat.{ℕ, _*_, _%_}
+use Prim.Native.Nat.{ℕ, _+_, _*_, _%_}
 use mathlib.Core.List.{List, [], _∷_, _++_}
 use mathlib.Core.Bool.{Bool, true, false}
 use mathlib.Core.Path.{_≡_, refl}
@@ -11,7 +11,7 @@ use Rattle.model.specs.World.{World}
 use Rattle.model.specs.Scheme.{mismatch}
 use Rattle.model.specs.Long.{longAir, longGas}
 use Rattle.model.specs.Range.{inRange, isNear, overlaps, isNearOverlap, longCellInRange}
-use Rattle.model.specs.Step.{Call, zonal, longZonal}
+use Rattle.model.specs.Step.{Call, zonal, longZonal, step}
 use Rattle.model.specs.Cases.{Case, Hold, hold, computes}
 use Rattle.model.specs.Cases.Marked.{grid, world, four, six, row, gives, refuses, peak}
 use Rattle.model.specs.Cases.Further.{keeps, ten, twos}
@@ -19,19 +19,18 @@ use Rattle.model.specs.Cases.Further.{keeps, ten, twos}
 abbrev long : ℤ → ℤ → ℤ → ℤ → Call
 long a b c d = longZonal 0 0 (four a b c d)
 
--- a row of uneven air, and rows of 72
+-- a row of uneven air; rows of 18, of 17 and of 72 columns
 abbrev uneven : World
 uneven = row (six 100 90 120 60 130 100) (six 0 40 300 5 170 0)
 
-abbrev wide : World
-wide = world (grid 72 1 1 1) (replicate 74 100) (0 ∷ tab 72 (λ i. i * 37 % 211) ++ 0 ∷ [])
-
-abbrev wideAfter : List ℕ
-wideAfter =
-    0 ∷ 173 ∷ 209 ∷ 38 ∷ 73 ∷ 109 ∷ 147 ∷ 184 ∷ 11 ∷ 47 ∷ 83 ∷ 121 ∷ 158 ∷ 195 ∷ 22 ∷ 58 ∷ 95 ∷ 1 ∷ 36 ∷ 74 ∷ 110 ∷ 148 ∷ 185 ∷ 12 ∷ 48 ∷ 84 ∷ 122 ∷ 159 ∷ 196 ∷ 23 ∷ 59 ∷ 95 ∷ 133 ∷ 170 ∷ 206 ∷ 35 ∷ 70 ∷ 106 ∷ 144 ∷ 181 ∷ 8 ∷ 44 ∷ 81 ∷ 117 ∷ 155 ∷ 192 ∷ 19 ∷ 55 ∷ 91 ∷ 129 ∷ 166 ∷ 202 ∷ 31 ∷ 66 ∷ 102 ∷ 140 ∷ 177 ∷ 4 ∷ 40 ∷ 77 ∷ 113 ∷ 151 ∷ 188 ∷ 15 ∷ 51 ∷ 87 ∷ 125 ∷ 162 ∷ 199 ∷ 26 ∷ 62 ∷ 98 ∷ 136 ∷ 0 ∷ []
+abbrev steep : World
+steep = world (grid 18 1 1 1) (replicate 20 100) (0 ∷ tab 18 (λ i. i * 37 % 211) ++ 0 ∷ [])
 
 abbrev full : World
-full = world (grid 72 1 1 1) (replicate 74 65535) (replicate 74 1)
+full = world (grid 17 1 1 1) (replicate 19 65535) (tab 19 (λ i. i))
+
+abbrev wide : World
+wide = world (grid 72 1 1 1) (replicate 74 100) (0 ∷ tab 72 (λ i. i * 37 % 211) ++ 0 ∷ [])
 
 pub long-sweeps : List Case
 long-sweeps =
@@ -90,17 +89,24 @@ long-sweeps =
     refuses "y1-20" (world (twos .grid) (set (twos .air) 0 0) (set (twos .tracers) 0 268435455)) (longZonal 2 1 (four (pos 0) (pos 0) (pos 0) (pos 0))) 3 ∷
     -- 1 before 2
     refuses "y1-21" (world (grid 3 2 2 2) (twos .air) (twos .tracers)) (longZonal 0 0 (pos 0 ∷ [])) 1 ∷
-    -- a row of 72 that no count serves
-    refuses "y1-22 a" wide (zonal 0 0 (replicate 72 (pos 1601))) 9 ∷
-    gives "y1-22 b" wide (longZonal 0 0 (replicate 72 (pos 1601))) 0 (wide .air) wideAfter ∷
-    -- 8 where 16 does not apply: the row has 4,718,520 units of air
-    keeps "y1-23 a" full (longZonal 0 0 (replicate 72 (pos 1048560))) 0 ∷
-    refuses "y1-23 b" full (longZonal 0 0 (replicate 72 (negℤ (pos 1048561)))) 8 ∷
+    -- a row that no count serves
+    refuses "y1-22 a" steep (zonal 0 0 (replicate 18 (pos 1601))) 9 ∷
+    gives "y1-22 b" steep (longZonal 0 0 (replicate 18 (pos 1601))) 0 (steep .air)
+    (0 ∷ 74 ∷ 110 ∷ 148 ∷ 185 ∷ 12 ∷ 48 ∷ 84 ∷ 122 ∷ 159 ∷ 196 ∷ 23 ∷ 59 ∷ 95 ∷ 133 ∷ 170 ∷ 206 ∷ 3 ∷ 36 ∷ 0 ∷ []) ∷
+    -- 8 where 16 does not apply: the row has 1,114,095 units of air
+    refuses "y1-23 a" full (longZonal 0 0 (replicate 17 (negℤ (pos 1048561)))) 8 ∷
+    gives "y1-23 b" full (longZonal 0 0 (replicate 17 (pos 1048560))) 0 (full .air)
+    (0 ∷ tab 16 (λ i. i + 2) ++ 1 ∷ 18 ∷ []) ∷
     []
 
 pub long-cases-hold : Hold long-sweeps
 unfolding long-sweeps computes
 long-cases-hold = hold long-sweeps refl
+
+-- y1-24, a row of 72 that no count serves: that it is accepted; its amounts, and the zonal sweep's 9 there, take the checker long (y1-22 has both with 18 columns, the second implementation with 72)
+pub wide-accepted : step wide (longZonal 0 0 (replicate 72 (pos 1601))) .answer ≡ 0
+unfolding computes
+wide-accepted = refl
 
 -- ---- a cell that lies across column 0: of six columns with air 100, by fluxes of 50, new cell 0 takes half of column 5 and half of column 0; their neighbours are 4 and 1
 abbrev across : List ℕ
