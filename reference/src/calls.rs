@@ -1,7 +1,7 @@
 //! The calls, each with one answer.
 
 use crate::grid::{Grid, World, MOST_TRACER};
-use crate::{long, meridional, refusal, remap, zonal};
+use crate::{emitters, long, meridional, refusal, remap, zonal};
 
 /// A call with its arguments. A remap's table is one flat list a, b, a, b, ...
 #[derive(Clone, Debug, PartialEq, Eq)]
@@ -41,6 +41,22 @@ pub enum Call {
         tracer: u32,
         cell: u32,
     },
+    AddEmitter {
+        tracer: u32,
+        cell: u32,
+        id: u32,
+        units: u32,
+    },
+    RemoveEmitter {
+        tracer: u32,
+        id: u32,
+    },
+    Tick {
+        tracer: u32,
+    },
+    UnitsATick {
+        tracer: u32,
+    },
 }
 
 /// The refusal's number, or 0 if accepted, and the count.
@@ -65,8 +81,16 @@ fn count_or_refusal(world: &mut World, call: &Call) -> Result<u64, u32> {
     check_lengths(world, call)?;
     world.check_air()?;
     world.check_tracers()?;
+    carry_out(world, call)
+}
+
+/// The call from its indices on.
+fn carry_out(world: &mut World, call: &Call) -> Result<u64, u32> {
     match *call {
-        Call::Load => Ok(0),
+        Call::Load => {
+            emitters::leave_none(world);
+            Ok(0)
+        }
         Call::Emission {
             tracer,
             cell,
@@ -91,10 +115,19 @@ fn count_or_refusal(world: &mut World, call: &Call) -> Result<u64, u32> {
         Call::Remap { ref table } => remap::remap(world, table),
         Call::Total { tracer } => total(world, tracer),
         Call::Cell { tracer, cell } => cell_amount(world, tracer, cell),
+        Call::AddEmitter {
+            tracer,
+            cell,
+            id,
+            units,
+        } => emitters::add(world, tracer, [cell, id, units]),
+        Call::RemoveEmitter { tracer, id } => emitters::remove(world, tracer, id),
+        Call::Tick { tracer } => emitters::tick(world, tracer),
+        Call::UnitsATick { tracer } => emitters::units_a_tick(world, tracer),
     }
 }
 
-/// "a lent length is not the grid's" is refusal 2: air, tracers, fluxes, table.
+/// "a lent length is not the grid's" is refusal 2: air, tracers, ledger, fluxes, table.
 fn check_lengths(world: &World, call: &Call) -> Result<(), u32> {
     let grid = &world.grid;
     let arguments = match call {
@@ -107,13 +140,14 @@ fn check_lengths(world: &World, call: &Call) -> Result<(), u32> {
     };
     let good = world.air.len() == grid.cells()
         && world.tracers.len() == grid.tracer_amounts()
+        && world.ledger.len() == grid.ledger_numbers()
         && arguments;
     good.then_some(()).ok_or(refusal::LENGTH)
 }
 
 /// "tracer, cell [...] absent" is refusal 5; "the cell numbered over all layers (0 to
 /// K·C − 1) as in a reading".
-fn check_indices(grid: &Grid, tracer: u32, cell: u32) -> Result<(usize, usize), u32> {
+pub(crate) fn check_indices(grid: &Grid, tracer: u32, cell: u32) -> Result<(usize, usize), u32> {
     let tracer = Grid::present(tracer, grid.n as usize)?;
     let cell = Grid::present(cell, grid.cells())?;
     Ok((tracer, cell))

@@ -1,6 +1,6 @@
 //! The grid, the world, and the checks that every call makes (refusals 1, 3 and 4).
 
-use crate::refusal;
+use crate::{emitters, refusal};
 
 /// "A cell holds M units of air (1 to 65,535)"
 pub(crate) const MOST_AIR: i64 = 65_535;
@@ -17,12 +17,14 @@ pub struct Grid {
     pub n: u32,
 }
 
-/// A grid with lent air and tracers, raw: any lengths, any numbers.
+/// A grid with lent air, tracers and ledger, raw: any lengths, any numbers. The ledger has each
+/// tracer's emitters (emitters.rs).
 #[derive(Clone, Debug, PartialEq, Eq)]
 pub struct World {
     pub grid: Grid,
     pub air: Vec<u32>,
     pub tracers: Vec<u32>,
+    pub ledger: Vec<u32>,
 }
 
 impl Grid {
@@ -65,6 +67,11 @@ impl Grid {
     /// N·K·C, the amounts of all tracers.
     pub(crate) fn tracer_amounts(&self) -> usize {
         self.n as usize * self.cells()
+    }
+
+    /// N blocks, the emitters of all tracers.
+    pub(crate) fn ledger_numbers(&self) -> usize {
+        self.n as usize * emitters::BLOCK
     }
 
     /// Zonal: "W signed fluxes".

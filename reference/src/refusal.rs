@@ -8,7 +8,8 @@ pub const LENGTH: u32 = 2;
 pub const AIR: u32 = 3;
 /// "every call, tracers | 4 | a tracer's total above 268,435,455"
 pub const TRACERS: u32 = 4;
-/// "call's indices | 5 | tracer, cell, layer or row absent"
+/// "call's indices | 5 | tracer, cell, layer or row absent"; for a call on emitters also "an
+/// absent cell, an id twice, more than 16 entries or a false sum" (document 02)
 pub const INDEX: u32 = 5;
 /// "emission | 6 | total would pass 268,435,455"
 pub const EMISSION: u32 = 6;
@@ -35,3 +36,7 @@ pub const PROGRAM_GRID: u32 = 15;
 pub const LONG_FLUX: u32 = 16;
 /// "17 when air afterwards leaves 1 to 65,535" (document 02)
 pub const LONG_AIR: u32 = 17;
+/// "18 when the tracer has 16 emitters or already has that id" (document 02)
+pub const NO_PLACE: u32 = 18;
+/// "19 when the id is absent" (document 02)
+pub const NO_EMITTER: u32 = 19;

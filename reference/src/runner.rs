@@ -115,6 +115,7 @@ fn load(state: &mut State, grid: Grid, body: &[u8]) -> Answer {
         grid,
         air: air.to_vec(),
         tracers: tracers.to_vec(),
+        ledger: vec![0; grid.ledger_numbers()],
     };
     let answer = call(&mut world, &Call::Load);
     *state = if answer.number == 0 {

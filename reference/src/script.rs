@@ -10,7 +10,7 @@ pub struct Outcome {
 }
 
 /// Runs the script up to its end or its first bad line. Before any `grid` line the grid is
-/// 0 0 0 0 and the buffers are empty.
+/// 0 0 0 0 and the lists are empty.
 pub fn run(script: &str) -> Outcome {
     let grid = Grid {
         w: 0,
@@ -22,6 +22,7 @@ pub fn run(script: &str) -> Outcome {
         grid,
         air: Vec::new(),
         tracers: Vec::new(),
+        ledger: Vec::new(),
     };
     let mut lines = String::new();
     for (index, line) in script.lines().enumerate() {
@@ -46,12 +47,20 @@ fn run_line(world: &mut World, line: &str) -> Result<String, String> {
         return Ok(String::new());
     }
     match name {
-        "grid" => world.grid = read_grid(arguments)?,
+        "grid" => {
+            world.grid = read_grid(arguments)?;
+            world.ledger = empty_ledger(&world.grid);
+        }
         "air" => world.air = numbers(arguments)?,
         "tracers" => world.tracers = numbers(arguments)?,
+        "ledger" => world.ledger = numbers(arguments)?,
         "show" => {
             fixed::<0>(arguments)?;
             return Ok(show(world));
+        }
+        "show_ledger" => {
+            fixed::<0>(arguments)?;
+            return Ok(show_list("ledger", &world.ledger));
         }
         _ => {
             let answer = call(world, &read_call(name, arguments)?);
@@ -64,6 +73,12 @@ fn run_line(world: &mut World, line: &str) -> Result<String, String> {
 fn read_grid(arguments: &[&str]) -> Result<Grid, String> {
     let [w, r, k, n] = fixed(arguments)?;
     Ok(Grid { w, r, k, n })
+}
+
+/// A ledger in which no emitter stands; an empty list where no call accepts the grid's N.
+fn empty_ledger(grid: &Grid) -> Vec<u32> {
+    let fits = grid.n <= 8;
+    vec![0; if fits { grid.ledger_numbers() } else { 0 }]
 }
 
 fn read_call(name: &str, arguments: &[&str]) -> Result<Call, String> {
@@ -111,6 +126,34 @@ fn read_call(name: &str, arguments: &[&str]) -> Result<Call, String> {
             let [tracer, cell] = fixed(arguments)?;
             Call::Cell { tracer, cell }
         }
+        _ => return read_emitter_call(name, arguments),
+    })
+}
+
+/// The calls of document 02's second request.
+fn read_emitter_call(name: &str, arguments: &[&str]) -> Result<Call, String> {
+    Ok(match name {
+        "add_emitter" => {
+            let [tracer, cell, id, units] = fixed(arguments)?;
+            Call::AddEmitter {
+                tracer,
+                cell,
+                id,
+                units,
+            }
+        }
+        "remove_emitter" => {
+            let [tracer, id] = fixed(arguments)?;
+            Call::RemoveEmitter { tracer, id }
+        }
+        "tick" => {
+            let [tracer] = fixed(arguments)?;
+            Call::Tick { tracer }
+        }
+        "units_a_tick" => {
+            let [tracer] = fixed(arguments)?;
+            Call::UnitsATick { tracer }
+        }
         _ => return Err(format!("unknown word '{name}'")),
     })
 }
@@ -144,10 +187,10 @@ fn show(world: &World) -> String {
     )
 }
 
-fn show_list(name: &str, amounts: &[u32]) -> String {
+fn show_list(name: &str, numbers: &[u32]) -> String {
     let mut line = String::from(name);
-    for amount in amounts {
-        line.push_str(&format!(" {amount}"));
+    for number in numbers {
+        line.push_str(&format!(" {number}"));
     }
     line.push('\n');
     line

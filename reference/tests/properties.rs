@@ -255,13 +255,38 @@ fn expect_call_properties(before: &World, after: &World, asked: &Call, answer: A
     }
 }
 
-/// What an accepted call adds to a tracer's total.
-fn added(asked: &Call, answer: Answer, t: usize) -> i64 {
+/// A tracer's block of the ledger.
+fn block(world: &World, t: usize) -> &[u32] {
+    &world.ledger[51 * t..51 * (t + 1)]
+}
+
+/// The units of a tracer's standing emitters, summed.
+fn standing_units(world: &World, t: usize) -> u64 {
+    let block = block(world, t);
+    let units = (0..block[0] as usize).map(|i| block[5 + 3 * i]);
+    units.map(u64::from).sum()
+}
+
+/// What an accepted call adds to a tracer's total: "a tick counts there as an emission of that
+/// sum".
+fn added(before: &World, asked: &Call, answer: Answer, t: usize) -> i64 {
+    if answer.number != 0 || named_tracer(asked) != Some(t) {
+        return 0;
+    }
     match *asked {
-        _ if answer.number != 0 => 0,
-        Call::Emission { tracer, amount, .. } if tracer as usize == t => i64::from(amount),
-        Call::Withdrawal { tracer, amount, .. } if tracer as usize == t => -i64::from(amount),
+        Call::Emission { amount, .. } => i64::from(amount),
+        Call::Withdrawal { amount, .. } => -i64::from(amount),
+        Call::Tick { .. } => standing_units(before, t) as i64,
         _ => 0,
+    }
+}
+
+/// In a world reached by calls every reading of the units a tick is accepted, and it "always
+/// equals the sum over the emitters present".
+fn expect_readings(world: &World) {
+    for t in tracers(&world.grid) {
+        let sum = standing_units(world, t);
+        expect_accepted(world, &units_a_tick(t as u32), sum);
     }
 }
 
@@ -271,7 +296,11 @@ fn named_tracer(asked: &Call) -> Option<usize> {
         Call::Emission { tracer, .. }
         | Call::Withdrawal { tracer, .. }
         | Call::Total { tracer }
-        | Call::Cell { tracer, .. } => Some(tracer as usize),
+        | Call::Cell { tracer, .. }
+        | Call::AddEmitter { tracer, .. }
+        | Call::RemoveEmitter { tracer, .. }
+        | Call::Tick { tracer }
+        | Call::UnitsATick { tracer } => Some(tracer as usize),
         _ => None,
     }
 }
@@ -284,6 +313,9 @@ struct Met {
     accepted_long: u32,
     accepted_meridional: u32,
     accepted_remaps: u32,
+    emitters_added: u32,
+    emitters_removed: u32,
+    ticks: u32,
     ratios_kept: u32,
     refused: u32,
 }
@@ -299,6 +331,9 @@ impl Met {
             Call::LongZonal { .. } => self.accepted_long += 1,
             Call::Meridional { .. } => self.accepted_meridional += 1,
             Call::Remap { .. } => self.accepted_remaps += 1,
+            Call::AddEmitter { .. } => self.emitters_added += 1,
+            Call::RemoveEmitter { .. } => self.emitters_removed += 1,
+            Call::Tick { .. } => self.ticks += 1,
             _ => {}
         }
     }
@@ -312,18 +347,19 @@ fn run_list(random: &mut Random, met: &mut Met) {
     let mut totals: Vec<i64> = tracers(&world.grid)
         .map(|t| sum(tracer(&world, t)) as i64)
         .collect();
-    for _ in 0..12 {
+    for _ in 0..16 {
         let asked = random_call(random, &world);
         let before = world.clone();
         let answer = checked_call(&mut world, &asked);
         met.note(&asked, answer);
         expect_call_properties(&before, &world, &asked, answer);
+        expect_readings(&world);
         assert_eq!(sum(&world.air), total_air);
         for t in tracers(&world.grid) {
-            totals[t] += added(&asked, answer, t);
+            totals[t] += added(&before, &asked, answer, t);
             assert_eq!(sum(tracer(&world, t)) as i64, totals[t]);
             let ratio = whole_ratio(&before, t);
-            if ratio.is_some() && added(&asked, answer, t) == 0 {
+            if ratio.is_some() && added(&before, &asked, answer, t) == 0 {
                 assert_eq!(whole_ratio(&world, t), ratio);
                 met.ratios_kept += 1;
             }
@@ -344,6 +380,9 @@ fn conservation_ratio_and_range_on_random_lists() {
     assert!(met.accepted_long > 5_000);
     assert!(met.accepted_meridional > 5_000);
     assert!(met.accepted_remaps > 3_000);
+    assert!(met.emitters_added > 5_000);
+    assert!(met.emitters_removed > 200);
+    assert!(met.ticks > 3_000);
     assert!(met.ratios_kept > 5_000);
     assert!(met.refused > 5_000);
 }
@@ -368,6 +407,7 @@ fn run_twin_lists(random: &mut Random) {
         let twin_answer = call(&mut twin, &asked);
         assert_eq!(world.air, twin.air);
         assert_eq!(tracer(&world, kept), tracer(&twin, kept));
+        assert_eq!(block(&world, kept), block(&twin, kept));
         if named_tracer(&asked).is_none_or(|t| t == kept) {
             assert_eq!(answer, twin_answer);
         }
@@ -391,14 +431,14 @@ fn the_largest_grid() {
         .collect();
     let amounts = (0..8).flat_map(|_| random_tracer(&mut random, &air));
     let tracers = amounts.collect();
-    let mut world = World { grid, air, tracers };
+    let mut world = world_of(grid, air, tracers);
     let totals: Vec<u64> = (0..8).map(|t| sum(tracer(&world, t))).collect();
     for _ in 0..40 {
         let asked = random_call(&mut random, &world);
         let before = world.clone();
         let answer = checked_call(&mut world, &asked);
         expect_call_properties(&before, &world, &asked, answer);
-        if added(&asked, answer, named_tracer(&asked).unwrap_or(0)) != 0 {
+        if added(&before, &asked, answer, named_tracer(&asked).unwrap_or(0)) != 0 {
             world = before;
         }
         assert_eq!(

@@ -1,4 +1,5 @@
-//! Refusals 1 to 12 at both sides of their limits, and their order; 16 and 17 are in long.rs.
+//! Refusals 1 to 12 at both sides of their limits, and their order; 16 and 17 are in long.rs, 18
+//! and 19 in emitters.rs.
 
 mod common;
 use common::*;
@@ -82,10 +83,19 @@ fn refusal_2_lengths_of_the_world() {
     short_tracers.tracers.pop();
     let mut long_tracers = middle_world();
     long_tracers.tracers.push(0);
+    let mut short_ledger = middle_world();
+    short_ledger.ledger.pop();
+    let mut long_ledger = middle_world();
+    long_ledger.ledger.push(0);
+    let mut no_ledger = middle_world();
+    no_ledger.ledger.clear();
     let mut empty = middle_world();
     empty.air.clear();
     empty.tracers.clear();
     for world in [short_air, long_air, short_tracers, long_tracers, empty] {
+        expect_all(&world, 2);
+    }
+    for world in [short_ledger, long_ledger, no_ledger] {
         expect_all(&world, 2);
     }
     expect_none(&middle_world());
@@ -387,6 +397,10 @@ fn refusals_come_in_row_order() {
                 tracer: 9,
                 cell: 99,
             },
+            add_emitter(9, 99, 0, u32::MAX),
+            remove_emitter(9, 0),
+            tick(9),
+            units_a_tick(9),
         ] {
             expect_refusal(&world, &asked, first);
         }
@@ -426,6 +440,13 @@ fn any_numbers_and_lengths_never_panic() {
             world.tracers[place] = (random.next() as u32) >> random.between(0, 31);
         }
         if random.one_in(4) {
+            let place = length(&mut random) % world.ledger.len();
+            world.ledger[place] = (random.next() as u32) >> random.between(0, 31);
+        }
+        if random.one_in(8) {
+            world.ledger.truncate(length(&mut random));
+        }
+        if random.one_in(4) {
             world.grid.k = (random.next() as u32) >> random.between(0, 31);
         }
         match &mut asked {
@@ -446,7 +467,7 @@ fn any_numbers_and_lengths_never_panic() {
             _ => {}
         }
         let answer = checked_call(&mut world, &asked);
-        assert!(answer.number <= 12 || answer.number == 16 || answer.number == 17);
+        assert!(answer.number <= 12 || (16..=19).contains(&answer.number));
         if answer.number == 0 {
             assert_eq!(call(&mut world, &Call::Load), accepted(0));
         }

@@ -21,12 +21,23 @@ fn load_record(world: &World) -> Vec<u8> {
     [vec![2], bytes_of(&world.air), bytes_of(&world.tracers)].concat()
 }
 
+/// The kinds are those of document 01: no call of document 02 has a record.
+fn has_record(asked: &Call) -> bool {
+    !matches!(
+        asked,
+        Call::LongZonal { .. }
+            | Call::AddEmitter { .. }
+            | Call::RemoveEmitter { .. }
+            | Call::Tick { .. }
+            | Call::UnitsATick { .. }
+    )
+}
+
 /// The kind of a call and its record.
 fn record(asked: &Call) -> Vec<u8> {
     let cell_bytes = |cell: u32| (cell as u16).to_le_bytes().to_vec();
     match asked {
         Call::Load => unreachable!("a load has the world's numbers"),
-        Call::LongZonal { .. } => unreachable!("a long sweep has no record"),
         Call::Emission {
             tracer,
             cell,
@@ -54,6 +65,7 @@ fn record(asked: &Call) -> Vec<u8> {
         Call::Remap { table } => [vec![7], bytes_of(table)].concat(),
         Call::Total { tracer } => vec![8, *tracer as u8],
         Call::Cell { tracer, cell } => [vec![9, *tracer as u8], cell_bytes(*cell)].concat(),
+        _ => unreachable!("{asked:?} has no record"),
     }
 }
 
@@ -238,7 +250,7 @@ fn refusal_15_program_grid() {
 fn random_recorded_call(random: &mut Random, world: &World) -> Call {
     loop {
         let asked = random_call(random, world);
-        if !matches!(asked, Call::LongZonal { .. }) {
+        if has_record(&asked) {
             return asked;
         }
     }

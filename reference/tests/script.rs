@@ -49,6 +49,39 @@ fn every_call_and_wrong_lengths() {
 }
 
 #[test]
+fn a_grid_line_gives_an_empty_ledger() {
+    let zeros = " 0".repeat(48);
+    let script = "show_ledger\n\
+                  grid 4 1 1 1\n\
+                  air 9 9 9 9 9 9\n\
+                  tracers 0 0 0 0 0 0\n\
+                  add_emitter 0 5 4294967295 7\n\
+                  show_ledger\n\
+                  units_a_tick 0\n\
+                  tick 0\n\
+                  remove_emitter 0 8\n\
+                  ledger 1 2 3\n\
+                  tick 0\n\
+                  show_ledger\n\
+                  show\n\
+                  grid 4 1 1 1\n\
+                  remove_emitter 0 4294967295\n\
+                  grid 4 1 1 9\n\
+                  show_ledger\n";
+    let outcome = run(script);
+    assert_eq!(outcome.error, None);
+    assert_eq!(
+        outcome.lines,
+        format!(
+            "ledger\nadd_emitter 0 0\nledger 1 7 0 4294967295 5 7{}\nunits_a_tick 0 7\n\
+             tick 0 0\nremove_emitter 19 0\ntick 2 0\nledger 1 2 3\nair 9 9 9 9 9 9\n\
+             tracers 0 0 0 0 0 7\nremove_emitter 19 0\nledger\n",
+            &zeros[..2 * 45]
+        )
+    );
+}
+
+#[test]
 fn a_bad_line_is_named() {
     for bad in [
         "lode",
@@ -63,6 +96,12 @@ fn a_bad_line_is_named() {
         "emission 0 0 4294967296",
         "load 1",
         "show 1",
+        "show_ledger 1",
+        "ledger -1",
+        "add_emitter 0 0 0",
+        "remove_emitter 0 0 0",
+        "tick",
+        "units_a_tick 0 0",
     ] {
         let outcome = run(&format!("load\n# fine\n{bad}\nload\n"));
         assert_eq!(outcome.lines, "load 1 0\n");

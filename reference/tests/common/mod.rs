@@ -19,24 +19,31 @@ pub fn cells(grid: &Grid) -> usize {
     grid.k as usize * layer_cells(grid)
 }
 
+/// A ledger in which no emitter stands: 51 numbers for each tracer.
+pub fn empty_ledger(grid: &Grid) -> Vec<u32> {
+    vec![0; grid.n as usize * 51]
+}
+
+/// A world in which no emitter stands.
+pub fn world_of(grid: Grid, air: Vec<u32>, tracers: Vec<u32>) -> World {
+    World {
+        grid,
+        air,
+        tracers,
+        ledger: empty_ledger(&grid),
+    }
+}
+
 /// A world with the same air in all cells and no tracer.
 pub fn even_world(grid: Grid, air: u32) -> World {
     let cells = cells(&grid);
-    World {
-        grid,
-        air: vec![air; cells],
-        tracers: vec![0; grid.n as usize * cells],
-    }
+    world_of(grid, vec![air; cells], vec![0; grid.n as usize * cells])
 }
 
 /// The world of the marked cases: grid 4, 1, 1, 1, caps with air 100 and tracer 0.
 pub fn row_world(air: [u32; 4], tracer: [u32; 4]) -> World {
     let caps = |row: [u32; 4], cap: u32| [&[cap][..], &row[..], &[cap][..]].concat();
-    World {
-        grid: grid(4, 1, 1, 1),
-        air: caps(air, 100),
-        tracers: caps(tracer, 0),
-    }
+    world_of(grid(4, 1, 1, 1), caps(air, 100), caps(tracer, 0))
 }
 
 /// The row of m1 to m5, and of the numbers of the long sweep's request.
@@ -97,6 +104,27 @@ pub fn withdrawal(tracer: u32, cell: u32, amount: u32) -> Call {
     }
 }
 
+pub fn add_emitter(tracer: u32, cell: u32, id: u32, units: u32) -> Call {
+    Call::AddEmitter {
+        tracer,
+        cell,
+        id,
+        units,
+    }
+}
+
+pub fn remove_emitter(tracer: u32, id: u32) -> Call {
+    Call::RemoveEmitter { tracer, id }
+}
+
+pub fn tick(tracer: u32) -> Call {
+    Call::Tick { tracer }
+}
+
+pub fn units_a_tick(tracer: u32) -> Call {
+    Call::UnitsATick { tracer }
+}
+
 /// The table that keeps K layers of equal air as they are.
 pub fn even_table(layers: u32) -> Vec<u32> {
     (0..=layers)
@@ -104,7 +132,7 @@ pub fn even_table(layers: u32) -> Vec<u32> {
         .collect()
 }
 
-/// One call of each kind, with arguments that fit the grid.
+/// One call of each kind, with arguments that fit the grid. A removal needs an emitter.
 pub fn each_call(grid: &Grid) -> Vec<Call> {
     vec![
         Call::Load,
@@ -116,6 +144,9 @@ pub fn each_call(grid: &Grid) -> Vec<Call> {
         remap(&even_table(grid.k)),
         Call::Total { tracer: 0 },
         Call::Cell { tracer: 0, cell: 0 },
+        add_emitter(0, 0, 0, 0),
+        tick(0),
+        units_a_tick(0),
     ]
 }
 
@@ -227,7 +258,7 @@ pub fn random_world(random: &mut Random) -> World {
     let tracers = (0..grid.n)
         .flat_map(|_| random_tracer(random, &air))
         .collect();
-    World { grid, air, tracers }
+    world_of(grid, air, tracers)
 }
 
 /// An index that is mostly present.
@@ -345,11 +376,35 @@ fn random_row(
     (layer, row, fluxes(random, row_air.unwrap_or(&spare)))
 }
 
+/// A call on the emitters, with few ids, so that they are met again.
+fn random_emitter_call(random: &mut Random, world: &World) -> Call {
+    let grid = &world.grid;
+    let tracer = random_index(random, grid.n as usize);
+    let id = random.amount(0, 20) * 214_748_364;
+    match random.next() % 8 {
+        0..=3 => {
+            let units = match random.next() % 20 {
+                0 => 0,
+                1 => u32::MAX,
+                _ => random.amount(0, 1_000),
+            };
+            add_emitter(tracer, random_index(random, cells(grid)), id, units)
+        }
+        4 => {
+            let first = world.ledger.get(51 * tracer as usize + 3);
+            let standing = first.filter(|_| random.one_in(2));
+            remove_emitter(tracer, *standing.unwrap_or(&id))
+        }
+        5 | 6 => tick(tracer),
+        _ => units_a_tick(tracer),
+    }
+}
+
 /// A call on this world: mostly one that is accepted.
 pub fn random_call(random: &mut Random, world: &World) -> Call {
     let grid = &world.grid;
     let (cells, layer_cells) = (cells(grid), layer_cells(grid));
-    match random.next() % 20 {
+    match random.next() % 26 {
         0 => emission(
             random_index(random, grid.n as usize),
             random_index(random, cells),
@@ -384,6 +439,7 @@ pub fn random_call(random: &mut Random, world: &World) -> Call {
             let (layer, row, fluxes) = random_row(random, world, random_long_fluxes);
             Call::LongZonal { layer, row, fluxes }
         }
+        20..=25 => random_emitter_call(random, world),
         _ => Call::Cell {
             tracer: random_index(random, grid.n as usize),
             cell: random_index(random, cells),
