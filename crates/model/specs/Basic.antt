@@ -30,6 +30,10 @@ tabFrom i (suc n) f = f i ∷ tabFrom (suc i) n f
 abbrev pub tab : {A : Type 0} → ℕ → (ℕ → A) → List A
 tab n f = tabFrom 0 n f
 
+-- n times 0
+abbrev pub zeros : ℕ → List ℕ
+zeros n = tab n (λ i. 0)
+
 -- f 0 + f 1 + .. + f (n - 1)
 unfoldable pub sum : ℕ → (ℕ → ℕ) → ℕ
 sum zero f = 0

@@ -3,6 +3,7 @@ pub mod Marked
 pub mod Further
 pub mod RangeEnds
 pub mod Long
+pub mod Emitters
 use Prim.Native.Nat.{ℕ}
 use Prim.Native.String.{String}
 use mathlib.Core.List.{List, [], _∷_, cons≢nil}
@@ -16,6 +17,7 @@ use Rattle.model.specs.Scheme.{ratio, mismatch, highPiece}
 use Rattle.model.specs.Sweep.{ring, layer, leaving, afterFlow, fluxPart, parts, allowed, cellMismatch, pieces, airAfter, gasAfter, serves, substepCount, swept}
 use Rattle.model.specs.Remap.{column, edge, layerMismatch, layers, amountAbove, edgesServe, shareAir, columnCount, remappedAir, remappedGas, remapServes, remapCount, remapped}
 use Rattle.model.specs.Long.{carried, departure, longGas, longAir, longAirFits, longSwept}
+use Rattle.model.specs.Emitters.{recordFits, placeOf, ticked}
 use Rattle.model.specs.Step.{Call, Result, firstOf, commonPlaces, ownPlaces, accepted, refused, refusal, step}
 
 pub record Case : Type 0 where
@@ -43,7 +45,8 @@ sameResult a b =
     eqb (a .answer) (b .answer) && eqb (a .count) (b .count) &&
     sameGrid (a .next .grid) (b .next .grid) &&
     sameList (a .next .air) (b .next .air) &&
-    sameList (a .next .tracers) (b .next .tracers)
+    sameList (a .next .tracers) (b .next .tracers) &&
+    sameList (a .next .ledger) (b .next .ledger)
 
 -- the labels of the cases in which `step` gives something else
 unfoldable pub failing : List Case → List String
@@ -53,7 +56,7 @@ failing (c ∷ cs) =
 
 -- Opens every definition that a case computes with
 unfoldable pub computes : ℕ
-unfolding sum howMany every some smallest tabFrom joined ratio mismatch highPiece ring layer leaving afterFlow fluxPart parts allowed cellMismatch pieces airAfter gasAfter serves substepCount swept column edge layerMismatch layers amountAbove edgesServe shareAir columnCount remappedAir remappedGas remapServes remapCount remapped carried departure longGas longAir longAirFits longSwept firstOf commonPlaces ownPlaces accepted refused refusal step sameList sameGrid sameResult failing
+unfolding sum howMany every some smallest tabFrom joined ratio mismatch highPiece ring layer leaving afterFlow fluxPart parts allowed cellMismatch pieces airAfter gasAfter serves substepCount swept column edge layerMismatch layers amountAbove edgesServe shareAir columnCount remappedAir remappedGas remapServes remapCount remapped carried departure longGas longAir longAirFits longSwept recordFits placeOf ticked firstOf commonPlaces ownPlaces accepted refused refusal step sameList sameGrid sameResult failing
 computes = 0
 
 -- every case of the table holds
@@ -90,7 +93,8 @@ grid-eq g h e =
 result-eq : (a b : Result) → sameResult a b ≡ true → a ≡ b
 unfolding sameResult
 result-eq a b e =
-    let p = both _ (sameList (a .next .tracers) (b .next .tracers)) e in
+    let o = both _ (sameList (a .next .ledger) (b .next .ledger)) e in
+    let p = both _ (sameList (a .next .tracers) (b .next .tracers)) (o .0) in
     let q = both _ (sameList (a .next .air) (b .next .air)) (p .0) in
     let r = both _ (sameGrid (a .next .grid) (b .next .grid)) (q .0) in
     let s = both (eqb (a .answer) (b .answer)) (eqb (a .count) (b .count)) (r .0) in
@@ -103,6 +107,7 @@ result-eq a b e =
             grid = grid-eq (a .next .grid) (b .next .grid) (r .1) i;
             air = list-eq (a .next .air) (b .next .air) (q .1) i;
             tracers = list-eq (a .next .tracers) (b .next .tracers) (p .1) i;
+            ledger = list-eq (a .next .ledger) (b .next .ledger) (o .1) i;
           };
     }
 

@@ -1,5 +1,5 @@
 -- What follows from demand 3 in the buyer's words: of what calls keep, each statement uses the theorem `demand-3` alone. Each of its fields is used, so that a theorem that says less is refused here.
--- Assumes what the theorem assumes, that `step` accepts the load.
+-- Assumes what the theorem assumes, that `step` accepts the load and the list holds no other.
 use Prim.Native.Nat.{ℕ, suc, _+_, _*_, _≤_, _<_}
 use mathlib.Core.List.{List}
 use mathlib.Core.Bool.{Bool, true, and-eq-true-iff}
@@ -15,7 +15,7 @@ use Rattle.model.specs.World.{Grid, World, layerCells, worldCells, layer
 use Rattle.model.specs.Sweep.{Mesh, layer}
 use Rattle.model.specs.Range.{inRange, faceCount, substepInRange, SweepInRange, layerInRange, longCellInRange}
 use Rattle.model.specs.Step.{Call, longZonal, meridional, remap, total, step}
-use Rattle.model.specs.Lists.{Loaded, loadedWorld, callAt, point, history, CallInRange, Alike, namesNoOther}
+use Rattle.model.specs.Lists.{Loaded, loadedWorld, listed, callAt, point, history, CallInRange, LoadedAlike, namesNoOther}
 use Rattle.model.specs.Laws.Basic.{some-at, at-part}
 use Rattle.model.specs.Laws.Lists.{callsBetween, calls-between, history-append}
 use Rattle.model.specs.Laws.Step.{answer-is}
@@ -65,7 +65,7 @@ one-substep-near {w} {next} {mesh} {a} {t} {air} {had} range lo hi cells inside 
     (range .each 0 c (omega arith) hc) in
     rw (range .airEnd, range .gasEnd, at-part (next .air) a (mesh .cells) c hc, at-part (gas next t) a (mesh .cells) c hc) at near
 
-module _ (w : World) (calls : List Call) (loaded : Loaded w) where
+module _ (w : World) (calls : List Call) (loaded : Loaded w) (no-loads : listed calls ≡ true) where
   abbrev start : World
   start = loadedWorld w
 
@@ -86,13 +86,13 @@ module _ (w : World) (calls : List Call) (loaded : Loaded w) where
         parted .went,
         ap (λ (l : List Call). history start t l .emitted) all,
         ap (λ (l : List Call). history start t l .withdrawn) all,
-        demand-3 w calls loaded i .gasKept t h,
-        demand-3 w calls loaded j .gasKept t h,
+        demand-3 w calls loaded no-loads i .gasKept t h,
+        demand-3 w calls loaded no-loads j .gasKept t h,
       )
 
   -- total air is the same at any two points
   pub same-air : (i j : ℕ) → airTotal (at-point i) ≡ airTotal (at-point j)
-  same-air i j = demand-3 w calls loaded i .airKept ∙ sym (demand-3 w calls loaded j .airKept)
+  same-air i j = demand-3 w calls loaded no-loads i .airKept ∙ sym (demand-3 w calls loaded no-loads j .airKept)
 
   -- a gas of which no cell has a unit at one point is in no cell at a later one, if none of it was emitted or withdrawn between them
   pub none-stays-none :
@@ -101,12 +101,12 @@ module _ (w : World) (calls : List Call) (loaded : Loaded w) where
       history start t (take j calls) ≡ history start t (take i calls) →
       (c : ℕ) → c < worldCells (at-point j .grid) → at (gas (at-point j) t) c ≡ 0
   none-stays-none t i j h le none same c hc =
-      demand-3 w calls loaded i .ratioKept t 0 j h le (λ d hd. none d hd ∙ sym (zero-mul _)) same c hc ∙ zero-mul _
+      demand-3 w calls loaded no-loads i .ratioKept t 0 j h le (λ d hd. none d hd ∙ sym (zero-mul _)) same c hc ∙ zero-mul _
 
   -- a call that is accepted at point i promises its range between the points i and i + 1
   promised : (t i : ℕ) (call : Call) → t < start .grid .N → callAt calls i ≡ call → step (at-point i) call .answer ≡ 0 → CallInRange (at-point i) (at-point (suc i)) t call
   promised t i call h made accepted =
-      rw made at (demand-3 w calls loaded i .inRange t h (rw made accepted))
+      rw made at (demand-3 w calls loaded no-loads i .inRange t h (rw made accepted))
 
   -- where all ratios of a gas are from lo to hi, a remap leaves every cell of the world at the next point within two units of that, a long sweep every cell of its row, and a meridional sweep every cell of its layer within one unit for each of its faces and one more
   module _ (t i lo hi : ℕ) (h : t < start .grid .N) (between : Between lo hi (worldCells (at-point i .grid)) (at-point i .air) (gas (at-point i) t)) where
@@ -157,9 +157,9 @@ module _ (w : World) (calls : List Call) (loaded : Loaded w) where
   one-gas-alone v other t i h sameGrid sameAir sameGas =
       let own : ℕ → Bool = λ s. eqb t s in
       let self : own t ≡ true = eq-eqb t t refl in
-      let alike : Alike own start (loadedWorld v) =
+      let alike : LoadedAlike own start (loadedWorld v) =
       record { sameGrid = sameGrid; sameAir = sameAir; sameGas = λ s o. ap (gas start) (sym (eqb-true t s o)) ∙ sameGas ∙ ap (gas (loadedWorld v)) (eqb-true t s o) } in
-      let same = demand-3 w calls loaded i .independent own v other alike in (
+      let same = demand-3 w calls loaded no-loads i .independent own v other alike in (
         ap₂ (λ (g : Grid) (l : List ℕ). sum (worldCells g) (at l)) (same .0 .sameGrid) (same .0 .sameGas t self),
         λ made.
             let named : namesNoOther own start (callAt calls i) ≡ true = rw made (sym (names-present own start t h) ∙ self) in

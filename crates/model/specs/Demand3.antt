@@ -1,19 +1,21 @@
 -- Demand 3, one theorem about the list: after an accepted load, whatever calls are made, refused ones included, four things hold at each point.
--- Assumes only that `step` accepts the load.
+-- Assumes only that `step` accepts the load, and that the list holds no other.
 use Prim.Native.Nat.{ℕ, suc, _+_, _≤_, _<_}
 use mathlib.Core.List.{List, [], _∷_, _++_}
-use mathlib.Core.Bool.{Bool, true}
+use mathlib.Core.Bool.{Bool, true, false, false≢true}
 use mathlib.Core.Path.{_≡_, refl, _∙_}
 use lib.IntN.{pos, negℤ}
 use lib.ListN.{take, replicate}
 use Rattle.model.specs.Basic.{tab}
-use Rattle.model.specs.World.{World, gasTotal, airTotal}
-use Rattle.model.specs.Step.{Call, load, emission, withdrawal, zonal, longZonal, meridional, remap, total, cell, firstOf, meaning, lentFits, ownPlaces, refusal, step}
-use Rattle.model.specs.Lists.{Loaded, loadedWorld, callAt, after, point, history, HasRatio, CallInRange, Alike, namesNoOther, SameReply}
-use Rattle.model.specs.Laws.Step.{Reached, own-refusal, loaded-reached}
+use Rattle.model.specs.World.{World, block, gasTotal, airTotal}
+use Rattle.model.specs.Emitters.{presentUnits}
+use Rattle.model.specs.Step.{Call, load, emission, withdrawal, zonal, longZonal, meridional, remap, total, cell, addEmitter, removeEmitter, tick, unitsATick, brokenRecord, firstOf, meaning, lentFits, ownPlaces, refusal, step}
+use Rattle.model.specs.Lists.{Loaded, loadedWorld, listed, callAt, after, point, history, HasRatio, CallInRange, LoadedAlike, Alike, namesNoOther, SameReply}
+use Rattle.model.specs.Laws.Step.{Reached, answer-is, own-refusal, loaded-reached, loaded-alike}
 use Rattle.model.specs.Laws.Keeps.{Kept, MeaningKeeps, StepKeeps, step-keeps, names-grid}
-use Rattle.model.specs.Laws.Lists.{point-range, list-kept, list-alike, points-ratio}
-use Rattle.model.specs.Laws.Amounts.{load-keeps, emission-keeps, withdrawal-keeps, total-keeps, cell-keeps}
+use Rattle.model.specs.Laws.Lists.{listed-take, listed-at, point-range, list-kept, list-alike, points-ratio}
+use Rattle.model.specs.Laws.Amounts.{emission-keeps, withdrawal-keeps, total-keeps, cell-keeps}
+use Rattle.model.specs.Laws.Standing.{record-sound, record-left, no-place, add-keeps, remove-keeps, tick-keeps, units-keeps, reading-is-sum}
 use Rattle.model.specs.Laws.Zonal.{zonal-keeps}
 use Rattle.model.specs.Laws.LongZonal.{long-keeps}
 use Rattle.model.specs.Laws.Meridional.{meridional-keeps}
@@ -38,59 +40,81 @@ pub record HoldsAt (start : World) (calls : List Call) (i : ℕ) : Type 0 where
       CallInRange (point start calls i) (point start calls (suc i)) t (callAt calls i)
   -- "After any other accepted load that differs only in the other gases, the same list gives the same amounts of one gas and the same answers to calls that name no other gas": for a set of gases `own`
   pub independent :
-      (own : ℕ → Bool) (v : World) → Loaded v → Alike own start (loadedWorld v) →
+      (own : ℕ → Bool) (v : World) → Loaded v → LoadedAlike own start (loadedWorld v) →
       Alike own (point start calls i) (point (loadedWorld v) calls i) × (namesNoOther own start (callAt calls i) ≡ true → SameReply (point start calls i) (point (loadedWorld v) calls i) (callAt calls i))
 
--- what each call keeps
-pub call-keeps : (call : Call) → MeaningKeeps (meaning call)
-call-keeps load = load-keeps
-call-keeps (emission t c amount) = emission-keeps t c amount
-call-keeps (withdrawal t c amount) = withdrawal-keeps t c amount
-call-keeps (zonal k r fluxes) = zonal-keeps k r fluxes
-call-keeps (longZonal k r fluxes) = long-keeps k r fluxes
-call-keeps (meridional k fluxes) = meridional-keeps k fluxes
-call-keeps (remap table) = remap-keeps table
-call-keeps (total t) = total-keeps t
-call-keeps (cell t c) = cell-keeps t c
+-- what each call keeps, but a load
+pub call-keeps : (call : Call) → meaning call .listed ≡ true → MeaningKeeps (meaning call)
+call-keeps load e = absurd (false≢true e)
+call-keeps (emission t c amount) e = emission-keeps t c amount
+call-keeps (withdrawal t c amount) e = withdrawal-keeps t c amount
+call-keeps (zonal k r fluxes) e = zonal-keeps k r fluxes
+call-keeps (longZonal k r fluxes) e = long-keeps k r fluxes
+call-keeps (meridional k fluxes) e = meridional-keeps k fluxes
+call-keeps (remap table) e = remap-keeps table
+call-keeps (total t) e = total-keeps t
+call-keeps (cell t c) e = cell-keeps t c
+call-keeps (addEmitter t c id units) e = add-keeps t c id units
+call-keeps (removeEmitter t id) e = remove-keeps t id
+call-keeps (tick t) e = tick-keeps t
+call-keeps (unitsATick t) e = units-keeps t
 
-any-keeps : (call : Call) (w : World) → Reached w → StepKeeps w call
-any-keeps call = step-keeps call (call-keeps call)
+pub any-keeps : (call : Call) → meaning call .listed ≡ true → (w : World) → Reached w → StepKeeps w call
+any-keeps call e = step-keeps call (call-keeps call e)
 
 -- what any list keeps, from a world that calls reach
-pub calls-keep : (w : World) (calls : List Call) → Reached w → Kept w (after w calls) (λ t. history w t calls)
+pub calls-keep : (w : World) (calls : List Call) → listed calls ≡ true → Reached w → Kept w (after w calls) (λ t. history w t calls)
 calls-keep = list-kept any-keeps
 
-pub demand-3 : (w : World) (calls : List Call) → Loaded w → (i : ℕ) → HoldsAt (loadedWorld w) calls i
-demand-3 w calls loaded i =
+pub demand-3 : (w : World) (calls : List Call) → Loaded w → listed calls ≡ true → (i : ℕ) → HoldsAt (loadedWorld w) calls i
+demand-3 w calls loaded no-loads i =
     let start = loadedWorld w in
     let reached = loaded-reached w loaded in
-    let kept = calls-keep start (take i calls) reached in
-    let here = any-keeps (callAt calls i) (point start calls i) (kept .reached) in
+    let so-far = listed-take i calls no-loads in
+    let kept = calls-keep start (take i calls) so-far reached in
+    let here = any-keeps (callAt calls i) (listed-at calls i no-loads) (point start calls i) (kept .reached) in
     record {
       gasKept = kept .gasKept;
       airKept = kept .airKept;
-      ratioKept = λ t z j h le. points-ratio any-keeps i j start calls reached le t z h;
+      ratioKept = λ t z j h le. points-ratio any-keeps i j start calls no-loads reached le t z h;
       inRange = λ t h e. point-range start calls i t (here .inRange t (rw (kept .sameGrid) h) e);
       independent =
           λ own v other alike.
           let vv = loaded-reached v other in
-          let now = list-alike any-keeps own start (loadedWorld v) (take i calls) reached vv alike in
-          let same = here .independent own (point (loadedWorld v) calls i) (calls-keep (loadedWorld v) (take i calls) vv .reached) now in
+          let now = list-alike any-keeps own start (loadedWorld v) (take i calls) so-far reached vv (loaded-alike w v loaded other own alike) in
+          let same = here .independent own (point (loadedWorld v) calls i) (calls-keep (loadedWorld v) (take i calls) so-far vv .reached) now in
           (now, λ named. same .1 (names-grid own (point start calls i) start (kept .sameGrid) (meaning (callAt calls i) .names) ∙ named));
     }
 
 -- A world that calls reach from an accepted load never meets the refusals 1 to 4 again, but 2 for the list that a call itself lends: the refusal is that of the call's own places alone
 pub reached :
-    (w : World) (calls : List Call) → Loaded w → (i : ℕ) →
+    (w : World) (calls : List Call) → Loaded w → listed calls ≡ true → (i : ℕ) →
     Reached (point (loadedWorld w) calls i) × ((call : Call) → lentFits (loadedWorld w .grid) call ≡ true → refusal (point (loadedWorld w) calls i) call ≡ firstOf (ownPlaces call) (point (loadedWorld w) calls i))
-reached w calls start i =
-    let kept = calls-keep (loadedWorld w) (take i calls) (loaded-reached w start) in (
+reached w calls start no-loads i =
+    let kept = calls-keep (loadedWorld w) (take i calls) (listed-take i calls no-loads) (loaded-reached w start) in (
       kept .reached,
       λ call lent. own-refusal (point (loadedWorld w) calls i) call (kept .reached .fits) (rw (kept .sameGrid) lent),
     )
 
--- A list that meets the premise, its answers, counts and totals by computation, so that the theorem is not empty: the world of m9, and calls of every kind, four of them refused.
--- A load in a list tests the world as it stands and leaves it as it is: no call brings in other numbers than those lent.
+-- There no record of emitters is broken, so that 5 is never given for one; the reading of the units a tick is accepted, and gives the sum over the emitters present
+pub emitters-reached :
+    (w : World) (calls : List Call) → Loaded w → listed calls ≡ true → (i : ℕ) →
+    let now = point (loadedWorld w) calls i in
+    (brokenRecord .applies now ≡ false)
+    × ((t : ℕ) → t < loadedWorld w .grid .N → (step now (unitsATick t) .answer ≡ 0) × (step now (unitsATick t) .count ≡ presentUnits (block now t)))
+unfolding ownPlaces
+emitters-reached w calls start no-loads i =
+    let now = point (loadedWorld w) calls i in
+    let kept = calls-keep (loadedWorld w) (take i calls) (listed-take i calls no-loads) (loaded-reached w start) in (
+      record-sound (kept .reached),
+      λ t h.
+          let answer : step now (unitsATick t) .answer ≡ 0 =
+          answer-is now (unitsATick t) ∙ own-refusal now (unitsATick t) (kept .reached .fits) refl ∙
+          record-left now (kept .reached) t (rw (kept .sameGrid) h) [] ∙ no-place now in
+          (answer, reading-is-sum now t answer),
+    )
+
+-- A list that meets the premises, its answers, counts and totals by computation, so that the theorem is not empty: the world of m9, and calls of every kind, six of them refused.
 abbrev worked : List Call
 worked =
     emission 0 1 268433655 ∷ emission 0 1 1 ∷ withdrawal 0 1 268433600 ∷ emission 0 3 20 ∷
@@ -101,7 +125,7 @@ worked =
     longZonal 1 0 (four (pos 0) (pos 1000) (pos 0) (pos 0)) ∷
     remap (0 ∷ 0 ∷ 0 ∷ 32768 ∷ 200 ∷ 0 ∷ 0 ∷ 65536 ∷ []) ∷
     remap (0 ∷ 0 ∷ 200 ∷ 0 ∷ 200 ∷ 0 ∷ 0 ∷ 65536 ∷ []) ∷
-    load ∷
+    addEmitter 0 8 77 5 ∷ addEmitter 0 9 77 6 ∷ tick 0 ∷ unitsATick 0 ∷ removeEmitter 0 77 ∷ removeEmitter 0 77 ∷
     total 0 ∷
     cell 0 8 ∷
     []
@@ -110,29 +134,39 @@ pub worked-start : Loaded stair
 unfolding computes
 worked-start = refl
 
-pub worked-answers : tab 14 (λ i. step (point (loadedWorld stair) worked i) (callAt worked i) .answer) ≡ 0 ∷ 6 ∷ 0 ∷ 0 ∷ 0 ∷ 0 ∷ 9 ∷ 0 ∷ 16 ∷ 0 ∷ 12 ∷ 0 ∷ 0 ∷ 0 ∷ []
+worked-listed : listed worked ≡ true
+unfolding listed
+worked-listed = refl
+
+pub worked-answers :
+    tab 19 (λ i. step (point (loadedWorld stair) worked i) (callAt worked i) .answer) ≡
+    0 ∷ 6 ∷ 0 ∷ 0 ∷ 0 ∷ 0 ∷ 9 ∷ 0 ∷ 16 ∷ 0 ∷ 12 ∷ 0 ∷ 18 ∷ 0 ∷ 0 ∷ 0 ∷ 19 ∷ 0 ∷ 0 ∷ []
 unfolding computes after
 worked-answers = refl
 
-pub worked-counts : tab 14 (λ i. step (point (loadedWorld stair) worked i) (callAt worked i) .count) ≡ 0 ∷ 0 ∷ 0 ∷ 0 ∷ 1 ∷ 1 ∷ 0 ∷ 0 ∷ 0 ∷ 28 ∷ 0 ∷ 0 ∷ 1875 ∷ 177 ∷ []
+pub worked-counts :
+    tab 19 (λ i. step (point (loadedWorld stair) worked i) (callAt worked i) .count) ≡
+    0 ∷ 0 ∷ 0 ∷ 0 ∷ 1 ∷ 1 ∷ 0 ∷ 0 ∷ 0 ∷ 28 ∷ 0 ∷ 0 ∷ 0 ∷ 0 ∷ 5 ∷ 0 ∷ 0 ∷ 1880 ∷ 182 ∷ []
 unfolding computes after
 worked-counts = refl
 
-pub worked-totals : tab 15 (λ i. gasTotal (point (loadedWorld stair) worked i) 0) ≡ 1800 ∷ 268435455 ∷ 268435455 ∷ 1855 ∷ replicate 11 1875
+pub worked-totals :
+    tab 20 (λ i. gasTotal (point (loadedWorld stair) worked i) 0) ≡ 1800 ∷ 268435455 ∷ 268435455 ∷ 1855 ∷ replicate 10 1875 ++ replicate 6 1880
 unfolding computes after
 worked-totals = refl
 
-pub worked-air : tab 15 (λ i. airTotal (point (loadedWorld stair) worked i)) ≡ replicate 15 1800
+pub worked-air : tab 20 (λ i. airTotal (point (loadedWorld stair) worked i)) ≡ replicate 20 1800
 unfolding computes after
 worked-air = refl
 
-pub worked-emitted : tab 15 (λ i. history (loadedWorld stair) 0 (take i worked) .emitted) ≡ 0 ∷ replicate 3 268433655 ++ replicate 11 268433675
+pub worked-emitted :
+    tab 20 (λ i. history (loadedWorld stair) 0 (take i worked) .emitted) ≡ 0 ∷ replicate 3 268433655 ++ replicate 10 268433675 ++ replicate 6 268433680
 unfolding computes history
 worked-emitted = refl
 
-pub worked-withdrawn : tab 15 (λ i. history (loadedWorld stair) 0 (take i worked) .withdrawn) ≡ replicate 3 0 ++ replicate 12 268433600
+pub worked-withdrawn : tab 20 (λ i. history (loadedWorld stair) 0 (take i worked) .withdrawn) ≡ replicate 3 0 ++ replicate 17 268433600
 unfolding computes history
 worked-withdrawn = refl
 
 pub worked-holds : (i : ℕ) → HoldsAt (loadedWorld stair) worked i
-worked-holds = demand-3 stair worked worked-start
+worked-holds = demand-3 stair worked worked-start worked-listed

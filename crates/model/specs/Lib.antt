@@ -6,9 +6,11 @@ pub mod Sweep
 pub mod Remap
 pub mod Long
 pub mod Range
+pub mod Emitters
 pub mod Step
 pub mod Lists
 pub mod Cases
 pub mod Laws
 pub mod Demand3
 pub mod Corollaries
+pub mod Inventory

@@ -1,4 +1,4 @@
--- The numbers that document 01 names, and the greatest sizes that follow from them, each once. Laws use only the facts of them that they need.
+-- The numbers that documents 01 and 02 name, and the greatest sizes that follow from them, each once. Laws use only the facts of them that they need.
 use Prim.Native.Nat.{ℕ}
 
 -- "W columns round the globe (4 to 72), R rows from south to north (1 to 44), K layers from the top down (1 to 32) and N tracers (1 to 8)"
@@ -57,6 +57,14 @@ tableLimit = 2097120
 -- "the smallest n from 1 to 16"
 abbrev pub mostSubsteps : ℕ
 mostSubsteps = 16
+
+-- (02) "Keep up to 16 standing emitters for each tracer"
+abbrev pub mostEmitters : ℕ
+mostEmitters = 16
+
+-- the numbers of the ledger for each tracer: three, and three for each emitter (Emitters.antt)
+abbrev pub blockNumbers : ℕ
+blockNumbers = 51
 
 -- "K·C above 2,048 or N above 2": the largest world that the runner program takes
 abbrev pub programCells : ℕ

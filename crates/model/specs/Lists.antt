@@ -1,13 +1,13 @@
 -- Document 01, "Lists": a list of calls run with `step`, its points, and what the four parts of demand 3 speak of.
 use Prim.Native.Nat.{ℕ, zero, suc, _+_, _*_, _<_}
 use mathlib.Core.List.{List, [], _∷_}
-use mathlib.Core.Bool.{Bool, true, false}
+use mathlib.Core.Bool.{Bool, true, false, _&&_}
 use mathlib.Core.Path.{_≡_}
 use lib.Dec.{ltb}
 use lib.ListN.{getD, take}
 use Rattle.model.specs.Basic.{at}
-use Rattle.model.specs.World.{World, worldCells, gas}
-use Rattle.model.specs.Step.{Call, load, Exchange, noExchange, Named, nobody, tracer, meaning, step}
+use Rattle.model.specs.World.{World, worldCells, gas, block}
+use Rattle.model.specs.Step.{Call, load, total, Exchange, noExchange, Named, nobody, tracer, meaning, step}
 
 -- "It starts with the world of an accepted load": that `step` accepts the load of w, and the world that it leaves
 abbrev pub Loaded : World → Type 0
@@ -16,9 +16,14 @@ Loaded w = step w load .answer ≡ 0
 abbrev pub loadedWorld : World → World
 loadedWorld w = step w load .next
 
--- call i of a list; a load past its end
+-- "A list holds emissions, withdrawals, zonal and meridional sweeps and remaps"; (02) "Lists may hold these and all later calls": every call but a load
+unfoldable pub listed : List Call → Bool
+listed [] = true
+listed (call ∷ calls) = meaning call .listed && listed calls
+
+-- call i of a list; past its end a reading, which changes nothing
 abbrev pub callAt : List Call → ℕ → Call
-callAt calls i = getD calls i load
+callAt calls i = getD calls i (total 0)
 
 -- "Each call gets the world .. as the last one left .. it": the world after a list of calls
 unfoldable pub after : World → List Call → World
@@ -49,10 +54,17 @@ abbrev pub CallInRange : World → World → ℕ → Call → Type 0
 CallInRange w next t call = meaning call .range w next t
 
 -- "Take two accepted loads on the same grid, N included, alike in all but the other tracers": `own` tells the tracers that are not the others
+pub record LoadedAlike (own : ℕ → Bool) (w v : World) : Type 0 where
+  pub sameGrid : w .grid ≡ v .grid
+  pub sameAir : w .air ≡ v .air
+  pub sameGas : (t : ℕ) → own t ≡ true → gas w t ≡ gas v t
+
+-- "At each point the air and this tracer's amounts are the same in both", and its emitters
 pub record Alike (own : ℕ → Bool) (w v : World) : Type 0 where
   pub sameGrid : w .grid ≡ v .grid
   pub sameAir : w .air ≡ v .air
   pub sameGas : (t : ℕ) → own t ≡ true → gas w t ≡ gas v t
+  pub sameEmitters : (t : ℕ) → own t ≡ true → block w t ≡ block v t
 
 -- "calls that name no other tracer": an absent tracer's number names none
 abbrev pub namesOwn : (ℕ → Bool) → World → Named → Bool

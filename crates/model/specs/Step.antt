@@ -1,19 +1,20 @@
--- Document 01, "Refusals by place of checking" and "Emission, withdrawal, load, readings", and the long sweep of document 02: a call, what it means, and `step`, what it answers and leaves.
+-- Document 01, "Refusals by place of checking" and "Emission, withdrawal, load, readings", and the long sweep and the emitters of document 02: a call, what it means, and `step`, what it answers and leaves.
 -- Total in any world and any arguments. A place's test is computed only when it is reached.
 use Prim.Native.Nat.{ℕ, zero, suc, _+_, _*_, _-_}
 use mathlib.Core.List.{List, [], _∷_, _++_}
-use mathlib.Core.Bool.{Bool, true, false, not, _&&_}
+use mathlib.Core.Bool.{Bool, true, false, not, _&&_, _||_}
 use lib.Dec.{leb, ltb, eqb}
 use lib.ListN.{length, set}
 use lib.IntN.{ℤ, natAbs}
-use Rattle.model.specs.Limits.{mostColumns, mostRows, mostLayers, mostTracers, tableScale, totalLimit, zonalLimit, meridionalLimit, tableLimit}
-use Rattle.model.specs.Basic.{at, part, every}
-use Rattle.model.specs.World.{Grid, World, layerCells, worldCells, layerStart, rowStart, tracerStart, withAmounts, gas, gasTotal, airFits}
+use Rattle.model.specs.Limits.{mostColumns, mostRows, mostLayers, mostTracers, tableScale, totalLimit, zonalLimit, meridionalLimit, tableLimit, mostEmitters, blockNumbers}
+use Rattle.model.specs.Basic.{at, part, every, zeros}
+use Rattle.model.specs.World.{Grid, World, layerCells, worldCells, layerStart, rowStart, tracerStart, withAmounts, withLedger, gas, withGas, block, withBlock, gasTotal, airFits}
 use Rattle.model.specs.Scheme.{ruleOf}
 use Rattle.model.specs.Sweep.{Mesh, ring, layer, flux, airAfter, gasAfter, serves, substepCount, swept}
 use Rattle.model.specs.Remap.{airAbove, remapServes, remapCount, remapped}
 use Rattle.model.specs.Long.{longAirFits, longSwept}
 use Rattle.model.specs.Range.{SweepInRange, RemapInRange, LongInRange}
+use Rattle.model.specs.Emitters.{standing, keptUnits, hasId, recordFits, emitterAdded, emitterRemoved, ticked}
 
 -- A call, with its arguments as lent
 pub data Call : Type 0 where
@@ -26,6 +27,10 @@ pub data Call : Type 0 where
   remap : List ℕ → Call
   total : (t : ℕ) → Call
   cell : (t c : ℕ) → Call
+  addEmitter : (t c id units : ℕ) → Call
+  removeEmitter : (t id : ℕ) → Call
+  tick : (t : ℕ) → Call
+  unitsATick : (t : ℕ) → Call
 
 -- A place: its number, and the test of whether it applies
 pub record Place : Type 0 where
@@ -52,6 +57,10 @@ gridFits g =
 -- 5: "tracer, cell, layer or row absent": its number is not below the grid's
 abbrev pub absent : ℕ → (Grid → ℕ) → Place
 absent i many = place 5 (λ w. not (ltb i (many (w .grid))))
+
+-- .. and (02) "An emitter record handed in with, for any tracer, an absent cell, an id twice, more than 16 entries or a false sum is refused by 5 in this slip's calls; no other call tests it."
+abbrev pub brokenRecord : Place
+brokenRecord = place 5 (λ w. not (every (w .grid .N) (λ t. recordFits (worldCells (w .grid)) (block w t))))
 
 -- no flux's size exceeds a limit
 abbrev pub fluxesWithin : List ℤ → ℕ → Bool
@@ -92,6 +101,10 @@ pub record Result : Type 0 where
 abbrev pub withAmount : World → ℕ → ℕ → ℕ → World
 withAmount w t c amount = withAmounts w (w .air) (set (w .tracers) (tracerStart (w .grid) t + c) amount)
 
+-- (02) "A load leaves none standing": the world with 0 over its whole ledger
+abbrev pub cleared : World → World
+cleared w = withLedger w (zeros (length (w .ledger)))
+
 -- The units of one tracer that come in and go out
 pub record Exchange : Type 0 where
   pub emitted : ℕ
@@ -105,8 +118,9 @@ pub data Named : Type 0 where
   nobody : Named
   tracer : ℕ → Named
 
--- What a call means: whether the list that it lends has the grid's length; its own places, in the table's order; where it is accepted, its count and the world afterwards; the tracer that it names; what it exchanges of tracer t, and the range that it promises for tracer t from the world before it to the world afterwards, where it is accepted
+-- What a call means: whether a list of calls may hold it; whether the list that it lends has the grid's length; its own places, in the table's order; where it is accepted, its count and the world afterwards; the tracer that it names; what it exchanges of tracer t, and the range that it promises for tracer t from the world before it to the world afterwards, where it is accepted
 pub record Meaning : Type 1 where
+  pub listed : Bool
   pub lent : Grid → Bool
   pub places : List Place
   pub count : World → ℕ
@@ -119,6 +133,7 @@ pub record Meaning : Type 1 where
 abbrev pub reads : Named → List Place → (World → ℕ) → Meaning
 reads names places count =
     record {
+      listed = true;
       lent = λ g. true;
       places = places;
       count = count;
@@ -132,6 +147,7 @@ reads names places count =
 abbrev pub changes : ℕ → ℕ → Place → (ℕ → ℕ) → Exchange → Meaning
 changes t c refusing new x =
     record {
+      listed = true;
       lent = λ g. true;
       places = absent t (λ g. g .N) ∷ absent c worldCells ∷ refusing ∷ [];
       count = λ w. 0;
@@ -141,11 +157,26 @@ changes t c refusing new x =
       range = λ w next t'. Unit {0};
     }
 
+-- one that changes the emitters of tracer t
+abbrev pub enters : ℕ → List Place → (List ℕ → List ℕ) → Meaning
+enters t places new =
+    record {
+      listed = true;
+      lent = λ g. true;
+      places = places;
+      count = λ w. 0;
+      next = λ w. withBlock w t (new (block w t));
+      names = tracer t;
+      exchange = λ w t'. noExchange;
+      range = λ w next t'. Unit {0};
+    }
+
 -- one that sweeps the cells of a mesh, from cell `start` on
 abbrev pub sweeps : (Grid → Mesh) → (Grid → ℕ) → List ℤ → (World → ℕ) → (Grid → Bool) → List Place → Meaning
 sweeps mesh start fluxes count lent places =
     let cells : World → List ℕ → List ℕ = λ w l. part l (start (w .grid)) (mesh (w .grid) .cells) in
     record {
+      listed = true;
       lent = lent;
       places = places;
       count = count;
@@ -161,7 +192,18 @@ sweeps mesh start fluxes count lent places =
 
 abbrev pub meaning : Call → Meaning
 -- "A load checks lent air and tracers, changes nothing in them, and they are the world from then on."
-meaning load = reads nobody [] (λ w. 0)
+-- (02) "A load leaves none standing, and doesn't test the old ones." It begins a list and stands in none.
+meaning load =
+    record {
+      listed = false;
+      lent = λ g. true;
+      places = [];
+      count = λ w. 0;
+      next = cleared;
+      names = nobody;
+      exchange = λ w t. noExchange;
+      range = λ w next t. Unit {0};
+    }
 -- "Emission adds, and withdrawal takes, an amount". 6: "total would pass 268,435,455". 7: "cell has less than the amount"
 meaning (emission t c amount) =
     changes t c (place 6 (λ w. ltb totalLimit (gasTotal w t + amount))) (λ T. T + amount) (record { emitted = amount; withdrawn = 0 })
@@ -174,6 +216,7 @@ meaning (zonal k r fluxes) =
 -- 16: "when a flux's size exceeds the row's air", 17: "when air afterwards leaves 1 to 65,535", "in that order after 8, with its zonal limit, in a long sweep"
 meaning (longZonal k r fluxes) =
     record {
+      listed = true;
       lent = λ g. eqb (length fluxes) (g .W);
       places =
           absent k (λ g. g .K) ∷ absent r (λ g. g .R) ∷ fluxTooLarge fluxes zonalLimit ∷
@@ -191,6 +234,7 @@ meaning (meridional k fluxes) =
     (absent k (λ g. g .K) ∷ fluxTooLarge fluxes meridionalLimit ∷ place 10 (λ w. not (serves (layer (w .grid .W) (w .grid .R)) fluxes (layerAir w k) 1)) ∷ [])
 meaning (remap table) =
     record {
+      listed = true;
       lent = λ g. eqb (length table) (2 * (g .K + 1));
       places = place 11 (λ w. not (tableFits (w .grid .K) table)) ∷ place 12 (λ w. not (remapServes w table)) ∷ [];
       count = λ w. remapCount w table;
@@ -202,6 +246,29 @@ meaning (remap table) =
 -- "Readings give a tracer's total or one cell's amount as the count."
 meaning (total t) = reads (tracer t) (absent t (λ g. g .N) ∷ []) (λ w. gasTotal w t)
 meaning (cell t c) = reads (tracer t) (absent t (λ g. g .N) ∷ absent c worldCells ∷ []) (λ w. amountAt w t c)
+-- (02) 18: "when the tracer has 16 emitters or already has that id, 19 when the id is absent, each after 5 in its call"
+meaning (addEmitter t c id units) =
+    enters t
+    (absent t (λ g. g .N) ∷ absent c worldCells ∷ brokenRecord ∷ place 18 (λ w. leb mostEmitters (standing (block w t)) || hasId (block w t) id) ∷ [])
+    (λ b. emitterAdded b id c units)
+meaning (removeEmitter t id) =
+    enters t
+    (absent t (λ g. g .N) ∷ brokenRecord ∷ place 19 (λ w. not (hasId (block w t) id)) ∷ [])
+    (λ b. emitterRemoved b id)
+-- (02) "A tick names one tracer and emits all its emitters, or is refused whole by 6."; "a tick counts there as an emission of that sum"
+meaning (tick t) =
+    record {
+      listed = true;
+      lent = λ g. true;
+      places = absent t (λ g. g .N) ∷ brokenRecord ∷ place 6 (λ w. ltb totalLimit (gasTotal w t + keptUnits (block w t))) ∷ [];
+      count = λ w. 0;
+      next = λ w. withGas w t (ticked (block w t) (standing (block w t)) (gas w t));
+      names = tracer t;
+      exchange = λ w t'. elim (eqb t t') [ true ↦ record { emitted = keptUnits (block w t); withdrawn = 0 } | false ↦ noExchange ];
+      range = λ w next t'. Unit {0};
+    }
+-- (02) "A reading gives the tracer's units a tick, kept up to date"
+meaning (unitsATick t) = reads (tracer t) (absent t (λ g. g .N) ∷ brokenRecord ∷ []) (λ w. keptUnits (block w t))
 
 -- 2: "a lent length is not the grid's"; a sweep's fluxes and a remap's table are lent too
 abbrev pub lentFits : Grid → Call → Bool
@@ -211,6 +278,7 @@ abbrev pub lengthsFit : World → Call → Bool
 lengthsFit w call =
     eqb (length (w .air)) (worldCells (w .grid)) &&
     eqb (length (w .tracers)) (w .grid .N * worldCells (w .grid)) &&
+    eqb (length (w .ledger)) (w .grid .N * blockNumbers) &&
     lentFits (w .grid) call
 
 -- "every call": places 1 to 4. 3: "a cell's air is 0 or above 65,535". 4: "a tracer's total above 268,435,455"

@@ -3,7 +3,7 @@ use Prim.Native.Nat.{ℕ, _+_, _*_}
 use mathlib.Core.List.{List}
 use mathlib.Core.Bool.{Bool, _&&_}
 use lib.Dec.{leb}
-use Rattle.model.specs.Limits.{airLimit}
+use Rattle.model.specs.Limits.{airLimit, blockNumbers}
 use Rattle.model.specs.Basic.{at, part, written, sum, tab, joined}
 
 -- "W columns round the globe .., R rows from south to north .., K layers from the top down .. and N tracers"
@@ -33,19 +33,35 @@ rowStart g k r = layerStart g k + (1 + r * g .W)
 abbrev pub tracerStart : Grid → ℕ → ℕ
 tracerStart g t = t * worldCells g
 
--- A world: the grid's numbers, all air, all tracers
+-- A world: the grid's numbers, all air, all tracers, and the ledger, which holds a block of numbers for each tracer
 pub record World : Type 0 where
   pub grid : Grid
   pub air : List ℕ
   pub tracers : List ℕ
+  pub ledger : List ℕ
 
 -- a world with other air and other tracers
 abbrev pub withAmounts : World → List ℕ → List ℕ → World
-withAmounts w air tracers = record { grid = w .grid; air = air; tracers = tracers }
+withAmounts w air tracers = record { grid = w .grid; air = air; tracers = tracers; ledger = w .ledger }
+
+-- one with another ledger
+abbrev pub withLedger : World → List ℕ → World
+withLedger w ledger = record { grid = w .grid; air = w .air; tracers = w .tracers; ledger = ledger }
 
 -- the amounts of tracer t in all cells
 abbrev pub gas : World → ℕ → List ℕ
 gas w t = part (w .tracers) (tracerStart (w .grid) t) (worldCells (w .grid))
+
+-- a world with other amounts of tracer t
+abbrev pub withGas : World → ℕ → List ℕ → World
+withGas w t new = withAmounts w (w .air) (written (w .tracers) (tracerStart (w .grid) t) new)
+
+-- tracer t's block of the ledger, and a world with another one
+abbrev pub block : World → ℕ → List ℕ
+block w t = part (w .ledger) (t * blockNumbers) blockNumbers
+
+abbrev pub withBlock : World → ℕ → List ℕ → World
+withBlock w t new = withLedger w (written (w .ledger) (t * blockNumbers) new)
 
 -- "A gas total is one tracer's sum over all cells, total air the sum of all air"
 abbrev pub gasTotal : World → ℕ → ℕ

@@ -1,4 +1,4 @@
--- What load, emission, withdrawal and the two readings keep when they are accepted: the calls that move no air.
+-- What emission, withdrawal and the two readings keep when they are accepted: calls that move no air and no emitter.
 -- Assumes a world that calls reach.
 use Prim.Native.Nat.{ℕ, _+_, _-_, _≤_, _<_}
 use mathlib.Core.List.{List, [], _∷_}
@@ -14,7 +14,7 @@ use lib.Seq.{set-getD}
 use Rattle.model.specs.Limits.{totalLimit}
 use Rattle.model.specs.Basic.{at}
 use Rattle.model.specs.World.{World, worldCells, gas, gasTotal}
-use Rattle.model.specs.Step.{load, emission, withdrawal, total, cell, Place, firstOf, absent, withAmount, amountAt, Exchange, noExchange, nobody, tracer, meaning, changes}
+use Rattle.model.specs.Step.{emission, withdrawal, total, cell, Place, firstOf, absent, withAmount, amountAt, Exchange, noExchange, tracer, meaning, changes}
 use Rattle.model.specs.Lists.{Alike}
 use Rattle.model.specs.Laws.World.{length-gas, gas-changed, gas-unchanged, total-changed}
 use Rattle.model.specs.Laws.Step.{Fits, Reached, passed, found}
@@ -53,9 +53,11 @@ module _ (w : World) (reached : Reached w) (t c x : ℕ) (present : t < w .grid 
                 grid = fits .grid;
                 airLength = fits .airLength;
                 tracersLength = length-set (w .tracers) _ x ∙ fits .tracersLength;
+                ledgerLength = fits .ledgerLength;
                 air = fits .air;
                 totals = λ t' h. totals t' h (ℕ-discrete t' t);
               };
+              emitters = reached .emitters;
             };
         sameGrid = refl;
         gasKept = λ t' h. kept t' h (ℕ-discrete t' t);
@@ -95,7 +97,12 @@ module _ (own : ℕ → Bool) (w : World) (t c : ℕ) (inside : c < worldCells (
       (v : World) → Alike own w v → gas w t ≡ gas v t → (f : ℕ → ℕ) →
       Alike own (withAmount w t c (f (amountAt w t c))) (withAmount v t c (f (amountAt v t c)))
   amount-alike v a named f =
-      record { sameGrid = a .sameGrid; sameAir = a .sameAir; sameGas = λ t' o. same t' o (ℕ-discrete t' t) }
+      record {
+        sameGrid = a .sameGrid;
+        sameAir = a .sameAir;
+        sameGas = λ t' o. same t' o (ℕ-discrete t' t);
+        sameEmitters = a .sameEmitters;
+      }
     where
       x : ℕ
       x = f (amountAt w t c)
@@ -117,22 +124,20 @@ module _ (own : ℕ → Bool) (w : World) (t c : ℕ) (inside : c < worldCells (
         sameGrid = refl;
         sameAir = refl;
         sameGas = λ t' o. sym (gas-unchanged w t c x inside t' (λ q. true≢false (sym o ∙ ap own q ∙ other)));
+        sameEmitters = λ t' o. refl;
       }
 
 -- ---- the calls
-pub load-keeps : MeaningKeeps (meaning load)
-load-keeps = reads-keep nobody [] _ (λ own w v a named. none-alike own w v a) (λ own w v a named e. refl)
-
 pub total-keeps : (t : ℕ) → MeaningKeeps (meaning (total t))
 total-keeps t =
     reads-keep (tracer t) _ _
-    (λ own w v a named. absent-alike own w v a t (λ g. g .N) [] (λ present. none-alike own w v a))
+    (λ own w v ww vv a named. absent-alike own w v a t (λ g. g .N) [] (λ present. none-alike own w v a))
     (λ own w v a named e. named-total-alike own w v a t named (found t (λ g. g .N) [] w e .0))
 
 pub cell-keeps : (t c : ℕ) → MeaningKeeps (meaning (cell t c))
 cell-keeps t c =
     reads-keep (tracer t) _ _
-    (λ own w v a named. tracer-cell-alike own w v a t c [] (λ present. none-alike own w v a))
+    (λ own w v ww vv a named. tracer-cell-alike own w v a t c [] (λ present. none-alike own w v a))
     (λ own w v a named e. ap (λ (l : List ℕ). at l c) (named-alike own w v a t named (found t (λ g. g .N) _ w e .0)))
 
 -- a call that changes one amount, where its last place reads no other gas, and leaves room for what comes in and goes out
@@ -143,7 +148,7 @@ changes-keep :
 changes-keep t c last new x reading room =
     record {
       samePlaces =
-          λ own w v a named.
+          λ own w v ww vv a named.
           tracer-cell-alike own w v a t c _
           (λ present. last-alike own w v a last (reading own w v a (named-alike own w v a t named present) (named-total-alike own w v a t named present)));
       accepts =

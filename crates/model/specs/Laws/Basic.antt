@@ -1,17 +1,17 @@
 -- Laws of the words of Basic.antt: sums, lists of values, every, some, smallest, a part of a list and a part written.
-use Prim.Native.Nat.{ℕ, zero, suc, _+_, _*_, _-_, _≤_, _<_}
+use Prim.Native.Nat.{ℕ, zero, suc, _+_, _*_, _-_, _≤_, _<_, min}
 use mathlib.Core.List.{List, [], _∷_, _++_, append-assoc}
 use mathlib.Core.Bool.{Bool, true, false, and-eq-true-iff, or-true, or-false, _&&_, _||_, false≢true}
 use mathlib.Core.Path.{_≡_, refl, sym, _∙_, ap, ap₂}
-use mathlib.Core.Logic.{_⊎_, inl, inr, ⊎-elim}
-use native.Mathlib.Nat.{zero-add, zero-mul, suc-mul, add-zero, add-assoc, mul-zero, le-refl, add-suc, eq-or-lt-of-le}
+use mathlib.Core.Logic.{_⊎_, inl, inr, ⊎-elim, _≢_}
+use native.Mathlib.Nat.{min-le-left, mul-le-mul-right, zero-add, zero-mul, suc-mul, add-zero, add-assoc, mul-zero, le-refl, add-suc, eq-or-lt-of-le}
 use native.Mathlib.Numerals.{add-one}
 use native.Mathlib.Omega.{arith}
 use borrow.Author.Tests.{ltb-true, ltb-false}
 use lib.Dec.{ltb}
-use lib.ListN.{length, getD, take, drop, set, length-append, length-take, length-drop, List·getD-append}
+use lib.ListN.{length, getD, take, drop, set, length-append, length-take, length-drop, List·getD-append, List·getD-eq-default}
 use lib.Seq.{getD-take, getD-drop, getD-set-same, getD-set-other, take-set-lt, take-set-le, drop-set-add, drop-set-lt, ext-getD, length-take-le, getD-append-add, drop-append-add, take-at, drop-at}
-use Rattle.model.specs.Basic.{at, part, written, joined, tabFrom, tab, sum, every, some, smallest}
+use Rattle.model.specs.Basic.{at, part, written, joined, tabFrom, tab, zeros, sum, every, some, smallest}
 
 -- ---- numbers below n + 1: those below n, and n
 pub below-cases : {i n : ℕ} → i < suc n → (i ≡ n) ⊎ (i < n)
@@ -73,6 +73,16 @@ sum-set (suc n) l i x h fits =
     (λ p. rw (getD-set-other l i n x 0 (omega arith)) (omega (arith, sum-set n l i x p (omega arith))))
     (below-cases h)
 
+-- a sum of which one term is another one
+pub sum-changed : (n : ℕ) (f g : ℕ → ℕ) (i : ℕ) → i < n → ((j : ℕ) → j < n → j ≢ i → g j ≡ f j) → sum n g + f i ≡ sum n f + g i
+unfolding sum
+sum-changed zero f g i h same = absurd (omega arith)
+sum-changed (suc n) f g i h same =
+    ⊎-elim
+    (λ (e : i ≡ n). rw (e, sum-ext n g f (λ j p. same j (omega arith) (omega arith))) (omega arith))
+    (λ p. omega (arith, sum-changed n f g i p (λ j q. same j (omega arith)), same n (omega arith) (omega arith)))
+    (below-cases h)
+
 pub sum-split : (a b : ℕ) (f : ℕ → ℕ) → sum (a + b) f ≡ sum a f + sum b (λ i. f (a + i))
 unfolding sum
 sum-split a zero f = rw (add-zero a, add-zero)
@@ -131,6 +141,16 @@ getD-tab n f j d h = getD-tabFrom 0 n f j d h ∙ ap f (zero-add j)
 
 pub at-tab : (n : ℕ) (f : ℕ → ℕ) (j : ℕ) → j < n → at (tab n f) j ≡ f j
 at-tab n f j h = getD-tab n f j 0 h
+
+pub length-zeros : (n : ℕ) → length (zeros n) ≡ n
+length-zeros n = length-tab n (λ i. 0)
+
+pub at-zeros : (n i : ℕ) → at (zeros n) i ≡ 0
+at-zeros n i = go (ltb i n) refl
+  where
+    go : (b : Bool) → ltb i n ≡ b → at (zeros n) i ≡ 0
+    go true e = at-tab n (λ i. 0) i (ltb-true i n e)
+    go false e = List·getD-eq-default (zeros n) 0 (rw (length-zeros n) (ltb-false i n e))
 
 pub sum-tab : (n : ℕ) (f : ℕ → ℕ) → sum n (at (tab n f)) ≡ sum n f
 sum-tab n f = sum-ext n (at (tab n f)) f (at-tab n f)
@@ -296,6 +316,19 @@ module _ (l new : List ℕ) (a m n : ℕ) (whole : length l ≡ n) (size : lengt
   pub part-written : part (written l a new) a m ≡ new
   part-written = rw (append-assoc, drop-at (take a l) _ a front) (take-at new _ m size)
 
+  -- a part beside it is as it was
+  pub part-beside : (b k : ℕ) → (b + k ≤ a) ⊎ (a + m ≤ b) → part (written l a new) b k ≡ part l b k
+  part-beside b k beside =
+      ext-getD 0 (part (written l a new) b k) (part l b k)
+      (simp (length-take, length-drop) (ap (λ (x : ℕ). min k (x - b)) (length-written ∙ sym whole)))
+      (λ i h.
+      let few : i < k = omega (arith, length-take k (drop b (written l a new)), min-le-left k (length (drop b (written l a new)))) in
+      at-part (written l a new) b k i few ∙ at-written-outside (b + i) (go i few beside) ∙ sym (at-part l b k i few))
+    where
+      go : (i : ℕ) → i < k → (b + k ≤ a) ⊎ (a + m ≤ b) → Outside a m (b + i)
+      go i h (inl p) = inl (omega arith)
+      go i h (inr p) = inr (omega arith)
+
   -- the sum: with what stood there before, as it was with what stands there now
   pub sum-written : sum n (at (written l a new)) + sum m (at (part l a m)) ≡ sum n (at l) + sum m (at new)
   sum-written =
@@ -349,3 +382,21 @@ every-none p = refl
 pub every-more : (n : ℕ) (p : ℕ → Bool) → every (n + 1) p ≡ every n p && p n
 unfolding every
 every-more n p = rw add-one
+
+-- ---- n parts of m entries each, of which part t is written anew
+module _ (l new : List ℕ) (n m t : ℕ) (whole : length l ≡ n * m) (size : length new ≡ m) (there : t < n) where
+  inside : t * m + m ≤ n * m
+  inside = omega (arith, mul-le-mul-right m there)
+
+  pub length-rewritten : length (written l (t * m) new) ≡ n * m
+  length-rewritten = length-written l new (t * m) m (n * m) whole size inside
+
+  pub part-rewritten : part (written l (t * m) new) (t * m) m ≡ new
+  part-rewritten = part-written l new (t * m) m (n * m) whole size inside
+
+  pub part-not-rewritten : (u : ℕ) → u ≢ t → part (written l (t * m) new) (u * m) m ≡ part l (u * m) m
+  part-not-rewritten u other = part-beside l new (t * m) m (n * m) whole size inside (u * m) m (go (le-or-lt t u))
+    where
+      go : (t ≤ u) ⊎ (u < t) → (u * m + m ≤ t * m) ⊎ (t * m + m ≤ u * m)
+      go (inl h) = let later : suc t ≤ u = omega arith in inr (omega (arith, mul-le-mul-right m later))
+      go (inr h) = inl (omega (arith, mul-le-mul-right m h))

@@ -8,7 +8,7 @@ use native.Mathlib.Omega.{arith}
 use borrow.Author.Tests.{ltb-true, lt-ltb, not-false}
 use lib.Dec.{ltb}
 use Rattle.model.specs.Basic.{at, sum}
-use Rattle.model.specs.World.{Grid, World, withAmounts, worldCells, gas, gasTotal, airTotal}
+use Rattle.model.specs.World.{Grid, World, worldCells, gas, block, gasTotal, airTotal}
 use Rattle.model.specs.Step.{Call, Place, firstOf, absent, Exchange, noExchange, Named, nobody, tracer, Meaning, meaning, reads, lentFits, ownPlaces, accepted, refused, refusal, step}
 use Rattle.model.specs.Lists.{exchanged, added, HasRatio, CallInRange, Alike, namesOwn, namesNoOther, SameReply}
 use Rattle.model.specs.Laws.Step.{Reached, firstOf-same, step-accepted, step-refused, answer-is, own-refusal, lent-refusal, accepted-passed}
@@ -56,11 +56,16 @@ kept-trans {w} {v} {u} {x} {y} p q =
 
 -- ---- two worlds alike
 pub alike-same : (own : ℕ → Bool) (w : World) → Alike own w w
-alike-same own w = record { sameGrid = refl; sameAir = refl; sameGas = λ t h. refl }
+alike-same own w = record { sameGrid = refl; sameAir = refl; sameGas = λ t h. refl; sameEmitters = λ t h. refl }
 
 pub alike-sym : {own : ℕ → Bool} {w v : World} → Alike own w v → Alike own v w
 alike-sym a =
-    record { sameGrid = sym (a .sameGrid); sameAir = sym (a .sameAir); sameGas = λ t h. sym (a .sameGas t h) }
+    record {
+      sameGrid = sym (a .sameGrid);
+      sameAir = sym (a .sameAir);
+      sameGas = λ t h. sym (a .sameGas t h);
+      sameEmitters = λ t h. sym (a .sameEmitters t h);
+    }
 
 pub alike-trans : {own : ℕ → Bool} {w v u : World} → Alike own w v → Alike own v u → Alike own w u
 alike-trans a b =
@@ -68,6 +73,7 @@ alike-trans a b =
       sameGrid = a .sameGrid ∙ b .sameGrid;
       sameAir = a .sameAir ∙ b .sameAir;
       sameGas = λ t h. a .sameGas t h ∙ b .sameGas t h;
+      sameEmitters = λ t h. a .sameEmitters t h ∙ b .sameEmitters t h;
     }
 
 -- a present tracer that a call names is an own one, or another
@@ -80,10 +86,17 @@ names-grid own w v sameGrid nobody = refl
 names-grid own w v sameGrid (tracer t) =
     ap (λ (g : Grid). elim (ltb t (g .N)) [ true ↦ own t | false ↦ true ]) sameGrid
 
+-- a world's grid and air, and nothing else of it
+abbrev pub airAlone : World → World
+airAlone w = record { grid = w .grid; air = w .air; tracers = []; ledger = [] }
+
 -- a call in two worlds alike: the gases that it names, and its places
 module _ (own : ℕ → Bool) (w v : World) (alike : Alike own w v) where
   pub named-alike : (t : ℕ) → namesOwn own w (tracer t) ≡ true → t < w .grid .N → gas w t ≡ gas v t
   named-alike t named present = alike .sameGas t (names-present own w t present ∙ named)
+
+  pub named-emitters-alike : (t : ℕ) → namesOwn own w (tracer t) ≡ true → t < w .grid .N → block w t ≡ block v t
+  named-emitters-alike t named present = alike .sameEmitters t (names-present own w t present ∙ named)
 
   pub named-total-alike : (t : ℕ) → namesOwn own w (tracer t) ≡ true → t < w .grid .N → gasTotal w t ≡ gasTotal v t
   named-total-alike t named present =
@@ -106,9 +119,9 @@ module _ (own : ℕ → Bool) (w v : World) (alike : Alike own w v) where
   last-alike p same = firstOf-same p [] w v same (λ passed. none-alike)
 
   -- places that read the grid and the air alone
-  pub air-alike : (ps : List Place) → firstOf ps (withAmounts w (w .air) []) ≡ firstOf ps (withAmounts v (v .air) [])
+  pub air-alike : (ps : List Place) → firstOf ps (airAlone w) ≡ firstOf ps (airAlone v)
   air-alike ps =
-      ap₂ (λ (g : Grid) (a : List ℕ). firstOf ps (record { grid = g; air = a; tracers = [] })) (alike .sameGrid) (alike .sameAir)
+      ap₂ (λ (g : Grid) (a : List ℕ). firstOf ps (record { grid = g; air = a; tracers = []; ledger = [] })) (alike .sameGrid) (alike .sameAir)
 
 -- ---- what a call keeps, by its meaning
 -- one whose own places are passed; `alike` is for a call that names no other gas than the own ones, `apart` for one that names another
@@ -122,13 +135,15 @@ pub record AcceptedKeeps (w : World) (m : Meaning) : Type 0 where
 
 -- its own places do not tell two worlds alike apart, if it names no other gas
 pub record MeaningKeeps (m : Meaning) : Type 0 where
-  pub samePlaces : (own : ℕ → Bool) (w v : World) → Alike own w v → namesOwn own w (m .names) ≡ true → firstOf (m .places) w ≡ firstOf (m .places) v
+  pub samePlaces :
+      (own : ℕ → Bool) (w v : World) → Reached w → Reached v → Alike own w v → namesOwn own w (m .names) ≡ true →
+      firstOf (m .places) w ≡ firstOf (m .places) v
   pub accepts : (w : World) → Reached w → firstOf (m .places) w ≡ 0 → AcceptedKeeps w m
 
 -- a call that reads keeps all, if its places and its count read no other gas than the one that it names
 pub reads-keep :
     (names : Named) (ps : List Place) (count : World → ℕ) →
-    ((own : ℕ → Bool) (w v : World) → Alike own w v → namesOwn own w names ≡ true → firstOf ps w ≡ firstOf ps v) →
+    ((own : ℕ → Bool) (w v : World) → Reached w → Reached v → Alike own w v → namesOwn own w names ≡ true → firstOf ps w ≡ firstOf ps v) →
     ((own : ℕ → Bool) (w v : World) → Alike own w v → namesOwn own w names ≡ true → firstOf ps w ≡ 0 → count w ≡ count v) →
     MeaningKeeps (reads names ps count)
 reads-keep names ps count places counts =
@@ -152,7 +167,7 @@ pub record StepKeeps (w : World) (call : Call) : Type 0 where
       (own : ℕ → Bool) (v : World) → Reached v → Alike own w v →
       Alike own (step w call .next) (step v call .next) × (namesNoOther own w call ≡ true → SameReply w v call)
 
-exchange-accepted : (w : World) (call : Call) → step w call .answer ≡ 0 → (t : ℕ) → exchanged w t call ≡ meaning call .exchange w t
+pub exchange-accepted : (w : World) (call : Call) → step w call .answer ≡ 0 → (t : ℕ) → exchanged w t call ≡ meaning call .exchange w t
 exchange-accepted w call e t = rw (e, exchanged)
 
 exchange-refused : (w : World) (call : Call) (n : ℕ) → step w call .answer ≡ suc n → (t : ℕ) → exchanged w t call ≡ noExchange
@@ -180,7 +195,7 @@ module _ (call : Call) (keeps : MeaningKeeps (meaning call)) where
     where
       go : (b : Bool) → lentFits (w .grid) call ≡ b → refusal w call ≡ refusal v call
       go true e =
-          own-refusal w call (ww .fits) e ∙ keeps .samePlaces own w v alike named ∙
+          own-refusal w call (ww .fits) e ∙ keeps .samePlaces own w v ww vv alike named ∙
           sym (own-refusal v call (vv .fits) (rw (alike .sameGrid) at e))
       go false e = lent-refusal w call (ww .fits) e ∙ sym (lent-refusal v call (vv .fits) (rw (alike .sameGrid) at e))
 

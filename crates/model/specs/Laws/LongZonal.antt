@@ -106,7 +106,7 @@ pub long-keeps : (k r : ℕ) (fluxes : List ℤ) → MeaningKeeps (meaning (long
 unfolding ownPlaces longSwept firstOf
 long-keeps k r fluxes =
     record {
-      samePlaces = λ own w v a named. air-alike own w v a (ownPlaces (longZonal k r fluxes));
+      samePlaces = λ own w v ww vv a named. air-alike own w v a (ownPlaces (longZonal k r fluxes));
       accepts =
           λ w reached e.
           let fits = reached .fits in

@@ -8,7 +8,7 @@ use borrow.Author.Tests.{ltb-true, ltb-false}
 use lib.Dec.{ltb}
 use lib.ListN.{length}
 use Rattle.model.specs.Basic.{at, sum}
-use Rattle.model.specs.World.{World, worldCells, gas, gasTotal, moved}
+use Rattle.model.specs.World.{World, worldCells, gas, block, gasTotal, moved}
 use Rattle.model.specs.Step.{noExchange}
 use Rattle.model.specs.Lists.{Alike}
 use Rattle.model.specs.Laws.Substep.{AirIn}
@@ -43,9 +43,11 @@ moved-kept w reached new change air gases =
               grid = fits .grid;
               airLength = air .airLength;
               tracersLength = length-moved w new change as-many;
+              ledgerLength = fits .ledgerLength;
               air = air .airIn;
               totals = λ t h. rw (total t h) (fits .totals t h);
             };
+            emitters = reached .emitters;
           };
       sameGrid = refl;
       gasKept = λ t h. ap (λ (x : ℕ). x + 0) (total t h);
@@ -71,9 +73,14 @@ pub moved-alike :
     ((t : ℕ) → t < w .grid .N → length (change t (gas w t)) ≡ worldCells (w .grid)) →
     ((t : ℕ) → t < v .grid .N → length (alter t (gas v t)) ≡ worldCells (v .grid)) → w .grid ≡ v .grid → new ≡ newer →
     ((t : ℕ) → t < w .grid .N → own t ≡ true → change t (gas w t) ≡ alter t (gas v t)) →
-    Alike own (moved w new change) (moved v newer alter)
-moved-alike own w v new newer change alter many many-v sameGrid sameAir sameChange =
-    record { sameGrid = sameGrid; sameAir = sameAir; sameGas = λ t o. same t o (ltb t (w .grid .N)) refl }
+    ((t : ℕ) → own t ≡ true → block w t ≡ block v t) → Alike own (moved w new change) (moved v newer alter)
+moved-alike own w v new newer change alter many many-v sameGrid sameAir sameChange sameEmitters =
+    record {
+      sameGrid = sameGrid;
+      sameAir = sameAir;
+      sameGas = λ t o. same t o (ltb t (w .grid .N)) refl;
+      sameEmitters = sameEmitters;
+    }
   where
     same : (t : ℕ) → own t ≡ true → (b : Bool) → ltb t (w .grid .N) ≡ b → gas (moved w new change) t ≡ gas (moved v newer alter) t
     same t o true e =

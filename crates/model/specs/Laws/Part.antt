@@ -91,6 +91,7 @@ pub record ChangesOnly (w next : World) (a m : ℕ) : Type 0 where
   pub sameGrid : next .grid ≡ w .grid
   pub airLength : length (next .air) ≡ length (w .air)
   pub tracersLength : length (next .tracers) ≡ length (w .tracers)
+  pub sameLedger : next .ledger ≡ w .ledger
   pub airOutside : (c : ℕ) → Outside a m c → at (next .air) c ≡ at (w .air) c
   pub gasOutside : (t : ℕ) → t < w .grid .N → (c : ℕ) → Outside a m c → at (gas next t) c ≡ at (gas w t) c
 
@@ -124,6 +125,7 @@ module _
         sameGrid = refl;
         airLength = length-written (w .air) new a m (worldCells (w .grid)) (fits .airLength) newMany inside ∙ sym (fits .airLength);
         tracersLength = length-moved w (written (w .air) a new) (λ t l. written l a (change t (part l a m))) as-many ∙ sym (fits .tracersLength);
+        sameLedger = refl;
         airOutside = at-written-outside (w .air) new a m (worldCells (w .grid)) (fits .airLength) newMany inside;
         gasOutside =
             λ t h c out.
@@ -142,7 +144,7 @@ step-changes-only w call a m when = go (refusal w call) refl
     go zero e = rw (step-accepted w call e) (when e)
     go (suc n) e =
         rw (step-refused w call n e)
-        (record { sameGrid = refl; airLength = refl; tracersLength = refl; airOutside = λ c out. refl; gasOutside = λ t h c out. refl })
+        (record { sameGrid = refl; airLength = refl; tracersLength = refl; sameLedger = refl; airOutside = λ c out. refl; gasOutside = λ t h c out. refl })
 
 -- ---- two worlds of the same grid with the same air, and the same amounts of each tracer, in some of their cells
 pub record SameCells (start many : Grid → ℕ) (w v : World) : Type 0 where
@@ -195,6 +197,7 @@ module _
           (alike .sameGrid)
           (ap (λ (l : List ℕ). written l a (new (w .grid) row)) (alike .sameAir))
           (λ t h o. ap (λ (l : List ℕ). written l a (change (ruleOf w t) (w .grid) row (part l a m))) (alike .sameGas t o))
+          (alike .sameEmitters)
 
   -- the cells afterwards come from the cells before
   module _ (w : World) (fits : Fits w) (inside : start (w .grid) + many (w .grid) ≤ worldCells (w .grid)) where

@@ -175,7 +175,8 @@ remap-alike table own w v a = (
       (ap₂ (λ (g : Grid) (air : List ℕ). remappedAir g table air) (a .sameGrid) (a .sameAir))
       (λ t h o.
       ap₂ (λ (g : Grid) (air : List ℕ). remappedGas (ruleOf w t) g table air (gas w t)) (a .sameGrid) (a .sameAir) ∙
-      ap (gases v t) (a .sameGas t o)),
+      ap (gases v t) (a .sameGas t o))
+      (a .sameEmitters),
   ap₂ (λ (g : Grid) (air : List ℕ). sum (layerCells g) (λ c. columnCount (g .K) table (column g air c))) (a .sameGrid) (a .sameAir),
 )
   where
@@ -186,7 +187,7 @@ pub remap-keeps : (table : List ℕ) → MeaningKeeps (meaning (remap table))
 unfolding ownPlaces remapped remapServes firstOf
 remap-keeps table =
     record {
-      samePlaces = λ own w v a named. air-alike own w v a (ownPlaces (remap table));
+      samePlaces = λ own w v ww vv a named. air-alike own w v a (ownPlaces (remap table));
       accepts =
           λ w reached e.
           let g = w .grid in

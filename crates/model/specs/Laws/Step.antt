@@ -1,18 +1,20 @@
 -- Laws of `step`: the first place that applies, an accepted and a refused call, and what an accepted load tells of a world: none of the refusals 1 to 4 is met there but for a call's own lent list.
 use Prim.Native.Nat.{ℕ, zero, suc, _*_, _≤_, _<_}
 use mathlib.Core.List.{List, _∷_, _++_}
-use mathlib.Core.Bool.{Bool, true, false, not, _&&_, and-eq-true-iff}
-use mathlib.Core.Path.{_≡_, refl, sym, _∙_, ap, ap₂}
+use mathlib.Core.Bool.{Bool, true, false, not, and-eq-true-iff}
+use mathlib.Core.Path.{_≡_, refl, sym, _∙_, ap}
+use native.Mathlib.Nat.{mul-le-mul-right}
 use native.Mathlib.Omega.{arith}
 use borrow.Author.Tests.{ltb-true, leb-true, le-leb, eqb-true, eq-eqb, not-false}
 use lib.Dec.{lit<}
 use lib.ListN.{length}
-use Rattle.model.specs.Limits.{totalLimit}
-use Rattle.model.specs.Basic.{at}
-use Rattle.model.specs.World.{Grid, World, worldCells, gasTotal, airFits}
-use Rattle.model.specs.Step.{Call, load, Result, Place, firstOf, absent, gridFits, lentFits, lengthsFit, commonPlaces, ownPlaces, accepted, refused, refusal, step}
-use Rattle.model.specs.Lists.{Loaded, loadedWorld}
-use Rattle.model.specs.Laws.Basic.{every-at, every-true}
+use Rattle.model.specs.Limits.{totalLimit, blockNumbers}
+use Rattle.model.specs.Basic.{at, part, zeros}
+use Rattle.model.specs.World.{Grid, World, worldCells, block, gasTotal, airFits}
+use Rattle.model.specs.Step.{Call, load, Result, cleared, Place, firstOf, absent, gridFits, lentFits, lengthsFit, commonPlaces, ownPlaces, accepted, refused, refusal, step}
+use Rattle.model.specs.Lists.{Loaded, loadedWorld, LoadedAlike, Alike}
+use Rattle.model.specs.Laws.Basic.{every-at, every-true, length-zeros}
+use Rattle.model.specs.Laws.Emitters.{Sound, noEmitters, part-none, none-sound}
 
 -- ---- the first place that applies
 pub passes : (p : Place) (ps : List Place) (w : World) → p .applies w ≡ false → firstOf (p ∷ ps) w ≡ firstOf ps w
@@ -73,15 +75,14 @@ pub record Fits (w : World) : Type 0 where
   pub grid : gridFits (w .grid) ≡ true
   pub airLength : length (w .air) ≡ worldCells (w .grid)
   pub tracersLength : length (w .tracers) ≡ w .grid .N * worldCells (w .grid)
+  pub ledgerLength : length (w .ledger) ≡ w .grid .N * blockNumbers
   pub air : (c : ℕ) → c < worldCells (w .grid) → airFits (at (w .air) c) ≡ true
   pub totals : (t : ℕ) → t < w .grid .N → gasTotal w t ≤ totalLimit
 
 -- of the lent lengths only the call's own list is then in question
 fitting-lengths : (w : World) (call : Call) → Fits w → lengthsFit w call ≡ lentFits (w .grid) call
 fitting-lengths w call fits =
-    ap₂ (λ (a b : Bool). a && b && lentFits (w .grid) call)
-    (eq-eqb _ _ (fits .airLength))
-    (eq-eqb _ _ (fits .tracersLength))
+    rw (eq-eqb _ _ (fits .airLength), eq-eqb _ _ (fits .tracersLength), eq-eqb _ _ (fits .ledgerLength), lengthsFit)
 
 -- in such a world a call's refusal is that of its own places alone, if the list that it lends fits
 pub own-refusal : (w : World) (call : Call) → Fits w → lentFits (w .grid) call ≡ true → refusal w call ≡ firstOf (ownPlaces call) w
@@ -109,11 +110,13 @@ common-passed w call ps e =
     let s = passed _ _ w (lit< tt) (r .1) in
     let lengths = and-eq-true-iff _ _ .0 (not-false _ (q .0)) in
     let lent = and-eq-true-iff _ _ .0 (lengths .0) in
-    let airLength : length (w .air) ≡ worldCells (w .grid) = eqb-true _ _ (lent .0) in (
+    let amounts = and-eq-true-iff _ _ .0 (lent .0) in
+    let airLength : length (w .air) ≡ worldCells (w .grid) = eqb-true _ _ (amounts .0) in (
       record {
         grid = not-false _ (p .0);
         airLength = airLength;
-        tracersLength = eqb-true _ _ (lent .1);
+        tracersLength = eqb-true _ _ (amounts .1);
+        ledgerLength = eqb-true _ _ (lent .1);
         air = λ c h. every-at _ _ (not-false _ (r .0)) c (rw airLength h);
         totals = λ t h. leb-true _ _ (every-at _ _ (not-false _ (s .0)) t h);
       },
@@ -131,11 +134,46 @@ loaded-fits w start = accepted-passed w load (sym (answer-is w load) ∙ start) 
 -- ---- what holds of every world that calls reach from an accepted load
 pub record Reached (w : World) : Type 0 where
   pub fits : Fits w
+  pub emitters : (t : ℕ) → t < w .grid .N → Sound (worldCells (w .grid)) (block w t)
 
--- an accepted load leaves the world as it was lent
-pub loaded-same : (w : World) → Loaded w → loadedWorld w ≡ w
+-- an accepted load leaves the world as it was lent, but for its emitters, of which none stands
+pub loaded-is : (w : World) → Loaded w → loadedWorld w ≡ cleared w
 unfolding accepted
-loaded-same w start = ap (λ (r : Result). r .next) (step-accepted w load (sym (answer-is w load) ∙ start))
+loaded-is w start = ap (λ (r : Result). r .next) (step-accepted w load (sym (answer-is w load) ∙ start))
+
+pub loaded-block : (w : World) → Loaded w → (t : ℕ) → t < w .grid .N → block (loadedWorld w) t ≡ noEmitters
+loaded-block w start t h =
+    rw (loaded-is w start)
+    (part-none (length (w .ledger)) (t * blockNumbers) blockNumbers (omega (arith, loaded-fits w start .ledgerLength, mul-le-mul-right blockNumbers h)))
+
+-- so two loads leave the same emitters of each tracer: none
+pub loaded-alike : (w v : World) → Loaded w → Loaded v → (own : ℕ → Bool) → LoadedAlike own (loadedWorld w) (loadedWorld v) → Alike own (loadedWorld w) (loadedWorld v)
+loaded-alike w v lw lv own a =
+    record {
+      sameGrid = a .sameGrid;
+      sameAir = a .sameAir;
+      sameGas = a .sameGas;
+      sameEmitters = λ t o. ap (λ (l : List ℕ). part l (t * blockNumbers) blockNumbers) same-ledger;
+    }
+  where
+    cleared-length : (u : World) → Loaded u → loadedWorld u .ledger ≡ zeros (loadedWorld u .grid .N * blockNumbers)
+    cleared-length u l = rw (loaded-is u l) (ap zeros (loaded-fits u l .ledgerLength))
+
+    same-ledger : loadedWorld w .ledger ≡ loadedWorld v .ledger
+    same-ledger =
+        cleared-length w lw ∙ ap (λ (g : Grid). zeros (g .N * blockNumbers)) (a .sameGrid) ∙ sym (cleared-length v lv)
 
 pub loaded-reached : (w : World) → Loaded w → Reached (loadedWorld w)
-loaded-reached w start = rw (loaded-same w start) (record { fits = loaded-fits w start })
+loaded-reached w start =
+    let fits = loaded-fits w start in
+    record {
+      fits = rw (loaded-is w start) (record {
+        grid = fits .grid;
+        airLength = fits .airLength;
+        tracersLength = fits .tracersLength;
+        ledgerLength = length-zeros _ ∙ fits .ledgerLength;
+        air = fits .air;
+        totals = fits .totals;
+      });
+      emitters = λ t h. rw (loaded-block w start t (rw (loaded-is w start) at h)) (none-sound _);
+    }

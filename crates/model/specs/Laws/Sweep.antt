@@ -168,7 +168,7 @@ module _ (meshOf : Grid → Mesh) (startOf : Grid → ℕ) (countOf : Grid → L
   unfolding swept
   sweeps-keep places passed =
       record {
-        samePlaces = λ own w v a named. places own w v a;
+        samePlaces = λ own w v ww vv a named. places own w v a;
         accepts =
             λ w reached e.
             let s = passed w e in

@@ -1,0 +1,186 @@
+-- What follows for an inventory of emissions: a stack comes into service, emits with each tick, and closes.
+-- Assumes an accepted load, and a total that stays within its limit.
+use Prim.Native.Nat.{ℕ, suc, _+_, _*_, _≤_, _<_}
+use mathlib.Core.List.{List, [], _∷_, _++_}
+use mathlib.Core.Bool.{Bool, true, false, _&&_, and-eq-true-iff}
+use mathlib.Core.Path.{_≡_, refl, _∙_, ap}
+use native.Mathlib.Nat.{zero-mul, add-zero}
+use native.Mathlib.Omega.{arith}
+use borrow.Author.Tests.{le-ltb, eq-eqb}
+use lib.ListN.{length}
+use Rattle.model.specs.Limits.{totalLimit, mostEmitters}
+use Rattle.model.specs.World.{World, worldCells, block, gasTotal}
+use Rattle.model.specs.Emitters.{standing, keptUnits, presentUnits, hasId, emitterAdded, emitterRemoved}
+use Rattle.model.specs.Step.{Call, addEmitter, removeEmitter, tick, Exchange, noExchange, meaning, ownPlaces, step}
+use Rattle.model.specs.Lists.{Loaded, loadedWorld, after, exchanged}
+use Rattle.model.specs.Laws.Emitters.{kept-is, noEmitters, none-present, none-room, none-has, none-sound, length-added, added-present, added-has, add-remove}
+use Rattle.model.specs.Laws.Step.{Reached, passes, answer-is, own-refusal, loaded-is, loaded-block, loaded-reached}
+use Rattle.model.specs.Laws.Keeps.{exchange-accepted}
+use Rattle.model.specs.Laws.Lists.{after-append}
+use Rattle.model.specs.Laws.Standing.{record-left, no-place, step-next, can-remove, can-be-added, block-changed, namesNot, step-beside}
+use Rattle.model.specs.Demand3.{any-keeps}
+
+-- calls that name another tracer than t, or none, as sweeps and remaps do; no loads
+unfoldable pub besides : ℕ → List Call → Bool
+besides t [] = true
+besides t (call ∷ calls) = meaning call .listed && namesNot t (meaning call .names) && besides t calls
+
+-- a tick of tracer t for each entry of a list, and after it the calls of that entry
+unfoldable pub ticking : ℕ → List (List Call) → List Call
+ticking t [] = []
+ticking t (calls ∷ rest) = tick t ∷ calls ++ ticking t rest
+
+unfoldable pub allBeside : ℕ → List (List Call) → Bool
+allBeside t [] = true
+allBeside t (calls ∷ rest) = besides t calls && allBeside t rest
+
+module _ (t c id units : ℕ) where
+  abbrev stack : List ℕ
+  stack = emitterAdded noEmitters id c units
+
+  -- a world in which tracer t has this emitter and no other
+  record Stands (total : ℕ) (w : World) : Type 0 where
+    reached : Reached w
+    there : t < w .grid .N
+    inside : c < worldCells (w .grid)
+    only : block w t ≡ stack
+    totalIs : gasTotal w t ≡ total
+
+  units-kept : {total : ℕ} {w : World} → Stands total w → keptUnits (block w t) ≡ units
+  units-kept {total} {w} s =
+      kept-is (s .reached .emitters t (s .there)) ∙ ap presentUnits (s .only) ∙
+      added-present (none-sound (worldCells (w .grid))) id c units none-room ∙
+      ap (λ (x : ℕ). x + units) none-present ∙
+      omega arith
+
+  -- calls beside it leave it, and the total
+  one-beside : {total : ℕ} {w : World} (call : Call) → meaning call .listed ≡ true → namesNot t (meaning call .names) ≡ true → Stands total w → Stands total (step w call .next)
+  one-beside {total} {w} call held other s =
+      let same = step-beside t call held other w (s .reached) in
+      let kept = any-keeps call held w (s .reached) .kept in
+      record {
+        reached = kept .reached;
+        there = rw (kept .sameGrid) (s .there);
+        inside = rw (kept .sameGrid) (s .inside);
+        only = same .0 ∙ s .only;
+        totalIs =
+            omega (
+              arith,
+              kept .gasKept t (s .there),
+              ap (λ (x : Exchange). x .emitted) (same .1),
+              ap (λ (x : Exchange). x .withdrawn) (same .1),
+              s .totalIs,
+            );
+      }
+
+  all-beside : {total : ℕ} {w : World} (calls : List Call) → besides t calls ≡ true → Stands total w → Stands total (after w calls)
+  unfolding besides after
+  all-beside [] e s = s
+  all-beside (call ∷ calls) e s =
+      let p = and-eq-true-iff (meaning call .listed && namesNot t (meaning call .names)) (besides t calls) .0 e in
+      let q = and-eq-true-iff (meaning call .listed) (namesNot t (meaning call .names)) .0 (p .0) in
+      all-beside calls (p .1) (one-beside call (q .0) (q .1) s)
+
+  -- a tick is accepted, and the total is higher by its units
+  tick-accepted : {total : ℕ} {w : World} → Stands total w → total + units ≤ totalLimit → step w (tick t) .answer ≡ 0
+  unfolding ownPlaces
+  tick-accepted {total} {w} s room =
+      answer-is w (tick t) ∙ own-refusal w (tick t) (s .reached .fits) refl ∙ record-left w (s .reached) t (s .there) _ ∙
+      passes _ [] w (le-ltb totalLimit (gasTotal w t + keptUnits (block w t)) (omega (arith, s .totalIs, units-kept s))) ∙
+      no-place w
+
+  one-tick : {total : ℕ} {w : World} → Stands total w → total + units ≤ totalLimit → Stands (total + units) (step w (tick t) .next)
+  one-tick {total} {w} s room =
+      let accepted = tick-accepted s room in
+      let kept = any-keeps (tick t) refl w (s .reached) .kept in
+      let x : Exchange = record { emitted = keptUnits (block w t); withdrawn = 0 } in
+      let emits : exchanged w t (tick t) ≡ x = exchange-accepted w (tick t) accepted t ∙ ap (λ (b : Bool). elim b [ true ↦ x | false ↦ noExchange ]) (eq-eqb t t refl) in
+      record {
+        reached = kept .reached;
+        there = rw (kept .sameGrid) (s .there);
+        inside = rw (kept .sameGrid) (s .inside);
+        only = ap (λ (v : World). block v t) (step-next w (tick t) accepted .0) ∙ s .only;
+        totalIs =
+            omega (
+              arith,
+              kept .gasKept t (s .there),
+              ap (λ (x : Exchange). x .emitted) emits,
+              ap (λ (x : Exchange). x .withdrawn) emits,
+              s .totalIs,
+              units-kept s,
+            );
+      }
+
+  all-ticks :
+      {total : ℕ} {w : World} (rest : List (List Call)) → allBeside t rest ≡ true → total + length rest * units ≤ totalLimit →
+      Stands total w → Stands (total + length rest * units) (after w (ticking t rest))
+  unfolding ticking allBeside after
+  all-ticks {total} {w} [] e room s = rw (zero-mul units, add-zero total) s
+  all-ticks {total} {w} (calls ∷ rest) e room s =
+      let p = and-eq-true-iff (besides t calls) (allBeside t rest) .0 e in
+      let first = one-tick s (omega arith) in
+      let between = all-beside calls (p .0) first in
+      let last = all-ticks rest (p .1) (omega arith) between in
+      let sum : total + units + length rest * units ≡ total + (suc (length rest)) * units = omega arith in
+      rw (after-append (step w (tick t) .next) calls (ticking t rest)) (rw sum at last)
+
+  -- its removal leaves the tracer without emitters, and the total as it is
+  removal : {total : ℕ} {w : World} → Stands total w → (gasTotal (step w (removeEmitter t id) .next) t ≡ total) × (block (step w (removeEmitter t id) .next) t ≡ noEmitters)
+  removal {total} {w} s =
+      let none = none-sound (worldCells (w .grid)) in
+      let has : hasId (block w t) id ≡ true = rw (s .only) (added-has none id c units none-room (s .inside) (none-has id)) in
+      let accepted : step w (removeEmitter t id) .answer ≡ 0 = answer-is w (removeEmitter t id) ∙ can-remove w (s .reached) t id (s .there) has in
+      let is = step-next w (removeEmitter t id) accepted .0 in
+      let left : emitterRemoved (block w t) id ≡ noEmitters = ap (λ (b : List ℕ). emitterRemoved b id) (s .only) ∙ add-remove none id c units none-room (s .inside) (none-has id) in (
+        ap (λ (v : World). gasTotal v t) is ∙ s .totalIs,
+        ap (λ (v : World). block v t) is ∙ block-changed w (s .reached) t (s .there) (emitterRemoved (block w t) id) (rw left (none .many)) ∙ left,
+      )
+
+-- After a load, a stack added, n ticks and its removal, whatever sweeps and remaps come between, the gas's total is n times its units higher, and none stands: with `first` before the first tick and one entry of `rest` after each
+pub inventory :
+    (w : World) (t c id units : ℕ) (first : List Call) (rest : List (List Call)) → Loaded w →
+    let start = loadedWorld w in
+    let end = after start ((addEmitter t c id units ∷ first) ++ ticking t rest ++ (removeEmitter t id ∷ [])) in
+    t < start .grid .N → c < worldCells (start .grid) → besides t first ≡ true → allBeside t rest ≡ true →
+    gasTotal start t + length rest * units ≤ totalLimit →
+    (gasTotal end t ≡ gasTotal start t + length rest * units) × (block end t ≡ noEmitters)
+unfolding after
+inventory w t c id units first rest loaded there inside beside-first beside-rest room =
+    let before = all-beside t c id units first beside-first added in
+    let ticked = all-ticks t c id units rest beside-rest room before in
+    let service : List Call = addEmitter t c id units ∷ first in
+    rw (after-append start (service ++ ticking t rest) (removeEmitter t id ∷ []), after-append start service (ticking t rest))
+    (removal t c id units ticked)
+  where
+    start : World
+    start = loadedWorld w
+
+    reached : Reached start
+    reached = loaded-reached w loaded
+
+    none : block start t ≡ noEmitters
+    none = loaded-block w loaded t (rw (loaded-is w loaded) at there)
+
+    free : standing (block start t) < mostEmitters
+    free = rw none none-room
+
+    accepted : step start (addEmitter t c id units) .answer ≡ 0
+    accepted =
+        answer-is start (addEmitter t c id units) ∙
+        can-be-added start reached t c id units there inside free (rw none (none-has id))
+
+    -- the world with it
+    added : Stands t c id units (gasTotal start t) (step start (addEmitter t c id units) .next)
+    added =
+        let is = step-next start (addEmitter t c id units) accepted .0 in
+        let kept = any-keeps (addEmitter t c id units) refl start reached .kept in
+        record {
+          reached = kept .reached;
+          there = rw (kept .sameGrid) there;
+          inside = rw (kept .sameGrid) inside;
+          only =
+              ap (λ (v : World). block v t) is ∙
+              block-changed start reached t there (emitterAdded (block start t) id c units) (length-added (reached .emitters t there) id c units) ∙
+              ap (λ (b : List ℕ). emitterAdded b id c units) none;
+          totalIs = ap (λ (v : World). gasTotal v t) is;
+        }

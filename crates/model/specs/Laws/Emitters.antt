@@ -1,0 +1,535 @@
+-- Laws of a tracer's block of the ledger: what holds of it in every world that calls reach, and what adding and removing an emitter does to it.
+-- Assumes a block of 51 numbers, as place 2 has it.
+use Prim.Native.Nat.{ℕ, zero, suc, _+_, _*_, _-_, _/_, _%_, _≤_, _<_}
+use mathlib.Core.List.{List}
+use mathlib.Core.Bool.{Bool, true, false, not, _&&_, _||_, or-false, false≢true, true≢false}
+use mathlib.Core.Path.{_≡_, refl, sym, _∙_, ap, ap₂}
+use mathlib.Core.Logic.{_≢_, _⊎_, inl, inr}
+use native.Mathlib.Decide.{ℕ-discrete}
+use native.Mathlib.Nat.{add-zero, div-add-mod'}
+use native.Mathlib.Numerals.{add-one}
+use native.Mathlib.Omega.{arith}
+use borrow.Author.Tests.{leb-true, ltb-true, eqb-true, le-leb, lt-ltb, eq-eqb, ne-eqb, eqb-false}
+use lib.Dec.{leb, ltb, eqb}
+use lib.ListN.{length, set, length-set}
+use lib.Seq.{ext-getD, set-getD, getD-set-same, getD-set-other}
+use Rattle.model.specs.Limits.{mostEmitters, blockNumbers}
+use Rattle.model.specs.Basic.{at, part, zeros, tabFrom, sum, every, some}
+use Rattle.model.specs.Emitters.{standing, emitterId, emitterCell, emitterUnits, half, keptUnits, presentUnits, hasId, recordFits, withHead, withEmitter, emitterAdded, placeOf, emitterRemoved, ticked}
+use Rattle.model.specs.Laws.Basic.{length-zeros, at-zeros, length-part, at-part, sum-ext, sum-more, sum-set, sum-changed, both, every-at, every-true, some-true, le-or-lt}
+
+-- a block that calls left: it passes its test, its sum is in halves below 2^32, and 0 stands over its free places
+pub record Sound (cells : ℕ) (b : List ℕ) : Type 0 where
+  pub many : length b ≡ blockNumbers
+  pub few : standing b ≤ mostEmitters
+  pub there : (i : ℕ) → i < standing b → emitterCell b i < cells
+  pub apart : (i j : ℕ) → i < standing b → j < standing b → i ≢ j → emitterId b i ≢ emitterId b j
+  pub low : at b 1 ≡ presentUnits b % half
+  pub high : at b 2 ≡ presentUnits b / half
+  pub free : (k : ℕ) → 3 + 3 * standing b ≤ k → at b k ≡ 0
+
+-- ---- a block in which none stands, as a load leaves it
+abbrev pub noEmitters : List ℕ
+noEmitters = zeros blockNumbers
+
+pub part-none : (n a m : ℕ) → a + m ≤ n → part (zeros n) a m ≡ zeros m
+part-none n a m h =
+    let inside : a + m ≤ length (zeros n) = rw (length-zeros n) h in
+    ext-getD 0 (part (zeros n) a m) (zeros m)
+    (length-part (zeros n) a m inside ∙ sym (length-zeros m))
+    (λ i k.
+    let few : i < m = rw (length-part (zeros n) a m inside) at k in
+    at-part (zeros n) a m i few ∙ at-zeros n (a + i) ∙ sym (at-zeros m i))
+
+pub none-present : presentUnits noEmitters ≡ 0
+unfolding sum tabFrom
+none-present = refl
+
+pub none-room : standing noEmitters < mostEmitters
+none-room = rw (at-zeros blockNumbers 0) (omega arith)
+
+pub none-has : (id : ℕ) → hasId noEmitters id ≡ false
+unfolding tabFrom some
+none-has id = refl
+
+pub none-sound : (cells : ℕ) → Sound cells noEmitters
+none-sound cells =
+    let at-none : (k : ℕ) → at noEmitters k ≡ 0 = at-zeros blockNumbers in
+    record {
+      many = length-zeros blockNumbers;
+      few = rw (at-none 0) (omega arith);
+      there = λ i h. absurd (omega (arith, at-none 0));
+      apart = λ i j h. absurd (omega (arith, at-none 0));
+      low = at-none 1 ∙ rw none-present;
+      high = at-none 2 ∙ rw none-present;
+      free = λ k h. at-none k;
+    }
+
+-- ---- the test of a record
+pub kept-is : {cells : ℕ} {b : List ℕ} → Sound cells b → keptUnits b ≡ presentUnits b
+kept-is {cells} {b} sound = rw (sound .low, sound .high) (omega (arith, div-add-mod' (presentUnits b) half))
+
+-- what a record that passed its test tells
+pub record Fitting (cells : ℕ) (b : List ℕ) : Type 0 where
+  pub few : standing b ≤ mostEmitters
+  pub there : (i : ℕ) → i < standing b → emitterCell b i < cells
+  pub sum : keptUnits b ≡ presentUnits b
+
+pub record-fitting : (cells : ℕ) (b : List ℕ) → recordFits cells b ≡ true → Fitting cells b
+unfolding recordFits
+record-fitting cells b e =
+    let few : Bool = leb (standing b) mostEmitters in
+    let there : Bool = every (standing b) (λ i. ltb (emitterCell b i) cells) in
+    let apart : Bool = every (standing b) (λ i. every i (λ j. not (eqb (emitterId b j) (emitterId b i)))) in
+    let p = both (few && there && apart) (eqb (keptUnits b) (presentUnits b)) e in
+    let q = both few there (both (few && there) apart (p .0) .0) in
+    record {
+      few = leb-true _ _ (q .0);
+      there = λ i h. ltb-true _ _ (every-at (standing b) _ (q .1) i h);
+      sum = eqb-true _ _ (p .1);
+    }
+
+pub sound-fits : {cells : ℕ} {b : List ℕ} → Sound cells b → recordFits cells b ≡ true
+unfolding recordFits
+sound-fits {cells} {b} sound =
+    rw (
+      le-leb (standing b) mostEmitters (sound .few),
+      every-true (standing b) (λ i. ltb (emitterCell b i) cells) (λ i h. lt-ltb _ _ (sound .there i h)),
+      every-true (standing b) (λ i. every i (λ j. not (eqb (emitterId b j) (emitterId b i))))
+          (λ i h. every-true i _ (λ j k. ap not (ne-eqb _ _ (sound .apart j i (omega arith) h (omega arith))))),
+      eq-eqb (keptUnits b) (presentUnits b) (kept-is sound),
+    )
+
+-- ---- the numbers of a block that was written in
+module _ (b : List ℕ) (many : length b ≡ blockNumbers) where
+  module _ (n units : ℕ) where
+    length-head : length (withHead b n units) ≡ blockNumbers
+    length-head = simp length-set many
+
+    head-standing : standing (withHead b n units) ≡ n
+    head-standing =
+        getD-set-other (set (set b 0 n) 1 (units % half)) 2 0 (units / half) 0 (omega arith) ∙
+        getD-set-other (set b 0 n) 1 0 (units % half) 0 (omega arith) ∙
+        getD-set-same b 0 n 0 (omega arith)
+
+    head-low : at (withHead b n units) 1 ≡ units % half
+    head-low =
+        getD-set-other (set (set b 0 n) 1 (units % half)) 2 1 (units / half) 0 (omega arith) ∙
+        getD-set-same (set b 0 n) 1 (units % half) 0 (omega (arith, length-set b 0 n))
+
+    head-high : at (withHead b n units) 2 ≡ units / half
+    head-high =
+        getD-set-same (set (set b 0 n) 1 (units % half)) 2 (units / half) 0
+        (omega (arith, length-set b 0 n, length-set (set b 0 n) 1 (units % half)))
+
+    head-rest : (k : ℕ) → 3 ≤ k → at (withHead b n units) k ≡ at b k
+    head-rest k h =
+        getD-set-other (set (set b 0 n) 1 (units % half)) 2 k (units / half) 0 (omega arith) ∙
+        getD-set-other (set b 0 n) 1 k (units % half) 0 (omega arith) ∙
+        getD-set-other b 0 k n 0 (omega arith)
+
+  module _ (i id c units : ℕ) where
+    length-emitter : length (withEmitter b i id c units) ≡ blockNumbers
+    length-emitter = simp length-set many
+
+    emitter-rest : (k : ℕ) → k ≢ 3 + 3 * i → k ≢ 4 + 3 * i → k ≢ 5 + 3 * i → at (withEmitter b i id c units) k ≡ at b k
+    emitter-rest k p q r =
+        getD-set-other (set (set b (3 + 3 * i) id) (4 + 3 * i) c) (5 + 3 * i) k units 0 r ∙
+        getD-set-other (set b (3 + 3 * i) id) (4 + 3 * i) k c 0 q ∙
+        getD-set-other b (3 + 3 * i) k id 0 p
+
+    module _ (room : i < mostEmitters) where
+      emitter-id : emitterId (withEmitter b i id c units) i ≡ id
+      emitter-id =
+          getD-set-other (set (set b (3 + 3 * i) id) (4 + 3 * i) c) (5 + 3 * i) (3 + 3 * i) units 0 (omega arith) ∙
+          getD-set-other (set b (3 + 3 * i) id) (4 + 3 * i) (3 + 3 * i) c 0 (omega arith) ∙
+          getD-set-same b (3 + 3 * i) id 0 (omega arith)
+
+      emitter-cell : emitterCell (withEmitter b i id c units) i ≡ c
+      emitter-cell =
+          getD-set-other (set (set b (3 + 3 * i) id) (4 + 3 * i) c) (5 + 3 * i) (4 + 3 * i) units 0 (omega arith) ∙
+          getD-set-same (set b (3 + 3 * i) id) (4 + 3 * i) c 0 (omega (arith, length-set b (3 + 3 * i) id))
+
+      emitter-units : emitterUnits (withEmitter b i id c units) i ≡ units
+      emitter-units =
+          getD-set-same (set (set b (3 + 3 * i) id) (4 + 3 * i) c) (5 + 3 * i) units 0
+          (omega (arith, length-set b (3 + 3 * i) id, length-set (set b (3 + 3 * i) id) (4 + 3 * i) c))
+
+    -- the other emitters are as they were
+    other-id : (j : ℕ) → j ≢ i → emitterId (withEmitter b i id c units) j ≡ emitterId b j
+    other-id j h = emitter-rest (3 + 3 * j) (omega arith) (omega arith) (omega arith)
+
+    other-cell : (j : ℕ) → j ≢ i → emitterCell (withEmitter b i id c units) j ≡ emitterCell b j
+    other-cell j h = emitter-rest (4 + 3 * j) (omega arith) (omega arith) (omega arith)
+
+    other-units : (j : ℕ) → j ≢ i → emitterUnits (withEmitter b i id c units) j ≡ emitterUnits b j
+    other-units j h = emitter-rest (5 + 3 * j) (omega arith) (omega arith) (omega arith)
+
+-- ---- an emitter added
+module _ {cells : ℕ} {b : List ℕ} (sound : Sound cells b) (id c units : ℕ) where
+  abbrev n : ℕ
+  n = standing b
+
+  abbrev head : List ℕ
+  head = withHead b (n + 1) (keptUnits b + units)
+
+  abbrev more : List ℕ
+  more = emitterAdded b id c units
+
+  head-many : length head ≡ blockNumbers
+  head-many = length-head b (sound .many) (n + 1) (keptUnits b + units)
+
+  pub length-added : length more ≡ blockNumbers
+  length-added = length-emitter head head-many n id c units
+
+  -- its head, and the numbers that are neither in its head nor the new emitter's
+  added-standing : standing more ≡ n + 1
+  added-standing =
+      emitter-rest head head-many n id c units 0 (omega arith) (omega arith) (omega arith) ∙
+      head-standing b (sound .many) (n + 1) (keptUnits b + units)
+
+  added-low : at more 1 ≡ (keptUnits b + units) % half
+  added-low =
+      emitter-rest head head-many n id c units 1 (omega arith) (omega arith) (omega arith) ∙
+      head-low b (sound .many) (n + 1) (keptUnits b + units)
+
+  added-high : at more 2 ≡ (keptUnits b + units) / half
+  added-high =
+      emitter-rest head head-many n id c units 2 (omega arith) (omega arith) (omega arith) ∙
+      head-high b (sound .many) (n + 1) (keptUnits b + units)
+
+  added-rest : (k : ℕ) → 3 ≤ k → k ≢ 3 + 3 * n → k ≢ 4 + 3 * n → k ≢ 5 + 3 * n → at more k ≡ at b k
+  added-rest k h p q r =
+      emitter-rest head head-many n id c units k p q r ∙ head-rest b (sound .many) (n + 1) (keptUnits b + units) k h
+
+  -- the others are as they were
+  old-id : (j : ℕ) → j < n → emitterId more j ≡ emitterId b j
+  old-id j h = added-rest (3 + 3 * j) (omega arith) (omega arith) (omega arith) (omega arith)
+
+  old-cell : (j : ℕ) → j < n → emitterCell more j ≡ emitterCell b j
+  old-cell j h = added-rest (4 + 3 * j) (omega arith) (omega arith) (omega arith) (omega arith)
+
+  old-units : (j : ℕ) → j < n → emitterUnits more j ≡ emitterUnits b j
+  old-units j h = added-rest (5 + 3 * j) (omega arith) (omega arith) (omega arith) (omega arith)
+
+  module _ (room : n < mostEmitters) where
+    new-id : emitterId more n ≡ id
+    new-id = emitter-id head head-many n id c units room
+
+    new-cell : emitterCell more n ≡ c
+    new-cell = emitter-cell head head-many n id c units room
+
+    new-units : emitterUnits more n ≡ units
+    new-units = emitter-units head head-many n id c units room
+
+    pub added-present : presentUnits more ≡ presentUnits b + units
+    added-present =
+        ap (λ (m : ℕ). sum m (emitterUnits more)) added-standing ∙ sum-more n (emitterUnits more) ∙
+        ap₂ _+_ (sum-ext n (emitterUnits more) (emitterUnits b) old-units) new-units
+
+    added-kept : keptUnits b + units ≡ presentUnits more
+    added-kept = ap (λ (x : ℕ). x + units) (kept-is sound) ∙ sym added-present
+
+    pub added-sound : c < cells → hasId b id ≡ false → Sound cells more
+    added-sound there new =
+        record {
+          many = length-added;
+          few = rw added-standing (omega arith);
+          there = λ i h. cell-there i (ℕ-discrete i n) (rw added-standing at h);
+          apart = λ i j h k. differ i j (ℕ-discrete i n) (ℕ-discrete j n) (rw added-standing at h) (rw added-standing at k);
+          low = added-low ∙ ap (λ (x : ℕ). x % half) added-kept;
+          high = added-high ∙ ap (λ (x : ℕ). x / half) added-kept;
+          free =
+              λ k h.
+              let past : 3 + 3 * (n + 1) ≤ k = rw added-standing at h in
+              added-rest k (omega arith) (omega arith) (omega arith) (omega arith) ∙ sound .free k (omega arith);
+        }
+      where
+        cell-there : (i : ℕ) → Dec (i ≡ n) → i < n + 1 → emitterCell more i < cells
+        cell-there i (yes e) h = rw (e, new-cell) there
+        cell-there i (no e) h = rw (old-cell i (omega arith)) (sound .there i (omega arith))
+
+        -- no other emitter has the new one's id
+        strange : (j : ℕ) → j < n → emitterId b j ≢ id
+        strange j h e = true≢false (sym (some-true n (λ i. eqb (emitterId b i) id) j h (eq-eqb _ _ e)) ∙ new)
+
+        differ : (i j : ℕ) → Dec (i ≡ n) → Dec (j ≡ n) → i < n + 1 → j < n + 1 → i ≢ j → emitterId more i ≢ emitterId more j
+        differ i j (yes p) (yes q) h k ne e = ne (p ∙ sym q)
+        differ i j (yes p) (no q) h k ne e =
+            strange j (omega arith) (sym (old-id j (omega arith)) ∙ sym e ∙ ap (emitterId more) p ∙ new-id)
+        differ i j (no p) (yes q) h k ne e =
+            strange i (omega arith) (sym (old-id i (omega arith)) ∙ e ∙ ap (emitterId more) q ∙ new-id)
+        differ i j (no p) (no q) h k ne e =
+            sound .apart i j (omega arith) (omega arith) ne (sym (old-id i (omega arith)) ∙ e ∙ old-id j (omega arith))
+
+-- ---- where the emitter of an id stands
+place-more :
+    (b : List ℕ) (id n : ℕ) (x : Bool) → eqb (emitterId b n) id ≡ x → (x ≡ false → (placeOf b id n < n) × (emitterId b (placeOf b id n) ≡ id)) →
+    (placeOf b id (suc n) < suc n) × (emitterId b (placeOf b id (suc n)) ≡ id)
+unfolding placeOf
+place-more b id n true e rest = rw (e, placeOf) (omega arith, eqb-true _ _ e)
+place-more b id n false e rest = rw (e, placeOf) (omega (arith, rest refl .0), rest refl .1)
+
+pub place-is : (b : List ℕ) (id n : ℕ) → some n (λ i. eqb (emitterId b i) id) ≡ true → (placeOf b id n < n) × (emitterId b (placeOf b id n) ≡ id)
+unfolding some
+place-is b id zero e = absurd (false≢true e)
+place-is b id (suc n) e =
+    place-more b id n (eqb (emitterId b n) id) refl
+    (λ q. place-is b id n (sym (or-false _) ∙ ap (λ (x : Bool). some n (λ i. eqb (emitterId b i) id) || x) (sym q) ∙ e))
+
+-- ---- an emitter removed
+module _ {cells : ℕ} {b : List ℕ} (sound : Sound cells b) (id : ℕ) (present : hasId b id ≡ true) where
+  abbrev gone : ℕ
+  gone = placeOf b id (standing b)
+
+  abbrev last : ℕ
+  last = standing b - 1
+
+  abbrev units : ℕ
+  units = keptUnits b - emitterUnits b gone
+
+  gone-in : gone < standing b
+  gone-in = place-is b id (standing b) present .0
+
+  abbrev lowered : List ℕ
+  lowered = withHead b last units
+
+  abbrev filled : List ℕ
+  filled = withEmitter lowered gone (emitterId b last) (emitterCell b last) (emitterUnits b last)
+
+  abbrev fewer : List ℕ
+  fewer = emitterRemoved b id
+
+  lowered-many : length lowered ≡ blockNumbers
+  lowered-many = length-head b (sound .many) last units
+
+  filled-many : length filled ≡ blockNumbers
+  filled-many = length-emitter lowered lowered-many gone (emitterId b last) (emitterCell b last) (emitterUnits b last)
+
+  pub length-removed : length fewer ≡ blockNumbers
+  length-removed = length-emitter filled filled-many last 0 0 0
+
+  -- numbers outside the two places that are written
+  removed-rest :
+      (k : ℕ) → k ≢ 3 + 3 * last → k ≢ 4 + 3 * last → k ≢ 5 + 3 * last → k ≢ 3 + 3 * gone → k ≢ 4 + 3 * gone → k ≢ 5 + 3 * gone →
+      at fewer k ≡ at lowered k
+  removed-rest k p q r p' q' r' =
+      emitter-rest filled filled-many last 0 0 0 k p q r ∙
+      emitter-rest lowered lowered-many gone (emitterId b last) (emitterCell b last) (emitterUnits b last) k p' q' r'
+
+  removed-head : (k : ℕ) → k < 3 → at fewer k ≡ at lowered k
+  removed-head k h =
+      removed-rest k (omega arith) (omega arith) (omega arith) (omega arith) (omega arith) (omega arith)
+
+  removed-standing : standing fewer ≡ last
+  removed-standing = removed-head 0 (omega arith) ∙ head-standing b (sound .many) last units
+
+  -- place j has what place `source j` had: the place of the removed one has the last one
+  abbrev source : ℕ → ℕ
+  source j = elim (eqb j gone) [ true ↦ last | false ↦ j ]
+
+  -- number d of an emitter: its id, its cell, its units
+  moved-in : (d : ℕ) → d < 3 → at filled (3 + d + 3 * gone) ≡ at b (3 + d + 3 * last)
+  moved-in zero h = emitter-id lowered lowered-many gone _ (emitterCell b last) (emitterUnits b last) (omega (arith, sound .few, gone-in))
+  moved-in (suc zero) h = emitter-cell lowered lowered-many gone (emitterId b last) _ (emitterUnits b last) (omega (arith, sound .few, gone-in))
+  moved-in (suc (suc zero)) h = emitter-units lowered lowered-many gone (emitterId b last) (emitterCell b last) _ (omega (arith, sound .few, gone-in))
+  moved-in (suc (suc (suc d))) h = absurd (omega arith)
+
+  was : (d j : ℕ) → d < 3 → j < last → at fewer (3 + d + 3 * j) ≡ at b (3 + d + 3 * source j)
+  was d j small h = go (eqb j gone) refl
+    where
+      go : (x : Bool) → eqb j gone ≡ x → at fewer (3 + d + 3 * j) ≡ at b (3 + d + 3 * elim x [ true ↦ last | false ↦ j ])
+      go true e =
+          emitter-rest filled filled-many last 0 0 0 (3 + d + 3 * j) (omega arith) (omega arith) (omega arith) ∙
+          ap (λ (m : ℕ). at filled (3 + d + 3 * m)) (eqb-true _ _ e) ∙ moved-in d small
+      go false e =
+          let ne : j ≢ gone = eqb-false _ _ e in
+          removed-rest (3 + d + 3 * j) (omega arith) (omega arith) (omega arith) (omega arith) (omega arith) (omega arith) ∙
+          head-rest b (sound .many) last units (3 + d + 3 * j) (omega arith)
+
+  source-in : (j : ℕ) → j < last → source j < standing b
+  source-in j h = go (eqb j gone)
+    where
+      go : (x : Bool) → elim x [ true ↦ last | false ↦ j ] < standing b
+      go true = omega (arith, gone-in)
+      go false = omega arith
+
+  source-self : (j : ℕ) → j ≢ gone → source j ≡ j
+  source-self j ne = rw (ne-eqb j gone ne, source)
+
+  source-gone : source gone ≡ last
+  source-gone = rw (eq-eqb gone gone refl, source)
+
+  source-apart : (j k : ℕ) → j < last → k < last → j ≢ k → source j ≢ source k
+  source-apart j k h h' ne = go (ℕ-discrete j gone) (ℕ-discrete k gone)
+    where
+      go : Dec (j ≡ gone) → Dec (k ≡ gone) → source j ≢ source k
+      go (yes p) (yes q) e = ne (p ∙ sym q)
+      go (yes p) (no q) e = omega (arith, ap source p ∙ source-gone, source-self k q)
+      go (no p) (yes q) e = omega (arith, source-self j p, ap source q ∙ source-gone)
+      go (no p) (no q) e = omega (arith, source-self j p, source-self k q)
+
+  -- the sum is lower by the removed one's units
+  pub removed-present : presentUnits fewer + emitterUnits b gone ≡ presentUnits b
+  removed-present =
+      ap (λ (m : ℕ). sum m (emitterUnits fewer) + emitterUnits b gone) removed-standing ∙ go (ℕ-discrete gone last) ∙
+      sym (sum-more last (emitterUnits b)) ∙ ap (λ (m : ℕ). sum m (emitterUnits b)) (omega (arith, gone-in))
+    where
+      kept-units : (j : ℕ) → j < last → j ≢ gone → emitterUnits fewer j ≡ emitterUnits b j
+      kept-units j h ne = was 2 j (omega arith) h ∙ ap (emitterUnits b) (source-self j ne)
+
+      go : Dec (gone ≡ last) → sum last (emitterUnits fewer) + emitterUnits b gone ≡ sum last (emitterUnits b) + emitterUnits b last
+      go (yes e) =
+          ap₂ _+_ (sum-ext last (emitterUnits fewer) (emitterUnits b) (λ j h. kept-units j h (omega arith))) (ap (emitterUnits b) e)
+      go (no e) =
+          let inside : gone < last = omega (arith, gone-in) in
+          sum-changed last (emitterUnits b) (emitterUnits fewer) gone inside kept-units ∙
+          ap (λ (x : ℕ). sum last (emitterUnits b) + x) (was 2 gone (omega arith) inside ∙ ap (emitterUnits b) source-gone)
+
+  removed-kept : units ≡ presentUnits fewer
+  removed-kept = omega (arith, kept-is sound, removed-present)
+
+  pub removed-sound : Sound cells fewer
+  removed-sound =
+      record {
+        many = length-removed;
+        few = rw removed-standing (omega (arith, sound .few));
+        there =
+            λ j h.
+            let k : j < last = rw removed-standing at h in
+            rw (was 1 j (omega arith) k) (sound .there (source j) (source-in j k));
+        apart =
+            λ j k h h' ne e.
+            let p : j < last = rw removed-standing at h in
+            let q : k < last = rw removed-standing at h' in
+            sound .apart (source j) (source k) (source-in j p) (source-in k q) (source-apart j k p q ne)
+            (sym (was 0 j (omega arith) p) ∙ e ∙ was 0 k (omega arith) q);
+        low = removed-head 1 (omega arith) ∙ head-low b (sound .many) last units ∙ ap (λ (x : ℕ). x % half) removed-kept;
+        high = removed-head 2 (omega arith) ∙ head-high b (sound .many) last units ∙ ap (λ (x : ℕ). x / half) removed-kept;
+        free = λ k h. freed k (rw removed-standing at h) (ℕ-discrete k (3 + 3 * last)) (ℕ-discrete k (4 + 3 * last)) (ℕ-discrete k (5 + 3 * last));
+      }
+    where
+      room : last < mostEmitters
+      room = omega (arith, sound .few, gone-in)
+
+      freed :
+          (k : ℕ) → 3 + 3 * last ≤ k → Dec (k ≡ 3 + 3 * last) → Dec (k ≡ 4 + 3 * last) → Dec (k ≡ 5 + 3 * last) →
+          at fewer k ≡ 0
+      freed k h (yes p) q r = rw p (emitter-id filled filled-many last 0 0 0 room)
+      freed k h (no p) (yes q) r = rw q (emitter-cell filled filled-many last 0 0 0 room)
+      freed k h (no p) (no q) (yes r) = rw r (emitter-units filled filled-many last 0 0 0 room)
+      freed k h (no p) (no q) (no r) =
+          let inside = gone-in in
+          removed-rest k p q r (omega arith) (omega arith) (omega arith) ∙ head-rest b (sound .many) last units k (omega arith) ∙
+          sound .free k (omega arith)
+
+-- ---- an emitter added and removed again: every number of the block is as it was
+module _ {cells : ℕ} {b : List ℕ} (sound : Sound cells b) (id c units : ℕ) (room : standing b < mostEmitters) (there : c < cells) (new : hasId b id ≡ false) where
+  abbrev with-it : List ℕ
+  with-it = emitterAdded b id c units
+
+  pub added-has : hasId with-it id ≡ true
+  added-has =
+      some-true (standing with-it) (λ i. eqb (emitterId with-it i) id) (standing b)
+      (omega (arith, added-standing sound id c units))
+      (eq-eqb _ _ (new-id sound id c units room))
+
+  place-last : placeOf with-it id (standing with-it) ≡ standing b
+  unfolding placeOf
+  place-last =
+      ap (placeOf with-it id) (added-standing sound id c units ∙ add-one (standing b)) ∙
+      rw (eq-eqb _ _ (new-id sound id c units room), placeOf)
+
+  sound-with : Sound cells with-it
+  sound-with = added-sound sound id c units room there new
+
+  again : Sound cells (emitterRemoved with-it id)
+  again = removed-sound sound-with id added-has
+
+  same-standing : standing (emitterRemoved with-it id) ≡ standing b
+  same-standing = removed-standing sound-with id added-has ∙ omega (arith, added-standing sound id c units)
+
+  same-present : presentUnits (emitterRemoved with-it id) ≡ presentUnits b
+  same-present =
+      omega (
+        arith,
+        removed-present sound-with id added-has,
+        added-present sound id c units room,
+        ap (emitterUnits with-it) place-last ∙ new-units sound id c units room,
+      )
+
+  behind-head : (k : ℕ) → 3 ≤ k → at (emitterRemoved with-it id) k ≡ at b k
+  behind-head k past = go (le-or-lt (3 + 3 * standing b) k)
+    where
+      go : (3 + 3 * standing b ≤ k) ⊎ (k < 3 + 3 * standing b) → at (emitterRemoved with-it id) k ≡ at b k
+      go (inl h) = again .free k (rw same-standing h) ∙ sym (sound .free k h)
+      go (inr h) =
+          let many = added-standing sound id c units in
+          let at-last = place-last in
+          removed-rest sound-with id added-has k (omega arith) (omega arith) (omega arith) (omega arith) (omega arith) (omega arith) ∙
+          head-rest with-it (sound-with .many) (standing with-it - 1) _ k past ∙
+          added-rest sound id c units k past (omega arith) (omega arith) (omega arith)
+
+  same-number : (k : ℕ) → at (emitterRemoved with-it id) k ≡ at b k
+  same-number zero = same-standing
+  same-number (suc zero) = again .low ∙ ap (λ (x : ℕ). x % half) same-present ∙ sym (sound .low)
+  same-number (suc (suc zero)) = again .high ∙ ap (λ (x : ℕ). x / half) same-present ∙ sym (sound .high)
+  same-number (suc (suc (suc k))) = behind-head (suc (suc (suc k))) (omega arith)
+
+  pub add-remove : emitterRemoved with-it id ≡ b
+  add-remove = ext-getD 0 (emitterRemoved with-it id) b (again .many ∙ sym (sound .many)) (λ k h. same-number k)
+
+-- ---- a tick of the first n emitters
+pub length-ticked : (b : List ℕ) (n : ℕ) (had : List ℕ) → length (ticked b n had) ≡ length had
+unfolding ticked
+length-ticked b zero had = refl
+length-ticked b (suc n) had = length-set (ticked b n had) (emitterCell b n) _ ∙ length-ticked b n had
+
+-- the total is higher by their units
+pub ticked-sum :
+    (b : List ℕ) (cells : ℕ) (had : List ℕ) → length had ≡ cells → (n : ℕ) → ((i : ℕ) → i < n → emitterCell b i < cells) →
+    sum cells (at (ticked b n had)) ≡ sum cells (at had) + sum n (emitterUnits b)
+unfolding ticked sum
+ticked-sum b cells had many zero there = omega arith
+ticked-sum b cells had many (suc n) there =
+    let l = ticked b n had in
+    let c = emitterCell b n in
+    omega (
+      arith,
+      sum-set cells l c (at l c + emitterUnits b n) (there n (omega arith)) (omega (arith, length-ticked b n had)),
+      ticked-sum b cells had many n (λ i h. there i (omega arith)),
+    )
+
+-- those that emit nothing change nothing
+pub ticked-none : (b had : List ℕ) (n : ℕ) → sum n (emitterUnits b) ≡ 0 → ticked b n had ≡ had
+unfolding ticked sum
+ticked-none b had zero none = refl
+ticked-none b had (suc n) none =
+    let l = ticked b n had in
+    let c = emitterCell b n in
+    let nothing : emitterUnits b n ≡ 0 = omega arith in
+    ap (λ (x : ℕ). set l c (at l c + x)) nothing ∙ ap (set l c) (add-zero (at l c)) ∙ set-getD l c 0 ∙ ticked-none b had n (omega arith)
+
+-- the units that a tick adds to cell c: of the first n emitters those that name it
+abbrev pub unitsIn : List ℕ → ℕ → ℕ → ℕ
+unitsIn b n c = sum n (λ i. elim (eqb (emitterCell b i) c) [ true ↦ emitterUnits b i | false ↦ 0 ])
+
+one-more : (l : List ℕ) (c d u : ℕ) → d < length l → (x : Bool) → eqb d c ≡ x → at (set l d (at l d + u)) c ≡ at l c + elim x [ true ↦ u | false ↦ 0 ]
+one-more l c d u h true e = rw (← (eqb-true d c e)) (getD-set-same l d (at l d + u) 0 h)
+one-more l c d u h false e =
+    let ne : d ≢ c = eqb-false d c e in
+    getD-set-other l d c (at l d + u) 0 (omega arith) ∙ sym (add-zero (at l c))
+
+pub ticked-at :
+    (b had : List ℕ) (n : ℕ) → ((i : ℕ) → i < n → emitterCell b i < length had) → (c : ℕ) →
+    at (ticked b n had) c ≡ at had c + unitsIn b n c
+unfolding ticked sum
+ticked-at b had zero there c = omega arith
+ticked-at b had (suc n) there c =
+    let l = ticked b n had in
+    let d = emitterCell b n in
+    omega (
+      arith,
+      one-more l c d (emitterUnits b n) (omega (arith, there n (omega arith), length-ticked b n had)) (eqb d c) refl,
+      ticked-at b had n (λ i h. there i (omega arith)) c,
+    )

@@ -1,0 +1,523 @@
+-- What adding and removing an emitter, a tick and the reading of the units a tick keep when they are accepted, and what each does.
+-- Assumes a world that calls reach; what a tick adds to each cell, and what the reading gives, holds in every world in which it is accepted.
+use Prim.Native.Nat.{ℕ, zero, suc, _+_, _*_, _≤_, _<_}
+use mathlib.Core.List.{List, [], _∷_}
+use mathlib.Core.Bool.{Bool, true, false, not, _||_, true≢false, false≢true}
+use mathlib.Core.Path.{_≡_, refl, sym, _∙_, ap, ap₂}
+use mathlib.Core.Logic.{_≢_, _⊎_, inl, inr}
+use native.Mathlib.Decide.{ℕ-discrete}
+use native.Mathlib.Nat.{mul-le-mul-right}
+use native.Mathlib.Omega.{arith}
+use borrow.Author.Tests.{ltb-false, lt-ltb, lt-leb, leb-false, not-false, eq-eqb, ne-eqb}
+use lib.Dec.{ltb, eqb, leb, lit<}
+use lib.ListN.{length}
+use lib.Seq.{ext-getD}
+use Rattle.model.specs.Limits.{totalLimit, mostEmitters, blockNumbers}
+use Rattle.model.specs.Basic.{at, part, written, sum}
+use Rattle.model.specs.World.{World, worldCells, gas, withGas, block, withBlock, withLedger, gasTotal}
+use Rattle.model.specs.Sweep.{swept}
+use Rattle.model.specs.Remap.{remapped}
+use Rattle.model.specs.Long.{longSwept}
+use Rattle.model.specs.Emitters.{standing, keptUnits, presentUnits, hasId, recordFits, emitterAdded, emitterRemoved, ticked}
+use Rattle.model.specs.Step.{Call, load, emission, withdrawal, zonal, longZonal, meridional, remap, total, cell, Result, Place, firstOf, absent, brokenRecord, addEmitter, removeEmitter, tick, unitsATick, Exchange, noExchange, Named, nobody, tracer, meaning, enters, ownPlaces, accepted, refused, refusal, step}
+use Rattle.model.specs.Lists.{exchanged, Alike, namesOwn}
+use Rattle.model.specs.Laws.Basic.{every-at, every-true, length-part, at-part, InPart, Outside, part-or-outside, length-written, at-written-within, at-written-outside, length-rewritten, part-rewritten, part-not-rewritten}
+use Rattle.model.specs.Laws.Emitters.{Sound, kept-is, record-fitting, sound-fits, added-sound, removed-sound, length-added, added-has, add-remove, length-ticked, ticked-sum, ticked-none, unitsIn, ticked-at}
+use Rattle.model.specs.Laws.World.{length-gas}
+use Rattle.model.specs.Laws.Step.{Fits, Reached, passes, passed, found, step-accepted, step-refused, answer-is, own-refusal, accepted-passed}
+use Rattle.model.specs.Laws.Keeps.{Kept, names-present, named-alike, named-total-alike, named-emitters-alike, absent-alike, none-alike, last-alike, MeaningKeeps, reads-keep}
+
+neither : (x y : Bool) → x || y ≡ false → (x ≡ false) × (y ≡ false)
+neither true y e = absurd (true≢false e)
+neither false y e = (refl, e)
+
+-- ---- the record's place
+-- in a world that calls reach no record is broken
+pub record-sound : {w : World} → Reached w → brokenRecord .applies w ≡ false
+record-sound reached = ap not (every-true _ _ (λ t h. sound-fits (reached .emitters t h)))
+
+-- so the place does not tell two such worlds apart
+record-alike :
+    (w v : World) → Reached w → Reached v → (ps : List Place) → firstOf ps w ≡ firstOf ps v →
+    firstOf (brokenRecord ∷ ps) w ≡ firstOf (brokenRecord ∷ ps) v
+record-alike w v ww vv ps rest =
+    passes brokenRecord ps w (record-sound ww) ∙ rest ∙ sym (passes brokenRecord ps v (record-sound vv))
+
+-- and of a call on a tracer that is there only the places behind it are left
+pub record-left : (w : World) → Reached w → (t : ℕ) → t < w .grid .N → (ps : List Place) → firstOf (absent t (λ g. g .N) ∷ brokenRecord ∷ ps) w ≡ firstOf ps w
+record-left w reached t there ps =
+    passes (absent t (λ g. g .N)) (brokenRecord ∷ ps) w (ap not (lt-ltb _ _ there)) ∙ passes brokenRecord ps w (record-sound reached)
+
+pub no-place : (w : World) → firstOf [] w ≡ 0
+unfolding firstOf
+no-place w = refl
+
+-- where it is passed, each tracer's record fits
+record Passed (w : World) (t : ℕ) (ps : List Place) : Type 0 where
+  there : t < w .grid .N
+  fits : recordFits (worldCells (w .grid)) (block w t) ≡ true
+  left : firstOf ps w ≡ 0
+
+record-passed : (t : ℕ) (ps : List Place) (w : World) → firstOf (absent t (λ g. g .N) ∷ brokenRecord ∷ ps) w ≡ 0 → Passed w t ps
+record-passed t ps w e =
+    let p = found t (λ g. g .N) (brokenRecord ∷ ps) w e in
+    let q = passed brokenRecord ps w (lit< tt) (p .1) in
+    record { there = p .0; fits = every-at _ _ (not-false _ (q .0)) t (p .0); left = q .1 }
+
+-- ---- the world with another block of tracer t
+module _ (w : World) (reached : Reached w) (t : ℕ) (there : t < w .grid .N) (new : List ℕ) (many : length new ≡ blockNumbers) where
+  abbrev next : World
+  next = withBlock w t new
+
+  pub block-changed : block next t ≡ new
+  block-changed = part-rewritten (w .ledger) new (w .grid .N) blockNumbers t (reached .fits .ledgerLength) many there
+
+  block-unchanged : (u : ℕ) → u ≢ t → block next u ≡ block w u
+  block-unchanged = part-not-rewritten (w .ledger) new (w .grid .N) blockNumbers t (reached .fits .ledgerLength) many there
+
+  pub block-kept : Sound (worldCells (w .grid)) new → Kept w next (λ u. noExchange)
+  block-kept sound =
+      record {
+        reached =
+            record {
+              fits = record {
+                grid = fits .grid;
+                airLength = fits .airLength;
+                tracersLength = fits .tracersLength;
+                ledgerLength = length-rewritten (w .ledger) new (w .grid .N) blockNumbers t (fits .ledgerLength) many there;
+                air = fits .air;
+                totals = fits .totals;
+              };
+              emitters = λ u h. each u h (ℕ-discrete u t);
+            };
+        sameGrid = refl;
+        gasKept = λ u h. refl;
+        airKept = refl;
+        ratioKept = λ u z h p q r. r;
+      }
+    where
+      fits : Fits w
+      fits = reached .fits
+
+      each : (u : ℕ) → u < w .grid .N → Dec (u ≡ t) → Sound (worldCells (w .grid)) (block next u)
+      each u h (yes e) = rw (e, block-changed) sound
+      each u h (no e) = rw (block-unchanged u e) (reached .emitters u h)
+
+  block-apart : (own : ℕ → Bool) → own t ≡ false → Alike own w next
+  block-apart own other =
+      record {
+        sameGrid = refl;
+        sameAir = refl;
+        sameGas = λ u o. refl;
+        sameEmitters = λ u o. sym (block-unchanged u (λ q. true≢false (sym o ∙ ap own q ∙ other)));
+      }
+
+-- in two worlds alike
+block-alike :
+    (own : ℕ → Bool) (w v : World) → Reached w → Reached v → Alike own w v → (t : ℕ) → t < w .grid .N → (new : List ℕ) →
+    length new ≡ blockNumbers → Alike own (withBlock w t new) (withBlock v t new)
+block-alike own w v ww vv a t there new many =
+    record {
+      sameGrid = a .sameGrid;
+      sameAir = a .sameAir;
+      sameGas = a .sameGas;
+      sameEmitters = λ u o. same u o (ℕ-discrete u t);
+    }
+  where
+    there-v : t < v .grid .N
+    there-v = rw (← (a .sameGrid)) there
+
+    same : (u : ℕ) → own u ≡ true → Dec (u ≡ t) → block (withBlock w t new) u ≡ block (withBlock v t new) u
+    same u o (yes e) = rw (e, block-changed w ww t there new many, block-changed v vv t there-v new many)
+    same u o (no e) =
+        block-unchanged w ww t there new many u e ∙ a .sameEmitters u o ∙ sym (block-unchanged v vv t there-v new many u e)
+
+-- a call that changes the emitters of a tracer, where its places read no other gas's, and leave a sound block
+enters-keep :
+    (t : ℕ) (ps : List Place) (new : List ℕ → List ℕ) →
+    ((own : ℕ → Bool) (w v : World) → Reached w → Reached v → Alike own w v → namesOwn own w (tracer t) ≡ true → firstOf ps w ≡ firstOf ps v) →
+    ((w : World) → Reached w → firstOf ps w ≡ 0 → (t < w .grid .N) × Sound (worldCells (w .grid)) (new (block w t))) →
+    MeaningKeeps (enters t ps new)
+enters-keep t ps new places sound =
+    record {
+      samePlaces = places;
+      accepts =
+          λ w reached e.
+          let there = sound w reached e .0 in
+          let so = sound w reached e .1 in
+          record {
+            kept = block-kept w reached t there (new (block w t)) (so .many) so;
+            inRange = λ u h. tt;
+            alike =
+                λ own v vv a named.
+                let same : new (block w t) ≡ new (block v t) = ap new (named-emitters-alike own w v a t named there) in
+                (rw (← same) (block-alike own w v reached vv a t there (new (block w t)) (so .many)), refl);
+            apart = λ own other. block-apart w reached t there (new (block w t)) (so .many) own (names-present own w t there ∙ other);
+          };
+    }
+
+-- what its places tell of an emitter that can be added
+record CanAdd (w : World) (t c id : ℕ) : Type 0 where
+  there : t < w .grid .N
+  inside : c < worldCells (w .grid)
+  room : standing (block w t) < mostEmitters
+  new : hasId (block w t) id ≡ false
+
+can-add : (w : World) (t c id units : ℕ) → firstOf (meaning (addEmitter t c id units) .places) w ≡ 0 → CanAdd w t c id
+can-add w t c id units e =
+    let p = found t (λ g. g .N) _ w e in
+    let q = found c worldCells _ w (p .1) in
+    let r = passed brokenRecord _ w (lit< tt) (q .1) in
+    let s = neither _ _ (passed _ [] w (lit< tt) (r .1) .0) in
+    record { there = p .0; inside = q .0; room = leb-false _ _ (s .0); new = s .1 }
+
+pub add-keeps : (t c id units : ℕ) → MeaningKeeps (meaning (addEmitter t c id units))
+add-keeps t c id units =
+    enters-keep t _ (λ b. emitterAdded b id c units)
+    (λ own w v ww vv a named.
+    absent-alike own w v a t (λ g. g .N) _
+    (λ there. absent-alike own w v a c worldCells _
+    (λ inside. record-alike w v ww vv _
+    (last-alike own w v a _ (ap (λ (b : List ℕ). leb mostEmitters (standing b) || hasId b id) (named-emitters-alike own w v a t named there))))))
+    (λ w reached e.
+    let can = can-add w t c id units e in
+    (can .there, added-sound (reached .emitters t (can .there)) id c units (can .room) (can .inside) (can .new)))
+
+pub remove-keeps : (t id : ℕ) → MeaningKeeps (meaning (removeEmitter t id))
+remove-keeps t id =
+    enters-keep t _ (λ b. emitterRemoved b id)
+    (λ own w v ww vv a named.
+    absent-alike own w v a t (λ g. g .N) _
+    (λ there. record-alike w v ww vv _
+    (last-alike own w v a _ (ap (λ (b : List ℕ). not (hasId b id)) (named-emitters-alike own w v a t named there)))))
+    (λ w reached e.
+    let p = record-passed t _ w e in
+    (p .there, removed-sound (reached .emitters t (p .there)) id (not-false _ (passed _ [] w (lit< tt) (p .left) .0))))
+
+pub units-keeps : (t : ℕ) → MeaningKeeps (meaning (unitsATick t))
+units-keeps t =
+    reads-keep (tracer t) _ _
+    (λ own w v ww vv a named.
+    absent-alike own w v a t (λ g. g .N) _ (λ there. record-alike w v ww vv [] (none-alike own w v a)))
+    (λ own w v a named e. ap keptUnits (named-emitters-alike own w v a t named (found t (λ g. g .N) _ w e .0)))
+
+-- ---- the world with other amounts of tracer t, of which x is exchanged
+module _ (w : World) (reached : Reached w) (t : ℕ) (there : t < w .grid .N) (new : List ℕ) (many : length new ≡ worldCells (w .grid)) where
+  abbrev after : World
+  after = withGas w t new
+
+  gas-changed : gas after t ≡ new
+  gas-changed = part-rewritten (w .tracers) new (w .grid .N) (worldCells (w .grid)) t (reached .fits .tracersLength) many there
+
+  gas-unchanged : (u : ℕ) → u ≢ t → gas after u ≡ gas w u
+  gas-unchanged = part-not-rewritten (w .tracers) new (w .grid .N) (worldCells (w .grid)) t (reached .fits .tracersLength) many there
+
+  gas-kept :
+      (x : Exchange) → sum (worldCells (w .grid)) (at new) + x .withdrawn ≡ gasTotal w t + x .emitted →
+      sum (worldCells (w .grid)) (at new) ≤ totalLimit → (x .emitted ≡ 0 → x .withdrawn ≡ 0 → new ≡ gas w t) →
+      Kept w after (λ u. elim (eqb t u) [ true ↦ x | false ↦ noExchange ])
+  gas-kept x balance most still =
+      record {
+        reached =
+            record {
+              fits = record {
+                grid = fits .grid;
+                airLength = fits .airLength;
+                tracersLength = length-rewritten (w .tracers) new (w .grid .N) (worldCells (w .grid)) t (fits .tracersLength) many there;
+                ledgerLength = fits .ledgerLength;
+                air = fits .air;
+                totals = λ u h. totals u h (ℕ-discrete u t);
+              };
+              emitters = reached .emitters;
+            };
+        sameGrid = refl;
+        gasKept = λ u h. kept u h (ℕ-discrete u t);
+        airKept = refl;
+        ratioKept = λ u z h no-in no-out r. rw (same u no-in no-out (ℕ-discrete u t)) r;
+      }
+    where
+      fits : Fits w
+      fits = reached .fits
+
+      of : ℕ → Exchange
+      of u = elim (eqb t u) [ true ↦ x | false ↦ noExchange ]
+
+      own : of t ≡ x
+      own = rw (of, eq-eqb t t refl)
+
+      other : (u : ℕ) → u ≢ t → of u ≡ noExchange
+      other u h = rw (of, ne-eqb t u (λ q. h (sym q)))
+
+      totals : (u : ℕ) → u < w .grid .N → Dec (u ≡ t) → gasTotal after u ≤ totalLimit
+      totals u h (yes q) = rw (q, gas-changed) most
+      totals u h (no q) = rw (gas-unchanged u q) (fits .totals u h)
+
+      kept : (u : ℕ) → u < w .grid .N → Dec (u ≡ t) → gasTotal after u + of u .withdrawn ≡ gasTotal w u + of u .emitted
+      kept u h (yes q) = rw (q, own, gas-changed) balance
+      kept u h (no q) = rw (gas-unchanged u q, other u q)
+
+      same : (u : ℕ) → of u .emitted ≡ 0 → of u .withdrawn ≡ 0 → Dec (u ≡ t) → gas after u ≡ gas w u
+      same u no-in no-out (yes q) = rw (q, gas-changed) (still (rw (q, own) at no-in) (rw (q, own) at no-out))
+      same u no-in no-out (no q) = gas-unchanged u q
+
+  gas-apart : (own : ℕ → Bool) → own t ≡ false → Alike own w after
+  gas-apart own other =
+      record {
+        sameGrid = refl;
+        sameAir = refl;
+        sameGas = λ u o. sym (gas-unchanged u (λ q. true≢false (sym o ∙ ap own q ∙ other)));
+        sameEmitters = λ u o. refl;
+      }
+
+gas-alike :
+    (own : ℕ → Bool) (w v : World) → Reached w → Reached v → Alike own w v → (t : ℕ) → t < w .grid .N → (new : List ℕ) →
+    length new ≡ worldCells (w .grid) → Alike own (withGas w t new) (withGas v t new)
+gas-alike own w v ww vv a t there new many =
+    record {
+      sameGrid = a .sameGrid;
+      sameAir = a .sameAir;
+      sameGas = λ u o. same u o (ℕ-discrete u t);
+      sameEmitters = a .sameEmitters;
+    }
+  where
+    there-v : t < v .grid .N
+    there-v = rw (← (a .sameGrid)) there
+
+    many-v : length new ≡ worldCells (v .grid)
+    many-v = many ∙ ap worldCells (a .sameGrid)
+
+    same : (u : ℕ) → own u ≡ true → Dec (u ≡ t) → gas (withGas w t new) u ≡ gas (withGas v t new) u
+    same u o (yes e) = rw (e, gas-changed w ww t there new many, gas-changed v vv t there-v new many-v)
+    same u o (no e) =
+        gas-unchanged w ww t there new many u e ∙ a .sameGas u o ∙ sym (gas-unchanged v vv t there-v new many-v u e)
+
+-- ---- a tick
+-- the amounts of a tracer after a tick of the emitters of a block
+abbrev tickedAll : List ℕ → List ℕ → List ℕ
+tickedAll b had = ticked b (standing b) had
+
+module _ (w : World) (reached : Reached w) (t : ℕ) (there : t < w .grid .N) where
+  abbrev b : List ℕ
+  b = block w t
+
+  gas-many : length (gas w t) ≡ worldCells (w .grid)
+  gas-many = length-gas w t (reached .fits .tracersLength) there
+
+  ticked-many : length (tickedAll b (gas w t)) ≡ worldCells (w .grid)
+  ticked-many = length-ticked b (standing b) (gas w t) ∙ gas-many
+
+  ticked-total : sum (worldCells (w .grid)) (at (tickedAll b (gas w t))) ≡ gasTotal w t + keptUnits b
+  ticked-total =
+      ticked-sum b (worldCells (w .grid)) (gas w t) gas-many (standing b) (reached .emitters t there .there) ∙
+      ap (λ (x : ℕ). gasTotal w t + x) (sym (kept-is (reached .emitters t there)))
+
+pub tick-keeps : (t : ℕ) → MeaningKeeps (meaning (tick t))
+tick-keeps t =
+    record {
+      samePlaces =
+          λ own w v ww vv a named.
+          absent-alike own w v a t (λ g. g .N) _
+          (λ there. record-alike w v ww vv _
+          (last-alike own w v a _
+          (ap₂ (λ (x : ℕ) (b : List ℕ). ltb totalLimit (x + keptUnits b)) (named-total-alike own w v a t named there) (named-emitters-alike own w v a t named there))));
+      accepts =
+          λ w reached e.
+          let p = record-passed t _ w e in
+          let b = block w t in
+          let new = tickedAll b (gas w t) in
+          let many = ticked-many w reached t (p .there) in
+          let total = ticked-total w reached t (p .there) in
+          let room = ltb-false totalLimit (gasTotal w t + keptUnits b) (passed _ [] w (lit< tt) (p .left) .0) in
+          record {
+            kept =
+                gas-kept w reached t (p .there) new many (record { emitted = keptUnits b; withdrawn = 0 }) (omega (arith, total)) (omega (arith, total, room))
+                (λ no-in no-out. ticked-none b (gas w t) (standing b) (sym (kept-is (reached .emitters t (p .there))) ∙ no-in));
+            inRange = λ u h. tt;
+            alike =
+                λ own v vv a named.
+                let same : new ≡ tickedAll (block v t) (gas v t) = ap₂ tickedAll (named-emitters-alike own w v a t named (p .there)) (named-alike own w v a t named (p .there)) in
+                (rw (← same) (gas-alike own w v reached vv a t (p .there) new many), refl);
+            apart = λ own other. gas-apart w reached t (p .there) new many own (names-present own w t (p .there) ∙ other);
+          };
+    }
+
+-- ---- what each of them does, in every world in which it is accepted
+pub step-next : (w : World) (call : Call) → step w call .answer ≡ 0 → (step w call .next ≡ meaning call .next w) × (step w call .count ≡ meaning call .count w)
+unfolding accepted
+step-next w call e =
+    let is = step-accepted w call (sym (answer-is w call) ∙ e) in
+    (ap (λ (r : Result). r .next) is, ap (λ (r : Result). r .count) is)
+
+-- what its places tell of the world and of the tracer's record
+own-passed : (w : World) (call : Call) → step w call .answer ≡ 0 → Fits w × (firstOf (ownPlaces call) w ≡ 0)
+own-passed w call e = let p = accepted-passed w call (sym (answer-is w call) ∙ e) in (p .0, p .2)
+
+-- "A reading gives the tracer's units a tick .., and it always equals the sum over the emitters present"
+pub reading-is-sum : (w : World) (t : ℕ) → step w (unitsATick t) .answer ≡ 0 → step w (unitsATick t) .count ≡ presentUnits (block w t)
+unfolding ownPlaces
+reading-is-sum w t e =
+    let p = record-passed t [] w (own-passed w (unitsATick t) e .1) in
+    step-next w (unitsATick t) e .1 ∙ record-fitting (worldCells (w .grid)) (block w t) (p .fits) .sum
+
+-- A tick adds to each cell the units of the emitters that name it and to no other cell, of no other gas, and changes nothing else
+pub record Ticks (w next : World) (t : ℕ) : Type 0 where
+  pub sameGrid : next .grid ≡ w .grid
+  pub sameAir : next .air ≡ w .air
+  pub sameLedger : next .ledger ≡ w .ledger
+  pub adds : (c : ℕ) → at (gas next t) c ≡ at (gas w t) c + unitsIn (block w t) (standing (block w t)) c
+  pub others : (u : ℕ) → u ≢ t → gas next u ≡ gas w u
+
+pub tick-adds : (w : World) (t : ℕ) → step w (tick t) .answer ≡ 0 → Ticks w (step w (tick t) .next) t
+unfolding ownPlaces
+tick-adds w t e =
+    let q = own-passed w (tick t) e in
+    let p = record-passed t _ w (q .1) in
+    let b = block w t in
+    let had = gas w t in
+    let cells = worldCells (w .grid) in
+    let long = length-gas w t (q .0 .tracersLength) (p .there) in
+    let many : length (tickedAll b had) ≡ cells = length-ticked b (standing b) had ∙ long in
+    rw (step-next w (tick t) e .0)
+    (record {
+      sameGrid = refl;
+      sameAir = refl;
+      sameLedger = refl;
+      adds =
+          λ c.
+          ap (λ (l : List ℕ). at l c) (part-rewritten (w .tracers) (tickedAll b had) (w .grid .N) cells t (q .0 .tracersLength) many (p .there)) ∙
+          ticked-at b had (standing b) (λ i h. rw long (record-fitting cells b (p .fits) .there i h)) c;
+      others = part-not-rewritten (w .tracers) (tickedAll b had) (w .grid .N) cells t (q .0 .tracersLength) many (p .there);
+    })
+
+-- ---- in a world that calls reach an emitter that was added can be removed, and the world is then as it was, to every number of the ledger
+written-back : (l new : List ℕ) (a m : ℕ) → a + m ≤ length l → length new ≡ m → written (written l a new) a (part l a m) ≡ l
+written-back l new a m fits size =
+    ext-getD 0 (written (written l a new) a (part l a m)) l
+    (length-written (written l a new) (part l a m) a m (length l) same old fits)
+    (λ k h. go k (part-or-outside a m k))
+  where
+    same : length (written l a new) ≡ length l
+    same = length-written l new a m (length l) refl size fits
+
+    old : length (part l a m) ≡ m
+    old = length-part l a m fits
+
+    go : (k : ℕ) → InPart a m k ⊎ Outside a m k → at (written (written l a new) a (part l a m)) k ≡ at l k
+    go k (inl (i, h, e)) =
+        rw (← e) (at-written-within (written l a new) (part l a m) a m (length l) same old fits i h ∙ at-part l a m i h)
+    go k (inr out) =
+        at-written-outside (written l a new) (part l a m) a m (length l) same old fits k out ∙
+        at-written-outside l new a m (length l) refl size fits k out
+
+-- an emitter that stands can be removed
+pub can-remove : (w : World) → Reached w → (t id : ℕ) → t < w .grid .N → hasId (block w t) id ≡ true → refusal w (removeEmitter t id) ≡ 0
+unfolding ownPlaces
+can-remove w reached t id there has =
+    own-refusal w (removeEmitter t id) (reached .fits) refl ∙ record-left w reached t there _ ∙ passes _ [] w (ap not has) ∙ no-place w
+
+-- .. and one can be added
+pub can-be-added :
+    (w : World) → Reached w → (t c id units : ℕ) → t < w .grid .N → c < worldCells (w .grid) → standing (block w t) < mostEmitters →
+    hasId (block w t) id ≡ false → refusal w (addEmitter t c id units) ≡ 0
+unfolding ownPlaces
+can-be-added w reached t c id units there inside room new =
+    own-refusal w (addEmitter t c id units) (reached .fits) refl ∙
+    passes (absent t (λ g. g .N)) _ w (ap not (lt-ltb _ _ there)) ∙
+    passes (absent c worldCells) _ w (ap not (lt-ltb _ _ inside)) ∙
+    passes brokenRecord _ w (record-sound reached) ∙
+    passes _ [] w (rw (lt-leb mostEmitters _ room) new) ∙
+    no-place w
+
+pub added-then-removed :
+    (w : World) → Reached w → (t c id units : ℕ) → step w (addEmitter t c id units) .answer ≡ 0 →
+    let with-it = step w (addEmitter t c id units) .next in
+    (step with-it (removeEmitter t id) .answer ≡ 0) × (step with-it (removeEmitter t id) .next ≡ w)
+unfolding ownPlaces
+added-then-removed w reached t c id units e =
+    rw (step-next w (addEmitter t c id units) e .0) (gone, step-next v (removeEmitter t id) gone .0 ∙ back)
+  where
+    can : CanAdd w t c id
+    can = can-add w t c id units (own-passed w (addEmitter t c id units) e .1)
+
+    b : List ℕ
+    b = block w t
+
+    new : List ℕ
+    new = emitterAdded b id c units
+
+    v : World
+    v = withBlock w t new
+
+    sound : Sound (worldCells (w .grid)) b
+    sound = reached .emitters t (can .there)
+
+    still : Sound (worldCells (w .grid)) new
+    still = added-sound sound id c units (can .room) (can .inside) (can .new)
+
+    is-new : block v t ≡ new
+    is-new = block-changed w reached t (can .there) new (still .many)
+
+    gone : step v (removeEmitter t id) .answer ≡ 0
+    gone =
+        answer-is v (removeEmitter t id) ∙
+        can-remove v (block-kept w reached t (can .there) new (still .many) still .reached) t id (can .there) (rw is-new (added-has sound id c units (can .room) (can .inside) (can .new)))
+
+    back : withBlock v t (emitterRemoved (block v t) id) ≡ w
+    back =
+        ap (λ (l : List ℕ). withBlock v t (emitterRemoved l id)) is-new ∙
+        ap (withBlock v t) (add-remove sound id c units (can .room) (can .inside) (can .new)) ∙
+        ap (withLedger w)
+        (written-back (w .ledger) new (t * blockNumbers) blockNumbers (omega (arith, reached .fits .ledgerLength, mul-le-mul-right blockNumbers (can .there))) (still .many))
+
+-- ---- a call that names another tracer, or none, leaves a tracer's emitters alone, and exchanges nothing of it
+abbrev pub namesNot : ℕ → Named → Bool
+namesNot t nobody = true
+namesNot t (tracer u) = not (eqb u t)
+
+not-exchanged : (u t : ℕ) (x : Exchange) → not (eqb u t) ≡ true → elim (eqb u t) [ true ↦ x | false ↦ noExchange ] ≡ noExchange
+not-exchanged u t x other = go (eqb u t) other
+  where
+    go : (b : Bool) → not b ≡ true → elim b [ true ↦ x | false ↦ noExchange ] ≡ noExchange
+    go true e = absurd (false≢true e)
+    go false e = refl
+
+differs : (u t : ℕ) → not (eqb u t) ≡ true → t ≢ u
+differs u t other e = false≢true (ap not (sym (eq-eqb u t (sym e))) ∙ other)
+
+pub beside :
+    (t : ℕ) (call : Call) → meaning call .listed ≡ true → namesNot t (meaning call .names) ≡ true → (w : World) → Reached w →
+    firstOf (meaning call .places) w ≡ 0 → (block (meaning call .next w) t ≡ block w t) × (meaning call .exchange w t ≡ noExchange)
+unfolding swept longSwept remapped
+beside t load held other w reached e = absurd (false≢true held)
+beside t (emission u c amount) held other w reached e = (refl, not-exchanged u t _ other)
+beside t (withdrawal u c amount) held other w reached e = (refl, not-exchanged u t _ other)
+beside t (zonal k r fluxes) held other w reached e = (refl, refl)
+beside t (longZonal k r fluxes) held other w reached e = (refl, refl)
+beside t (meridional k fluxes) held other w reached e = (refl, refl)
+beside t (remap table) held other w reached e = (refl, refl)
+beside t (total u) held other w reached e = (refl, refl)
+beside t (cell u c) held other w reached e = (refl, refl)
+beside t (addEmitter u c id units) held other w reached e =
+    let can = can-add w u c id units e in
+    (block-unchanged w reached u (can .there) _ (length-added (reached .emitters u (can .there)) id c units) t (differs u t other), refl)
+beside t (removeEmitter u id) held other w reached e =
+    let p = record-passed u _ w e in
+    let has = not-false _ (passed _ [] w (lit< tt) (p .left) .0) in
+    (block-unchanged w reached u (p .there) _ (removed-sound (reached .emitters u (p .there)) id has .many) t (differs u t other), refl)
+beside t (tick u) held other w reached e = (refl, not-exchanged u t _ other)
+beside t (unitsATick u) held other w reached e = (refl, refl)
+
+-- .. whether it is accepted or not
+pub step-beside :
+    (t : ℕ) (call : Call) → meaning call .listed ≡ true → namesNot t (meaning call .names) ≡ true → (w : World) → Reached w →
+    (block (step w call .next) t ≡ block w t) × (exchanged w t call ≡ noExchange)
+unfolding ownPlaces refused
+step-beside t call held other w reached = go (refusal w call) refl
+  where
+    go : (n : ℕ) → refusal w call ≡ n → (block (step w call .next) t ≡ block w t) × (exchanged w t call ≡ noExchange)
+    go zero e =
+        let zero-answer = answer-is w call ∙ e in
+        let p = beside t call held other w reached (accepted-passed w call e .2) in
+        (ap (λ (v : World). block v t) (step-next w call zero-answer .0) ∙ p .0, rw (zero-answer, exchanged) (p .1))
+    go (suc n) e =
+        (ap (λ (r : Result). block (r .next) t) (step-refused w call n e), rw (answer-is w call ∙ e, exchanged))
