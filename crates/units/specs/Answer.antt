@@ -5,8 +5,10 @@ use Rattle.model.specs.World.{World}
 use Rattle.model.specs.Step.{Call, step}
 use Rattle.units.specs.declared.Answer.{Answer}
 use Rattle.units.specs.declared.Answer.the-variants.{Accepted, Refused}
+use Rattle.units.specs.declared.WideAnswer.{WideAnswer}
+use Rattle.units.specs.declared.WideAnswer.the-variants as wide
 use Rattle.units.specs.declared.Refusal.{Refusal}
-use Rattle.units.specs.declared.Refusal.the-variants.{GridRange, Lengths, AirRange, Totals, Index, Emission, Withdrawal, Fluxes, Zonal, Meridional, Table, Remap, LongFlux, LongAir}
+use Rattle.units.specs.declared.Refusal.the-variants.{GridRange, Lengths, AirRange, Totals, Index, Emission, Withdrawal, Fluxes, Zonal, Meridional, Table, Remap, LongFlux, LongAir, EmitterAdded, EmitterAbsent}
 
 -- "Refusals by place of checking": the number of each place
 abbrev pub refusalNumber : Refusal → ℕ
@@ -24,6 +26,8 @@ refusalNumber Table = 11
 refusalNumber Remap = 12
 refusalNumber LongFlux = 16
 refusalNumber LongAir = 17
+refusalNumber EmitterAdded = 18
+refusalNumber EmitterAbsent = 19
 
 -- "answer (0 if accepted)", else the refusal's number
 abbrev pub numberOf : Answer → ℕ
@@ -39,4 +43,18 @@ countOf (Refused r) = 0
 pub record Agrees (w : World) (call : Call) (answer : Answer) (next : World) : Type 0 where
   pub number : numberOf answer ≡ step w call .answer
   pub count : countOf answer ≡ step w call .count
+  pub left : next ≡ step w call .next
+
+-- The same of a call whose count has 64 bits
+abbrev pub wideNumberOf : WideAnswer → ℕ
+wideNumberOf (wide.Accepted n) = 0
+wideNumberOf (wide.Refused r) = refusalNumber r
+
+abbrev pub wideCountOf : WideAnswer → ℕ
+wideCountOf (wide.Accepted n) = n
+wideCountOf (wide.Refused r) = 0
+
+pub record AgreesWide (w : World) (call : Call) (answer : WideAnswer) (next : World) : Type 0 where
+  pub number : wideNumberOf answer ≡ step w call .answer
+  pub count : wideCountOf answer ≡ step w call .count
   pub left : next ≡ step w call .next

@@ -12,8 +12,8 @@ abbrev pub gridOf : declared.Grid → model.Grid
 gridOf g = record { W = g .w; R = g .r; K = g .k; N = g .n }
 
 -- the world of a call: the grid, and the lent lists
-abbrev pub worldOf : declared.Grid → List ℕ → List ℕ → model.World
-worldOf g air tracers = record { grid = gridOf g; air = air; tracers = tracers }
+abbrev pub worldOf : declared.Grid → (air tracers ledger : List ℕ) → model.World
+worldOf g air tracers ledger = record { grid = gridOf g; air = air; tracers = tracers; ledger = ledger }
 
 -- W, R, K and N are in their ranges
 abbrev pub InRange : declared.Grid → Type 0

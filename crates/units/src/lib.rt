@@ -5,7 +5,7 @@ ghost use Rattle.model.specs.Limits.{mostLayerCells, mostCells};
 ghost use Rattle.model.specs.World.{layerCells, worldCells, layerStart, rowStart};
 ghost use Rattle.model.specs.Step.{gridFits};
 ghost use Rattle.units.specs.Grid.{gridOf, InRange, LayerThere, RowThere};
-ghost use Rattle.units.specs.Answer.{refusalNumber, numberOf, countOf};
+ghost use Rattle.units.specs.Answer.{refusalNumber, numberOf, countOf, wideNumberOf, wideCountOf};
 
 // The limits that the code needs, each once. Contracts tie them to the model's (crates/model/specs/Limits.antt).
 pub const SCALE: u64 = 65536; // of ratio, mismatch and piece
@@ -38,11 +38,17 @@ pub const MOST_LAYER_CELLS: usize = 3170;
 
 pub const MOST_FACES: usize = 3240; // of a layer
 
+pub const MOST_EMITTERS: usize = 16; // of a tracer
+
+pub const LEDGER_BLOCK: usize = 51; // numbers of the ledger for each tracer
+
 pub const PROGRAM_CELLS: usize = 2048; // of the largest world that the runner program takes
 
 pub const PROGRAM_TRACERS: usize = 2;
 
 pub const PROGRAM_AMOUNTS: usize = 4096; // of all tracers in it
+
+pub const PROGRAM_LEDGER: usize = 102; // numbers of its ledger
 
 pub const PROGRAM_FACES: usize = 2118; // of a layer that the program takes
 
@@ -88,11 +94,19 @@ pub enum Refusal {
     Remap,
     LongFlux,
     LongAir,
+    EmitterAdded,
+    EmitterAbsent,
 }
 
 // What a call answers: accepted, with its count, or refused.
 pub enum Answer {
     Accepted(u32),
+    Refused(Refusal),
+}
+
+// What a call answers whose count has 64 bits.
+pub enum WideAnswer {
+    Accepted(u64),
     Refused(Refusal),
 }
 
@@ -130,6 +144,8 @@ pub fn refusal_number(r: Refusal) -> u32
         Refusal::Remap => 12,
         Refusal::LongFlux => 16,
         Refusal::LongAir => 17,
+        Refusal::EmitterAdded => 18,
+        Refusal::EmitterAbsent => 19,
     }
 }
 
@@ -150,6 +166,25 @@ pub fn count(a: Answer) -> u32
     match a {
         Answer::Accepted(n) => n,
         Answer::Refused(_) => 0,
+    }
+}
+
+// The same of an answer of 64 bits.
+pub fn wide_number(a: WideAnswer) -> u32
+    ensures { λ n. ⌜ n ≡ wideNumberOf a ⌝ }
+{
+    match a {
+        WideAnswer::Accepted(_) => 0,
+        WideAnswer::Refused(r) => refusal_number(r),
+    }
+}
+
+pub fn wide_count(a: WideAnswer) -> u64
+    ensures { λ n. ⌜ n ≡ wideCountOf a ⌝ }
+{
+    match a {
+        WideAnswer::Accepted(n) => n,
+        WideAnswer::Refused(_) => 0,
     }
 }
 

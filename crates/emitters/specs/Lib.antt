@@ -1,0 +1,4 @@
+pub mod Place
+pub mod Entered
+pub mod Tick
+pub mod Reading
