@@ -1,6 +1,6 @@
 -- A cell's amount of a tracer: where it stands, and what the calls that name it answer and leave.
-use Prim.Native.Nat.{ℕ, zero, suc, _+_, _*_, _-_, _≤_, _<_}
-use mathlib.Core.List.{[], _∷_}
+use Prim.Native.Nat.{ℕ, suc, _+_, _*_, _-_, _≤_, _<_}
+use mathlib.Core.List.{List, [], _∷_}
 use mathlib.Core.Path.{_≡_, refl, sym, ap, ap₂, _∙_}
 use native.Mathlib.Nat.{mul-le-mul-right}
 use native.Mathlib.Omega.{arith}
@@ -10,8 +10,8 @@ use mir.Syntax.{w32}
 use mir.Val.{Fits as Fits32}
 use lib.ListN.{length, set}
 use Rattle.model.specs.Limits.{totalLimit, mostAmounts}
-use Rattle.model.specs.Basic.{at}
-use Rattle.model.specs.World.{World, worldCells, withAmounts, tracerStart, gas, gasTotal}
+use Rattle.model.specs.Basic.{at, zeros}
+use Rattle.model.specs.World.{World, worldCells, withAmounts, withLedger, tracerStart, gas, gasTotal}
 use Rattle.model.specs.Step.{Place, place, amountAt, load, emission, withdrawal, cell}
 use Rattle.model.specs.Laws.Basic.{at-part, term-le-sum}
 use Rattle.model.specs.Laws.Grid.{in-range, amounts-most}
@@ -24,7 +24,7 @@ use Rattle.places.specs.declared.Lent.the-variants.{Nothing}
 use Rattle.places.specs.declared.Tested.{Tested}
 use Rattle.places.specs.declared.Placed.{Placed}
 use Rattle.places.specs.Walk.{Left, IsPlaced, Like, next, resume, none, refuse}
-use Rattle.places.specs.Tested.{Passed, IsTested, own-left, common-refused}
+use Rattle.places.specs.Tested.{Passed, IsTested, own-left}
 
 -- ---- what `amount_place` finds: where the amount stands among all tracers' amounts, and the tracer's total
 pub record CellFound (w : World) (t c : ℕ) (p : Placed) : Type 0 where
@@ -71,12 +71,11 @@ total-fits {w} passed {t} h =
     omega (arith, passed .total t h)
 
 -- ---- load
-pub load-agrees : {w : World} {tested : Tested} → IsTested w Nothing tested → (n : ℕ) → numberOf (tested .answer) ≡ n → Agrees w load (tested .answer) w
-load-agrees is zero e =
+pub load-agrees : {w : World} {tested : Tested} {ledger : List ℕ} → IsTested w Nothing tested → numberOf (tested .answer) ≡ 0 →
+    ledger ≡ zeros (length (w .ledger)) → Agrees w load (tested .answer) (withLedger w ledger)
+load-agrees {w} is e none-left =
     let passed = is .found e in
-    accepted-agrees (none (own-left passed refl)) e (passed .count) refl
-load-agrees {w} {tested} is (suc n) e =
-    common-refused is (λ (z : numberOf (tested .answer) ≡ 0). omega arith) refl
+    accepted-agrees (none (own-left passed refl)) e (passed .count) (ap (withLedger w) none-left)
 
 -- ---- emission and withdrawal, each with its last place
 abbrev over-limit : ℕ → ℕ → Place

@@ -3,6 +3,7 @@ ghost use Rattle.model.specs.Step.{load as load-call, emission as emission-call
 ghost use Rattle.units.specs.Grid.{worldOf};
 ghost use Rattle.units.specs.Answer.{Agrees};
 ghost use Rattle.amounts.specs.Amount.{IsCellPlace};
+use ledger::clear;
 use places::Lent;
 use places::Placed;
 use places::common_places;
@@ -14,19 +15,24 @@ use units::TOTAL_LIMIT;
 use units::number;
 use units::world_cells;
 
-// Tests lent air and tracers.
-pub fn load(g: Grid, air: &[u32], tracers: &[u32]) -> Answer
-    ensures { λ r. ⌜ Agrees (worldOf g (now (air .entry)) (now (tracers .entry))) load-call r (worldOf g (now (air .entry)) (now (tracers .entry))) ⌝ }
+// Tests lent air and tracers, and leaves no emitter standing.
+pub fn load(g: Grid, air: &[u32], tracers: &[u32], ledger: &mut [u32]) -> Answer
+    ensures { λ r. ⌜ Agrees (worldOf g (now (air .entry)) (now (tracers .entry)) (now (ledger .entry))) load-call r (worldOf g (now (air .entry)) (now (tracers .entry)) (now (ledger .exit))) ⌝ }
 {
-    let loaded = common_places(g, air, tracers, Lent::Nothing);
-    loaded.answer
+    let loaded = common_places(g, air, tracers, ledger, Lent::Nothing);
+    let answer = loaded.answer;
+    if number(answer) == 0 {} else {
+        return answer;
+    }
+    clear(ledger);
+    answer
 }
 
 // A tracer's total.
-pub fn total(g: Grid, air: &[u32], tracers: &[u32], tracer: u32) -> Answer
-    ensures { λ r. ⌜ Agrees (worldOf g (now (air .entry)) (now (tracers .entry))) (total-call tracer) r (worldOf g (now (air .entry)) (now (tracers .entry))) ⌝ }
+pub fn total(g: Grid, air: &[u32], tracers: &[u32], ledger: &[u32], tracer: u32) -> Answer
+    ensures { λ r. ⌜ Agrees (worldOf g (now (air .entry)) (now (tracers .entry)) (now (ledger .entry))) (total-call tracer) r (worldOf g (now (air .entry)) (now (tracers .entry)) (now (ledger .entry))) ⌝ }
 {
-    let tested = common_places(g, air, tracers, Lent::Nothing);
+    let tested = common_places(g, air, tracers, ledger, Lent::Nothing);
     let answer = tested.answer;
     if number(answer) == 0 {} else {
         return answer;
@@ -41,10 +47,17 @@ pub fn total(g: Grid, air: &[u32], tracers: &[u32], tracer: u32) -> Answer
 }
 
 // Places 1 to 5 of a call that names a tracer and a cell: where the cell's amount stands, and the tracer's total.
-fn amount_place(g: Grid, air: &[u32], tracers: &[u32], tracer: u32, cell: u32) -> Placed
-    ensures { λ p. ⌜ IsCellPlace (worldOf g (now (air .entry)) (now (tracers .entry))) tracer cell p ⌝ }
+fn amount_place(
+    g: Grid,
+    air: &[u32],
+    tracers: &[u32],
+    ledger: &[u32],
+    tracer: u32,
+    cell: u32,
+) -> Placed
+    ensures { λ p. ⌜ IsCellPlace (worldOf g (now (air .entry)) (now (tracers .entry)) (now (ledger .entry))) tracer cell p ⌝ }
 {
-    let tested = common_places(g, air, tracers, Lent::Nothing);
+    let tested = common_places(g, air, tracers, ledger, Lent::Nothing);
     let answer = tested.answer;
     if number(answer) == 0 {} else {
         return not_placed(answer);
@@ -68,10 +81,10 @@ fn amount_place(g: Grid, air: &[u32], tracers: &[u32], tracer: u32, cell: u32) -
 }
 
 // A cell's amount of a tracer, the cell numbered over all layers.
-pub fn cell(g: Grid, air: &[u32], tracers: &[u32], tracer: u32, cell: u32) -> Answer
-    ensures { λ r. ⌜ Agrees (worldOf g (now (air .entry)) (now (tracers .entry))) (cell-call tracer cell) r (worldOf g (now (air .entry)) (now (tracers .entry))) ⌝ }
+pub fn cell(g: Grid, air: &[u32], tracers: &[u32], ledger: &[u32], tracer: u32, cell: u32) -> Answer
+    ensures { λ r. ⌜ Agrees (worldOf g (now (air .entry)) (now (tracers .entry)) (now (ledger .entry))) (cell-call tracer cell) r (worldOf g (now (air .entry)) (now (tracers .entry)) (now (ledger .entry))) ⌝ }
 {
-    let place = amount_place(g, air, tracers, tracer, cell);
+    let place = amount_place(g, air, tracers, ledger, tracer, cell);
     let answer = place.answer;
     if number(answer) == 0 {} else {
         return answer;
@@ -86,13 +99,14 @@ pub fn emission(
     g: Grid,
     air: &[u32],
     tracers: &mut [u32],
+    ledger: &[u32],
     tracer: u32,
     cell: u32,
     amount: u32,
 ) -> Answer
-    ensures { λ r. ⌜ Agrees (worldOf g (now (air .entry)) (now (tracers .entry))) (emission-call tracer cell amount) r (worldOf g (now (air .entry)) (now (tracers .exit))) ⌝ }
+    ensures { λ r. ⌜ Agrees (worldOf g (now (air .entry)) (now (tracers .entry)) (now (ledger .entry))) (emission-call tracer cell amount) r (worldOf g (now (air .entry)) (now (tracers .exit)) (now (ledger .entry))) ⌝ }
 {
-    let place = amount_place(g, air, tracers, tracer, cell);
+    let place = amount_place(g, air, tracers, ledger, tracer, cell);
     let answer = place.answer;
     if number(answer) == 0 {} else {
         return answer;
@@ -110,13 +124,14 @@ pub fn withdrawal(
     g: Grid,
     air: &[u32],
     tracers: &mut [u32],
+    ledger: &[u32],
     tracer: u32,
     cell: u32,
     amount: u32,
 ) -> Answer
-    ensures { λ r. ⌜ Agrees (worldOf g (now (air .entry)) (now (tracers .entry))) (withdrawal-call tracer cell amount) r (worldOf g (now (air .entry)) (now (tracers .exit))) ⌝ }
+    ensures { λ r. ⌜ Agrees (worldOf g (now (air .entry)) (now (tracers .entry)) (now (ledger .entry))) (withdrawal-call tracer cell amount) r (worldOf g (now (air .entry)) (now (tracers .exit)) (now (ledger .entry))) ⌝ }
 {
-    let place = amount_place(g, air, tracers, tracer, cell);
+    let place = amount_place(g, air, tracers, ledger, tracer, cell);
     let answer = place.answer;
     if number(answer) == 0 {} else {
         return answer;

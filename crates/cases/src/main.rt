@@ -1,6 +1,7 @@
 // Marked cases m1 to m10, further cases x1 to x5, and cases y1-1 to y1-7 of the long sweep, run through the sweeps and the remap: name, answer, count, all air, all tracers.
-// In grids of one row of four columns; the first and the last amount of a layer are the caps'.
+// In grids of one row of four columns; the first and the last amount of a layer are the caps'. No emitter stands.
 use libc::STDOUT_FILENO;
+use units::LEDGER_BLOCK;
 
 fn number(n: u32) {
     io::write_all(STDOUT_FILENO, b" ");
@@ -36,29 +37,33 @@ fn layers(k: u32) -> units::Grid {
 }
 
 fn case(name: &[u8], from: [u32; 6], had: [u32; 6], fluxes: [i32; 4]) {
+    let ledger = [0u32; LEDGER_BLOCK];
     let mut air = from;
     let mut gas = had;
-    let answer = zonal::zonal(layers(1), &mut air, &mut gas, 0, 0, &fluxes);
+    let answer = zonal::zonal(layers(1), &mut air, &mut gas, &ledger, 0, 0, &fluxes);
     report(name, answer, &air, &gas);
 }
 
 fn long_case(name: &[u8], fluxes: [i32; 4]) {
+    let ledger = [0u32; LEDGER_BLOCK];
     let mut air = [100u32; 6];
     let mut gas = [0, 0, 100, 200, 100, 0];
-    let answer = long_zonal::long_zonal(layers(1), &mut air, &mut gas, 0, 0, &fluxes);
+    let answer = long_zonal::long_zonal(layers(1), &mut air, &mut gas, &ledger, 0, 0, &fluxes);
     report(name, answer, &air, &gas);
 }
 
 // A meridional sweep with fluxes out of the south cap, and none into the north cap.
 fn from_south(name: &[u8], south: u32) {
+    let ledger = [0u32; LEDGER_BLOCK];
     let mut air = [south, 200, 200, 200, 200, 200];
     let mut gas = [50, 10, 20, 30, 40, 5];
     let fluxes = [60, 60, 0 - 50, 0, 0, 0, 0, 0];
-    let answer = meridional::meridional(layers(1), &mut air, &mut gas, 0, &fluxes);
+    let answer = meridional::meridional(layers(1), &mut air, &mut gas, &ledger, 0, &fluxes);
     report(name, answer, &air, &gas);
 }
 
 fn columns() {
+    let ledger = [0u32; LEDGER_BLOCK];
     let mut air = [100u32; 18];
     let mut gas = [
         0,
@@ -84,12 +89,19 @@ fn columns() {
         layers(3),
         &mut air,
         &mut gas,
+        &ledger,
         &[0, 0, 0, 32768, 200, 0, 0, 65536],
     );
     report(b"m9", answer, &air, &gas);
     let mut thin = [1u32; 12];
     let mut none = [0u32; 12];
-    let refused = remap::remap(layers(2), &mut thin, &mut none, &[0, 0, 0, 16384, 0, 65536]);
+    let refused = remap::remap(
+        layers(2),
+        &mut thin,
+        &mut none,
+        &ledger,
+        &[0, 0, 0, 16384, 0, 65536],
+    );
     report(b"m10", refused, &thin, &none);
 }
 

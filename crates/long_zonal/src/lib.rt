@@ -36,10 +36,18 @@ fn row_air(air: &[u32]) -> Air
 }
 
 // Places 1 to 5, 8, 16 and 17: where the row starts.
-fn long_place(g: Grid, air: &[u32], tracers: &[u32], layer: u32, row: u32, fluxes: &[i32]) -> Placed
-    ensures { λ p. ⌜ IsLongPlace (worldOf g (now (air .entry)) (now (tracers .entry))) layer row (now (fluxes .entry)) p ⌝ }
+fn long_place(
+    g: Grid,
+    air: &[u32],
+    tracers: &[u32],
+    ledger: &[u32],
+    layer: u32,
+    row: u32,
+    fluxes: &[i32],
+) -> Placed
+    ensures { λ p. ⌜ IsLongPlace (worldOf g (now (air .entry)) (now (tracers .entry)) (now (ledger .entry))) layer row (now (fluxes .entry)) p ⌝ }
 {
-    let place = row_place(g, air, tracers, layer, row, fluxes);
+    let place = row_place(g, air, tracers, ledger, layer, row, fluxes);
     let answer = place.answer;
     if number(answer) == 0 {} else {
         return place;
@@ -89,13 +97,14 @@ pub fn long_zonal(
     g: Grid,
     air: &mut [u32],
     tracers: &mut [u32],
+    ledger: &[u32],
     layer: u32,
     row: u32,
     fluxes: &[i32],
 ) -> Answer
-    ensures { λ x. ⌜ Agrees (worldOf g (now (air .entry)) (now (tracers .entry))) (long-zonal-call layer row (now (fluxes .entry))) x (worldOf g (now (air .exit)) (now (tracers .exit))) ⌝ }
+    ensures { λ x. ⌜ Agrees (worldOf g (now (air .entry)) (now (tracers .entry)) (now (ledger .entry))) (long-zonal-call layer row (now (fluxes .entry))) x (worldOf g (now (air .exit)) (now (tracers .exit)) (now (ledger .entry))) ⌝ }
 {
-    let place = long_place(g, air, tracers, layer, row, fluxes);
+    let place = long_place(g, air, tracers, ledger, layer, row, fluxes);
     let answer = place.answer;
     if number(answer) == 0 {} else {
         return answer;

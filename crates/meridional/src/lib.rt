@@ -49,15 +49,16 @@ fn layer_place(
     g: Grid,
     air: &[u32],
     tracers: &[u32],
+    ledger: &[u32],
     layer: u32,
     fluxes: &[i32],
     airup: &mut [u32],
     airdown: &mut [u32],
 ) -> Placed
     requires { ⌜ Rooms (now airup) (now airdown) ⌝ }
-    ensures { λ p. ⌜ IsLayerPlace (worldOf g (now (air .entry)) (now (tracers .entry))) layer (now (fluxes .entry)) (now (airup .exit)) (now (airdown .exit)) p ⌝ }
+    ensures { λ p. ⌜ IsLayerPlace (worldOf g (now (air .entry)) (now (tracers .entry)) (now (ledger .entry))) layer (now (fluxes .entry)) (now (airup .exit)) (now (airdown .exit)) p ⌝ }
 {
-    let tested = common_places(g, air, tracers, Lent::LayerFluxes(fluxes.len()));
+    let tested = common_places(g, air, tracers, ledger, Lent::LayerFluxes(fluxes.len()));
     let answer = tested.answer;
     if number(answer) == 0 {} else {
         return not_placed(answer);
@@ -121,14 +122,24 @@ pub fn meridional(
     g: Grid,
     air: &mut [u32],
     tracers: &mut [u32],
+    ledger: &[u32],
     layer: u32,
     fluxes: &[i32],
 ) -> Answer
-    ensures { λ x. ⌜ Agrees (worldOf g (now (air .entry)) (now (tracers .entry))) (meridional-call layer (now (fluxes .entry))) x (worldOf g (now (air .exit)) (now (tracers .exit))) ⌝ }
+    ensures { λ x. ⌜ Agrees (worldOf g (now (air .entry)) (now (tracers .entry)) (now (ledger .entry))) (meridional-call layer (now (fluxes .entry))) x (worldOf g (now (air .exit)) (now (tracers .exit)) (now (ledger .entry))) ⌝ }
 {
     let mut airup = [0u32; MOST_FACES];
     let mut airdown = [0u32; MOST_FACES];
-    let place = layer_place(g, air, tracers, layer, fluxes, &mut airup, &mut airdown);
+    let place = layer_place(
+        g,
+        air,
+        tracers,
+        ledger,
+        layer,
+        fluxes,
+        &mut airup,
+        &mut airdown,
+    );
     let answer = place.answer;
     if number(answer) == 0 {} else {
         return answer;

@@ -7,7 +7,7 @@ use native.Mathlib.Nat.{le-of-eq}
 use borrow.Author.Tests.{eqb-true, leb-true}
 use lib.Dec.{leb, eqb}
 use lib.ListN.{length}
-use Rattle.model.specs.Limits.{totalLimit, mostCells, mostTracers}
+use Rattle.model.specs.Limits.{totalLimit, mostCells, mostTracers, blockNumbers}
 use Rattle.model.specs.Basic.{at, every}
 use Rattle.model.specs.World.{Grid, World, worldCells, gasTotal, airFits}
 use Rattle.model.specs.Step.{Call, Place, place, meaning, firstOf, commonPlaces, ownPlaces, refusal, gridFits, lengthsFit, lentFits}
@@ -28,8 +28,15 @@ lentServes g (RowFluxes n) = eqb n (g .W)
 lentServes g (LayerFluxes n) = eqb n (g .W * (g .R + 1))
 lentServes g (Table n) = eqb n (2 * (g .K + 1))
 
-abbrev pub lengthsServe : Grid → ℕ → ℕ → Lent → Bool
-lengthsServe g air tracers lent = eqb air (worldCells g) && eqb tracers (g .N * worldCells g) && lentServes g lent
+-- .. and of the world's lists
+abbrev pub worldServes : World → Bool
+worldServes w =
+    eqb (length (w .air)) (worldCells (w .grid)) &&
+    eqb (length (w .tracers)) (w .grid .N * worldCells (w .grid)) &&
+    eqb (length (w .ledger)) (w .grid .N * blockNumbers)
+
+abbrev pub lengthsServe : World → Lent → Bool
+lengthsServe w lent = worldServes w && lentServes (w .grid) lent
 
 -- the tests of places 3 and 4
 abbrev pub airTest : World → Bool
@@ -50,19 +57,15 @@ abbrev pub fromAir : List Place
 fromAir = place 3 (λ w. not (airTest w)) ∷ fromTotals
 
 abbrev pub fromLengths : Lent → List Place
-fromLengths lent =
-    place 2 (λ w. not (lengthsServe (w .grid) (length (w .air)) (length (w .tracers)) lent)) ∷ fromAir
+fromLengths lent = place 2 (λ w. not (lengthsServe w lent)) ∷ fromAir
 
 abbrev pub fromGrid : Lent → List Place
 fromGrid lent = place 1 (λ w. not (gridFits (w .grid))) ∷ fromLengths lent
 
 -- place 2 is the same for each of them
 lengths-same : (w : World) (lent : Lent) (call : Call) → lentFits (w .grid) call ≡ lentServes (w .grid) lent →
-    lengthsFit w call ≡ lengthsServe (w .grid) (length (w .air)) (length (w .tracers)) lent
-lengths-same w lent call fit =
-    let air = eqb (length (w .air)) (worldCells (w .grid)) in
-    let tracers = eqb (length (w .tracers)) (w .grid .N * worldCells (w .grid)) in
-    ap (λ (b : Bool). air && tracers && b) fit
+    lengthsFit w call ≡ lengthsServe w lent
+lengths-same w lent call fit = ap (λ (b : Bool). worldServes w && b) fit
 
 pub all-left : (w : World) (lent : Lent) → Left w (Lends w lent) (fromGrid lent)
 unfolding refusal commonPlaces firstOf
@@ -88,19 +91,31 @@ abbrev pub IsTested : World → Lent → declared.Tested → Type 0
 IsTested w lent tested = IsPlaced w (Lends w lent) (tested .answer) (Passed w lent tested)
 
 -- what the passed lengths tell
-module _ (w : World) (lent : Lent) (b : lengthsServe (w .grid) (length (w .air)) (length (w .tracers)) lent ≡ true) where
-  pub lengths-true : (length (w .air) ≡ worldCells (w .grid)) × (length (w .tracers) ≡ w .grid .N * worldCells (w .grid)) × (lentServes (w .grid) lent ≡ true)
+pub record Lengths (w : World) (lent : Lent) : Type 0 where
+  pub air : length (w .air) ≡ worldCells (w .grid)
+  pub tracers : length (w .tracers) ≡ w .grid .N * worldCells (w .grid)
+  pub ledger : length (w .ledger) ≡ w .grid .N * blockNumbers
+  pub other : lentServes (w .grid) lent ≡ true
+
+module _ (w : World) (lent : Lent) (b : lengthsServe w lent ≡ true) where
+  pub lengths-true : Lengths w lent
   lengths-true =
-      let p = and-eq-true-iff _ (lentServes (w .grid) lent) .0 b in
-      let q = and-eq-true-iff (eqb (length (w .air)) (worldCells (w .grid))) _ .0 (p .0) in
-      (eqb-true _ _ (q .0), eqb-true _ _ (q .1), p .1)
+      let all = and-eq-true-iff _ (lentServes (w .grid) lent) .0 b in
+      let lists = and-eq-true-iff _ (eqb (length (w .ledger)) (w .grid .N * blockNumbers)) .0 (all .0) in
+      let amounts = and-eq-true-iff (eqb (length (w .air)) (worldCells (w .grid))) _ .0 (lists .0) in
+      record {
+        air = eqb-true _ _ (amounts .0);
+        tracers = eqb-true _ _ (amounts .1);
+        ledger = eqb-true _ _ (lists .1);
+        other = all .1;
+      }
 
   pub tracers-fit : (cells : ℕ) → cells ≡ worldCells (w .grid) → cells ≤ mostCells → w .grid .N ≤ mostTracers → TracersFit (w .tracers) cells (w .grid .N)
   tracers-fit cells e few n =
       record {
         fewCells = few;
         fewTracers = n;
-        long = le-of-eq (ap (λ (k : ℕ). w .grid .N * k) e ∙ sym (lengths-true .1));
+        long = le-of-eq (ap (λ (k : ℕ). w .grid .N * k) e ∙ sym (lengths-true .tracers));
       }
 
   -- .. with the other tests
@@ -108,9 +123,10 @@ module _ (w : World) (lent : Lent) (b : lengthsServe (w .grid) (length (w .air))
   passed-fits a c d =
       record {
         grid = a;
-        airLength = lengths-true .0;
-        tracersLength = lengths-true .1;
-        air = λ i h. every-at _ _ c i (rw (lengths-true .0) h);
+        airLength = lengths-true .air;
+        tracersLength = lengths-true .tracers;
+        ledgerLength = lengths-true .ledger;
+        air = λ i h. every-at _ _ c i (rw (lengths-true .air) h);
         totals = λ t h. leb-true _ _ (every-at _ _ d t h);
       }
 

@@ -18,6 +18,7 @@ use units::AIR_LIMIT;
 use units::Air;
 use units::Answer;
 use units::Grid;
+use units::LEDGER_BLOCK;
 use units::MOST_TRACERS;
 use units::Refusal;
 use units::TOTAL_LIMIT;
@@ -181,23 +182,24 @@ fn refused(place: Refusal) -> Tested
 }
 
 // Place 2: whether the lent lengths are the grid's.
-pub fn lengths_fit(g: Grid, air: usize, tracers: usize, lent: Lent) -> bool
+pub fn lengths_fit(g: Grid, air: &[u32], tracers: &[u32], ledger: &[u32], lent: Lent) -> bool
     requires { ⌜ InRange g ⌝ }
-    ensures { λ r. ⌜ r ≡ lengthsServe (gridOf g) air tracers lent ⌝ }
+    ensures { λ r. ⌜ r ≡ lengthsServe (worldOf g (now (air .entry)) (now (tracers .entry)) (now (ledger .entry))) lent ⌝ }
 {
     let cells = world_cells(g) as usize;
     let n = g.n as usize;
-    (air == cells) & (tracers == n * cells) & lent_fits(g, lent)
+    let amounts = (air.len() == cells) & (tracers.len() == n * cells);
+    amounts & (ledger.len() == n * LEDGER_BLOCK) & lent_fits(g, lent)
 }
 
 // Places 1 to 4, in this order.
-pub fn common_places(g: Grid, air: &[u32], tracers: &[u32], lent: Lent) -> Tested
-    ensures { λ r. ⌜ IsTested (worldOf g (now (air .entry)) (now (tracers .entry))) lent r ⌝ }
+pub fn common_places(g: Grid, air: &[u32], tracers: &[u32], ledger: &[u32], lent: Lent) -> Tested
+    ensures { λ r. ⌜ IsTested (worldOf g (now (air .entry)) (now (tracers .entry)) (now (ledger .entry))) lent r ⌝ }
 {
     if grid_fits(g) {} else {
         return refused(Refusal::GridRange);
     }
-    if lengths_fit(g, air.len(), tracers.len(), lent) {} else {
+    if lengths_fit(g, air, tracers, ledger, lent) {} else {
         return refused(Refusal::Lengths);
     }
     if air_fits(air) {} else {

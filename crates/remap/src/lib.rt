@@ -176,10 +176,10 @@ fn move_tracers(tracers: &mut [u32], air: &[u32], table: &[u32], cells: usize, k
 }
 
 // Places 1 to 4, 11 and 12; the columns start at cell 0.
-fn remap_place(g: Grid, air: &[u32], tracers: &[u32], table: &[u32]) -> Placed
-    ensures { λ p. ⌜ IsRemapPlace (worldOf g (now (air .entry)) (now (tracers .entry))) (now (table .entry)) p ⌝ }
+fn remap_place(g: Grid, air: &[u32], tracers: &[u32], ledger: &[u32], table: &[u32]) -> Placed
+    ensures { λ p. ⌜ IsRemapPlace (worldOf g (now (air .entry)) (now (tracers .entry)) (now (ledger .entry))) (now (table .entry)) p ⌝ }
 {
-    let tested = common_places(g, air, tracers, Lent::Table(table.len()));
+    let tested = common_places(g, air, tracers, ledger, Lent::Table(table.len()));
     let answer = tested.answer;
     if number(answer) == 0 {} else {
         return not_placed(answer);
@@ -202,10 +202,10 @@ fn remap_place(g: Grid, air: &[u32], tracers: &[u32], table: &[u32]) -> Placed
 }
 
 // Remaps all columns, in the air and in all tracers.
-pub fn remap(g: Grid, air: &mut [u32], tracers: &mut [u32], table: &[u32]) -> Answer
-    ensures { λ x. ⌜ Agrees (worldOf g (now (air .entry)) (now (tracers .entry))) (remap-call (now (table .entry))) x (worldOf g (now (air .exit)) (now (tracers .exit))) ⌝ }
+pub fn remap(g: Grid, air: &mut [u32], tracers: &mut [u32], ledger: &[u32], table: &[u32]) -> Answer
+    ensures { λ x. ⌜ Agrees (worldOf g (now (air .entry)) (now (tracers .entry)) (now (ledger .entry))) (remap-call (now (table .entry))) x (worldOf g (now (air .exit)) (now (tracers .exit)) (now (ledger .entry))) ⌝ }
 {
-    let place = remap_place(g, air, tracers, table);
+    let place = remap_place(g, air, tracers, ledger, table);
     let answer = place.answer;
     if number(answer) == 0 {} else {
         return answer;

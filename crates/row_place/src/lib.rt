@@ -19,13 +19,14 @@ pub fn row_place(
     g: Grid,
     air: &[u32],
     tracers: &[u32],
+    ledger: &[u32],
     layer: u32,
     row: u32,
     fluxes: &[i32],
 ) -> Placed
-    ensures { λ p. ⌜ IsRowPlace (worldOf g (now (air .entry)) (now (tracers .entry))) layer row (now (fluxes .entry)) p ⌝ }
+    ensures { λ p. ⌜ IsRowPlace (worldOf g (now (air .entry)) (now (tracers .entry)) (now (ledger .entry))) layer row (now (fluxes .entry)) p ⌝ }
 {
-    let tested = common_places(g, air, tracers, Lent::RowFluxes(fluxes.len()));
+    let tested = common_places(g, air, tracers, ledger, Lent::RowFluxes(fluxes.len()));
     let answer = tested.answer;
     if number(answer) == 0 {} else {
         return not_placed(answer);

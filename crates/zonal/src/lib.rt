@@ -22,13 +22,14 @@ fn zonal_place(
     g: Grid,
     air: &[u32],
     tracers: &[u32],
+    ledger: &[u32],
     layer: u32,
     row: u32,
     fluxes: &[i32],
 ) -> Placed
-    ensures { λ p. ⌜ IsZonalPlace (worldOf g (now (air .entry)) (now (tracers .entry))) layer row (now (fluxes .entry)) p ⌝ }
+    ensures { λ p. ⌜ IsZonalPlace (worldOf g (now (air .entry)) (now (tracers .entry)) (now (ledger .entry))) layer row (now (fluxes .entry)) p ⌝ }
 {
-    let place = row_place(g, air, tracers, layer, row, fluxes);
+    let place = row_place(g, air, tracers, ledger, layer, row, fluxes);
     let answer = place.answer;
     if number(answer) == 0 {} else {
         return place;
@@ -72,13 +73,14 @@ pub fn zonal(
     g: Grid,
     air: &mut [u32],
     tracers: &mut [u32],
+    ledger: &[u32],
     layer: u32,
     row: u32,
     fluxes: &[i32],
 ) -> Answer
-    ensures { λ x. ⌜ Agrees (worldOf g (now (air .entry)) (now (tracers .entry))) (zonal-call layer row (now (fluxes .entry))) x (worldOf g (now (air .exit)) (now (tracers .exit))) ⌝ }
+    ensures { λ x. ⌜ Agrees (worldOf g (now (air .entry)) (now (tracers .entry)) (now (ledger .entry))) (zonal-call layer row (now (fluxes .entry))) x (worldOf g (now (air .exit)) (now (tracers .exit)) (now (ledger .entry))) ⌝ }
 {
-    let place = zonal_place(g, air, tracers, layer, row, fluxes);
+    let place = zonal_place(g, air, tracers, ledger, layer, row, fluxes);
     let answer = place.answer;
     if number(answer) == 0 {} else {
         return answer;

@@ -17,7 +17,7 @@ use Rattle.amounts.proofs.amount_place.Statement.{statement}
 use Rattle.amounts.proofs.amount_place.Tie as tie
 
 abbrev world : tie.Start → World
-world s = worldOf (s .args .g) (s .args .air .now) (s .args .tracers .now)
+world s = worldOf (s .args .g) (s .args .air .now) (s .args .tracers .now) (s .args .ledger .now)
 
 abbrev call : tie.Start → Call
 call s = cell (s .args .tracer) (s .args .cell)

@@ -1,12 +1,31 @@
--- `amounts::load` meets its contract: places 1 to 4 are all that a load tests.
-use mathlib.Core.Path.{refl}
+-- `amounts::load` meets its contract: places 1 to 4 are all that a load tests, and none stands after it.
+use mathlib.Core.Path.{refl, sym, _∙_}
+use Rattle.places.specs.Tested.{common-refused}
 use Rattle.amounts.specs.Amount.{load-agrees}
 use borrow.Author.Needs.{needs}
 use Rattle.amounts.proofs.load.Statement.{statement}
 use Rattle.amounts.proofs.load.Tie as tie
 
 returns : tie.Need-returns
-returns c = load-agrees (c .common-places .ensures) _ refl
+returns c =
+    let tested : tie.After-common-places = search needs in
+    common-refused (tested .common-places .ensures) (λ z. c .if1 .left (c .before .number .ensures ∙ z)) refl
+
+returns-2 : tie.Need-returns-2
+returns-2 c =
+    let tested : tie.After-common-places = search needs in
+    let accepted : tie.Then1 = search needs in
+    let left : tie.After-clear = search needs in
+    load-agrees (tested .common-places .ensures) (sym (accepted .before .number .ensures) ∙ accepted .if1 .taken) (left .clear .ensures)
 
 pub load-spec : {M : Type 1} → statement M
-load-spec = tie.close (tie.spec (λ c κs. search needs) returns)
+load-spec =
+    tie.close
+    (tie.spec
+    (λ c κs. search needs)  -- common-places-requires
+    (λ c κs. search needs)  -- number-requires
+    (λ c. search needs)  -- same-length
+    returns
+    (λ c κs. search needs)  -- clear-requires
+    (λ c. search needs)  -- same-length-2
+    returns-2)

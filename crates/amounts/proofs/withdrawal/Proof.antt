@@ -16,7 +16,7 @@ returns c =
 found : (c : tie.Then1) →
     let start : tie.Start = search needs in
     let place : tie.After-amount-place = search needs in
-    CellFound (worldOf (start .args .g) (start .args .air .now) (start .args .tracers .now)) (start .args .tracer) (start .args .cell)
+    CellFound (worldOf (start .args .g) (start .args .air .now) (start .args .tracers .now) (start .args .ledger .now)) (start .args .tracer) (start .args .cell)
     (place .amount-place .result)
 found c =
     let place : tie.After-amount-place = search needs in

@@ -14,7 +14,7 @@ use Rattle.long_zonal.proofs.long_place.Statement.{statement}
 use Rattle.long_zonal.proofs.long_place.Tie as tie
 
 abbrev world : tie.Start → World
-world s = worldOf (s .args .g) (s .args .air .now) (s .args .tracers .now)
+world s = worldOf (s .args .g) (s .args .air .now) (s .args .tracers .now) (s .args .ledger .now)
 
 returns : tie.Need-returns
 returns c =

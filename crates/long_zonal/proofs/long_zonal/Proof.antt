@@ -18,7 +18,7 @@ returns c =
 found : (c : tie.Then1) →
     let s : tie.Start = search needs in
     let place : tie.After-long-place = search needs in
-    LongFound (worldOf (s .args .g) (s .args .air .now) (s .args .tracers .now)) (s .args .layer) (s .args .row) (s .args .fluxes .now)
+    LongFound (worldOf (s .args .g) (s .args .air .now) (s .args .tracers .now) (s .args .ledger .now)) (s .args .layer) (s .args .row) (s .args .fluxes .now)
     (place .long-place .result)
 found c =
     let place : tie.After-long-place = search needs in

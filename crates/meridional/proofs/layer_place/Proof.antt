@@ -19,7 +19,7 @@ use Rattle.meridional.proofs.layer_place.Statement.{statement}
 use Rattle.meridional.proofs.layer_place.Tie as tie
 
 abbrev world : tie.Start → World
-world s = worldOf (s .args .g) (s .args .air .now) (s .args .tracers .now)
+world s = worldOf (s .args .g) (s .args .air .now) (s .args .tracers .now) (s .args .ledger .now)
 
 abbrev call : tie.Start → Call
 call s = meridional (s .args .layer) (s .args .fluxes .now)

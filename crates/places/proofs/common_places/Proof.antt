@@ -1,9 +1,8 @@
 -- `places::common_places` meets its contract: each answer from the tests that led there.
 use mathlib.Core.Path.{_≡_, refl, sym, _∙_}
 use mathlib.Core.Bool.{true}
-use lib.ListN.{length}
 use Rattle.model.specs.World.{World}
-use Rattle.units.specs.Grid.{gridOf, worldOf, InRange, in-range}
+use Rattle.units.specs.Grid.{worldOf, InRange, in-range}
 use Rattle.places.specs.Walk.{Left, next, stop, placed, fits, fails}
 use Rattle.places.specs.Tested.{Lends, lengthsServe, fromLengths, fromAir, fromTotals, all-left, lengths-true, passed-fits, tracers-fit, gas-totals, totals-test}
 use borrow.Author.Needs.{needs}
@@ -11,7 +10,7 @@ use Rattle.places.proofs.common_places.Statement.{statement}
 use Rattle.places.proofs.common_places.Tie as tie
 
 abbrev world : tie.Start → World
-world s = worldOf (s .args .g) (s .args .air .now) (s .args .tracers .now)
+world s = worldOf (s .args .g) (s .args .air .now) (s .args .tracers .now) (s .args .ledger .now)
 
 returns : tie.Need-returns
 returns c =
@@ -35,8 +34,7 @@ returns-2 c =
     stop (past-grid grid) (fails (no .before .lengths-fit .ensures) (no .if2 .left)) (c .refused2 .ensures) refl
 
 -- place 2
-lengths-served : (c : tie.Then2) →
-    let s : tie.Start = search needs in lengthsServe (gridOf (s .args .g)) (length (s .args .air .now)) (length (s .args .tracers .now)) (s .args .lent) ≡ true
+lengths-served : (c : tie.Then2) → let s : tie.Start = search needs in lengthsServe (world s) (s .args .lent) ≡ true
 lengths-served c = sym (c .before .lengths-fit .ensures) ∙ c .if2 .taken
 
 past-lengths : (c : tie.Then2) → let s : tie.Start = search needs in Left (world s) (Lends (world s) (s .args .lent)) fromAir
@@ -98,7 +96,7 @@ returns-5 c =
       fits =
           passed-fits (world start) (start .args .lent) (lengths-served lengths) (sym (grid .before .grid-fits .ensures) ∙ grid .if1 .taken)
           (sym (air .before .air-fits .ensures) ∙ air .if3 .taken) (sym test ∙ c .if4 .taken);
-      lentFit = lengths-true (world start) (start .args .lent) (lengths-served lengths) .2;
+      lentFit = lengths-true (world start) (start .args .lent) (lengths-served lengths) .other;
       count = refl;
       total = gas-totals (world start) _ (cells .world-cells .ensures .0) _ (sums .totals .ensures);
     }

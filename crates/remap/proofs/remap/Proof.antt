@@ -15,7 +15,7 @@ returns c =
 found : (c : tie.Then1) →
     let place : tie.After-remap-place = search in
     let s : tie.Start = search in
-    ColumnsFound (worldOf (s .args .g) (s .args .air .now) (s .args .tracers .now)) (s .args .table .now) (place .remap-place .result)
+    ColumnsFound (worldOf (s .args .g) (s .args .air .now) (s .args .tracers .now) (s .args .ledger .now)) (s .args .table .now) (place .remap-place .result)
 found c =
     let place : tie.After-remap-place = search in
     place .remap-place .ensures .found (sym (c .before .number .ensures) ∙ c .if1 .taken)

@@ -5,6 +5,7 @@ use mathlib.Core.Path.{_≡_, refl, sym, _∙_}
 use borrow.Author.Tests.{eqb-true}
 use lib.ListN.{length}
 use Rattle.model.specs.World.{World}
+use Rattle.model.specs.Remap.{remapServes}
 use Rattle.model.specs.Step.{Call, remap, tableFits}
 use Rattle.units.specs.Grid.{worldOf, in-range}
 use Rattle.places.specs.declared.Lent.the-variants.{Table}
@@ -16,7 +17,7 @@ use Rattle.remap.proofs.remap_place.Statement.{statement}
 use Rattle.remap.proofs.remap_place.Tie as tie
 
 abbrev world : tie.Start → World
-world s = worldOf (s .args .g) (s .args .air .now) (s .args .tracers .now)
+world s = worldOf (s .args .g) (s .args .air .now) (s .args .tracers .now) (s .args .ledger .now)
 
 abbrev call : tie.Start → Call
 call s = remap (s .args .table .now)
@@ -72,16 +73,19 @@ columns-serve-requires c κs =
     let s : tie.Start = search in
     columns-need (world s) (c .layer-cells .ensures .0) (passed common .fits) (pairs common) (table-fit table)
 
+-- whether all columns serve
+serving : (c : tie.After-columns-serve) → let s : tie.Start = search in c .columns-serve .result .ok ≡ remapServes (world s) (s .args .table .now)
+serving c =
+    let cells : tie.After-layer-cells = search in
+    let s : tie.Start = search in
+    serves-is (world s) (cells .layer-cells .ensures .0) (c .columns-serve .ensures)
+
 returns-3 : tie.Need-returns-3
 returns-3 c =
     let no : tie.Else3 = search in
     let served : tie.After-columns-serve = search in
-    let cells : tie.After-layer-cells = search in
     let table : tie.Then2 = search in
-    let common : tie.Then1 = search in
-    let s : tie.Start = search in
-    let serves = serves-is (world s) (cells .layer-cells .ensures .0) (served .columns-serve .ensures) in
-    stop (past-table table) (fails serves (no .if3 .left)) (c .not-placed3 .ensures) refl
+    stop (past-table table) (fails (serving served) (no .if3 .left)) (c .not-placed3 .ensures) refl
 
 returns-4 : tie.Need-returns-4
 returns-4 c =
@@ -90,15 +94,13 @@ returns-4 c =
     let table : tie.Then2 = search in
     let common : tie.Then1 = search in
     let s : tie.Start = search in
-    let same = cells .layer-cells .ensures .0 in
-    let serves = serves-is (world s) same (served .columns-serve .ensures) in
     placed refl
     record {
-      left = next (past-table table) (fits serves (c .if3 .taken));
+      left = next (past-table table) (fits (serving served) (c .if3 .taken));
       fits = passed common .fits;
       pairs = pairs common;
       tableFit = table-fit table;
-      counted = count-is (world s) same (served .columns-serve .ensures) (c .if3 .taken);
+      counted = count-is (world s) (cells .layer-cells .ensures .0) (served .columns-serve .ensures) (c .if3 .taken);
     }
 
 pub remap-place-spec : {M : Type 1} → statement M

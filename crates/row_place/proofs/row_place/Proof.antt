@@ -16,7 +16,7 @@ use Rattle.row_place.proofs.row_place.Statement.{statement}
 use Rattle.row_place.proofs.row_place.Tie as tie
 
 abbrev world : tie.Start → World
-world s = worldOf (s .args .g) (s .args .air .now) (s .args .tracers .now)
+world s = worldOf (s .args .g) (s .args .air .now) (s .args .tracers .now) (s .args .ledger .now)
 
 abbrev LeftAt : tie.Start → List Place → Type 0
 LeftAt s ps = Left (world s) (SweepsRow (world s) (s .args .layer) (s .args .row) (s .args .fluxes .now)) ps

@@ -18,7 +18,7 @@ returns c =
 found : (c : tie.Then1) →
     let s : tie.Start = search needs in
     let place : tie.After-zonal-place = search needs in
-    ZonalFound (worldOf (s .args .g) (s .args .air .now) (s .args .tracers .now)) (s .args .layer) (s .args .row) (s .args .fluxes .now)
+    ZonalFound (worldOf (s .args .g) (s .args .air .now) (s .args .tracers .now) (s .args .ledger .now)) (s .args .layer) (s .args .row) (s .args .fluxes .now)
     (place .zonal-place .result)
 found c =
     let place : tie.After-zonal-place = search needs in
