@@ -3,6 +3,7 @@ use Prim.Native.Nat.{ℕ, _+_, _*_, _≤_}
 use mathlib.Core.List.{List}
 use mathlib.Core.Path.{_≡_}
 use lib.ListN.{length}
+use Rattle.model.specs.Basic.{zeros}
 use Rattle.model.specs.World as model
 use Rattle.model.specs.Step.{Call, load}
 use Rattle.units.specs.declared.Grid as declared
@@ -26,16 +27,20 @@ pub record MakeNeed (g : declared.Grid) (c : Command) (body : List ℕ) : Type 0
 pub record Makes (g : declared.Grid) (c : Command) (body : List ℕ) (answer : Answer) (before left : Buffers) : Type 0 where
   pub made : (call : Call) → commandIs (gridOf g) body c ≡ program.make call → Agrees (worldIn g before) call answer (worldIn g left)
 
--- the world that a load's body holds
-abbrev pub bodyWorld : model.Grid → List ℕ → ℕ → ℕ → model.World
-bodyWorld g body cells amounts =
-    record { grid = g; air = numbersAt body 0 cells; tracers = numbersAt body (4 * cells) amounts }
+-- the world that a load's body holds, with a ledger of zeros
+abbrev pub bodyWorld : model.Grid → List ℕ → (cells amounts numbers : ℕ) → model.World
+bodyWorld g body cells amounts numbers =
+    record {
+      grid = g;
+      air = numbersAt body 0 cells;
+      tracers = numbersAt body (4 * cells) amounts;
+      ledger = zeros numbers;
+    }
 
--- a load's body holds the numbers of all buffers
+-- a load's body holds the numbers of all air and all tracers
 pub record LoadNeed (body : List ℕ) (b : Buffers) : Type 0 where
   pub whole : 4 * length (b .air) + 4 * length (b .tracers) ≤ length body
 
--- the buffers are left with the body's numbers, and are tested
+-- what `step` gives of the load of the body's world, with lists as long as the buffers before
 pub record MakesLoad (g : declared.Grid) (body : List ℕ) (before : Buffers) (answer : Answer) (left : Buffers) : Type 0 where
-  pub is : worldIn g left ≡ bodyWorld (gridOf g) body (length (before .air)) (length (before .tracers))
-  pub agrees : Agrees (worldIn g left) load answer (worldIn g left)
+  pub made : Agrees (bodyWorld (gridOf g) body (length (before .air)) (length (before .tracers)) (length (before .ledger))) load answer (worldIn g left)

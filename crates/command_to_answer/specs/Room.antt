@@ -66,3 +66,7 @@ filled-fluxes room n body a {new} fits is =
 -- ---- a call with equal lists is the same call
 pub agrees-same : (w : World) (call call' : Call) (x : Answer) (next : World) → call ≡ call' → Agrees w call x next → Agrees w call' x next
 agrees-same w call call' x next e agrees = subst (λ (y : Call). Agrees w y x next) e agrees
+
+-- .. and one in an equal world
+pub agrees-in : {w v : World} {call : Call} {x : Answer} {next : World} → w ≡ v → Agrees w call x next → Agrees v call x next
+agrees-in {call = call} {x = x} {next = next} e agrees = subst (λ (u : World). Agrees u call x next) e agrees

@@ -4,6 +4,8 @@ use mathlib.Core.List.{List}
 use mathlib.Core.Bool.{Bool, true, false}
 use mathlib.Core.Path.{_≡_}
 use lib.ListN.{length}
+use Rattle.model.specs.Limits.{blockNumbers}
+use Rattle.model.specs.Basic.{zeros}
 use Rattle.model.specs.World as model
 use Rattle.model.specs.Step as step
 use Rattle.units.specs.Grid.{gridOf}
@@ -21,6 +23,7 @@ commandIs g body Load =
       grid = g;
       air = numbersAt body 0 (model.worldCells g);
       tracers = numbersAt body (4 * model.worldCells g) (g .N * model.worldCells g);
+      ledger = zeros (g .N * blockNumbers);
     })
 commandIs g body (Emission e) = program.make (step.emission (e .tracer) (e .cell) (e .amount))
 commandIs g body (Withdrawal e) = program.make (step.withdrawal (e .tracer) (e .cell) (e .amount))

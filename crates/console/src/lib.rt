@@ -11,12 +11,14 @@ use lines::line_text;
 use record_to_line::Outcome;
 use record_to_line::air_space;
 use record_to_line::carry_out;
+use record_to_line::ledger_space;
 use record_to_line::tracer_space;
 use records::body_bytes;
 use stages::Stage;
 use units::PROGRAM_AMOUNTS;
 use units::PROGRAM_BODY;
 use units::PROGRAM_CELLS;
+use units::PROGRAM_LEDGER;
 
 // Room for the longest record, a kind and its body.
 fn record_space() -> [u8; PROGRAM_BODY + 1]
@@ -44,6 +46,7 @@ fn turn(
     bytes: &mut [u8],
     air: &mut [u32; PROGRAM_CELLS],
     tracers: &mut [u32; PROGRAM_AMOUNTS],
+    ledger: &mut [u32; PROGRAM_LEDGER],
 ) -> After
     requires { ⌜ length (now bytes) ≡ programBody + 1 ⌝ }
 {
@@ -53,7 +56,7 @@ fn turn(
     }
     let end = 1 + body_bytes(stage, bytes[0]);
     let body = io::read_full(STDIN_FILENO, &mut bytes[1..end]);
-    match carry_out(stage, &bytes[..1 + body], air, tracers) {
+    match carry_out(stage, &bytes[..1 + body], air, tracers, ledger) {
         Outcome::Nothing => After::Done,
         Outcome::Next(line, next) => {
             if print(line) {
@@ -74,10 +77,11 @@ pub fn run() {
     let mut bytes = record_space();
     let mut air = air_space();
     let mut tracers = tracer_space();
+    let mut ledger = ledger_space();
     let mut stage = Stage::Start;
     let mut turns = u64::MAX;
     while turns > 0 {
-        let After::Next(next) = turn(stage, &mut bytes, &mut air, &mut tracers) else {
+        let After::Next(next) = turn(stage, &mut bytes, &mut air, &mut tracers, &mut ledger) else {
             return;
         };
         stage = next;

@@ -2,11 +2,12 @@
 -- `run` stands for a loop that makes no fewer turns than there are bytes.
 use Prim.Native.Nat.{ℕ, _+_, _≤_}
 use mathlib.Core.List.{List, _∷_, _++_}
+use mathlib.Core.Bool.{true}
 use mathlib.Core.Path.{_≡_}
 use lib.ListN.{length}
 use Rattle.model.specs.World.{gasTotal}
 use Rattle.model.specs.Step.{Call, total, step}
-use Rattle.model.specs.Lists.{history}
+use Rattle.model.specs.Lists.{listed, history}
 use Rattle.program.specs.Records.{start, make, command}
 use Rattle.program.specs.Lines.{Entry, entries, lines, run}
 use Rattle.program.specs.Totals.{Since, nothingYet, since, worldNow}
@@ -22,13 +23,13 @@ module _ (bytes : List ℕ) (before rest : List Entry) (e : Entry) (split : entr
   abbrev s : Since
   s = since nothingYet before
 
-  -- Each line that the program prints for a call has the answer and the count that `step` gives in the world that those calls have left
+  -- Each line that the program prints for a call has the answer and the count that `step` gives in the world that those calls have left; none of those calls is a load, so that demand 3 is about them
   pub printed-calls :
       (call : Call) → e .finding ≡ command (make call) →
-      (e .printed .answer ≡ step (worldNow s) call .answer) × (e .printed .count ≡ step (worldNow s) call .count)
+      (e .printed .answer ≡ step (worldNow s) call .answer) × (e .printed .count ≡ step (worldNow s) call .count) × (listed (s .calls) ≡ true)
   printed-calls call asked =
       let said = all-say 0 start bytes nothingYet tt before rest e split call asked in
-      (said .answered, said .counted)
+      (said .answered, said .counted, said .allListed)
 
   -- Each total that the program prints equals the loaded amount plus the emissions less the withdrawals, answered 0, since the last accepted load
   pub printed-totals :

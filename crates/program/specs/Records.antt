@@ -5,8 +5,8 @@ use mathlib.Core.List.{List, [], _∷_}
 use mathlib.Core.Bool.{Bool, true, false, not, _||_}
 use lib.Dec.{leb, ltb}
 use lib.ListN.{length, getD}
-use Rattle.model.specs.Limits.{programCells, programTracers}
-use Rattle.model.specs.Basic.{at}
+use Rattle.model.specs.Limits.{blockNumbers, programCells, programTracers}
+use Rattle.model.specs.Basic.{at, zeros}
 use Rattle.model.specs.World.{Grid, World, worldCells}
 use Rattle.model.specs.Step.{Call, load, emission, withdrawal, zonal, meridional, remap, total, cell, gridFits, step}
 use Rattle.model.specs.Lists.{loadedWorld}
@@ -41,8 +41,8 @@ pub data State : Type 0 where
 
 -- the world that counts as loaded; one without cells before a load, in a grid of no cells before a grid
 abbrev pub worldOf : State → World
-worldOf start = record { grid = record { W = 0; R = 0; K = 0; N = 0 }; air = []; tracers = [] }
-worldOf (gridded g) = record { grid = g; air = []; tracers = [] }
+worldOf start = record { grid = record { W = 0; R = 0; K = 0; N = 0 }; air = []; tracers = []; ledger = [] }
+worldOf (gridded g) = record { grid = g; air = []; tracers = []; ledger = [] }
 worldOf (loaded w) = w
 
 abbrev pub gridOf : State → Grid
@@ -91,9 +91,9 @@ pub data Command : Type 0 where
   make : Call → Command
 
 -- "1 grid: W, R, K, N, a byte each. 2 load: all air, then all tracers, 4 bytes each. 3 emission and 4 withdrawal: tracer 1 byte, cell over all layers 2 bytes, amount 4.
--- 5 zonal: layer 1, row 1, fluxes 4 each. 6 meridional: layer 1, fluxes. 7 remap: pairs a, b, 4 each. 8 total: tracer 1. 9 cell: tracer 1, cell 2." An unknown kind is never in place, so its line is not reached.
+-- 5 zonal: layer 1, row 1, fluxes 4 each. 6 meridional: layer 1, fluxes. 7 remap: pairs a, b, 4 each. 8 total: tracer 1. 9 cell: tracer 1, cell 2." No record holds emitters: the ledger is the program's own, and none stands. An unknown kind is never in place, so its line is not reached.
 abbrev pub commandOf : Grid → Kind → List ℕ → Command
-commandOf g unknown body = make load
+commandOf g unknown body = make (total 0)
 commandOf g gridKind body = setGrid (record { W = at body 0; R = at body 1; K = at body 2; N = at body 3 })
 commandOf g loadKind body =
     setWorld
@@ -101,6 +101,7 @@ commandOf g loadKind body =
       grid = g;
       air = numbersAt body 0 (worldCells g);
       tracers = numbersAt body (4 * worldCells g) (g .N * worldCells g);
+      ledger = zeros (g .N * blockNumbers);
     })
 commandOf g emissionKind body = make (emission (at body 0) (numberAt body 1 2) (numberAt body 3 4))
 commandOf g withdrawalKind body = make (withdrawal (at body 0) (numberAt body 1 2) (numberAt body 3 4))

@@ -11,7 +11,7 @@ use Rattle.model.specs.World as model
 use Rattle.units.specs.declared.Grid as declared
 use Rattle.units.specs.Grid.{gridOf}
 use Rattle.program.specs.Records as program
-use Rattle.program.specs.Laws.Totals.{found-loaded}
+use Rattle.program.specs.Laws.Totals.{found-call}
 use Rattle.stages.specs.declared.Stage.{Stage}
 use Rattle.stages.specs.declared.Stage.the-variants.{Start, Gridded, Loaded}
 use Rattle.stages.specs.declared.Fault.{Fault}
@@ -118,7 +118,7 @@ module _
   ready call asked =
       let found : program.found (stateOf stage b) (at input 0 ∷ drop 1 input) ≡ program.command (program.make call) =
       ap (program.found (stateOf stage b)) (sym (drop-cons input 0 0 some)) ∙ sym found-is ∙ ap program.command (sym command-is ∙ asked) in
-      let is = found-loaded (stateOf stage b) (at input 0) (drop 1 input) call found in
+      let is = found-call (stateOf stage b) (at input 0) (drop 1 input) call found .0 in
       settled .same b ∙
       loaded-of r b (subst (λ (v : program.State). program.isLoaded v ≡ true) (settled .same b) is) ∙
       ap (λ (x : model.Grid). program.loaded (held x b)) (sym grid)

@@ -1,26 +1,28 @@
 -- Laws that the proofs of the carrying functions cite: a grid's record, a load's lists, a command by its case.
 use Prim.Native.Nat.{ℕ, zero, suc, _+_, _*_, _-_, _≤_}
 use mathlib.Core.List.{List}
-use mathlib.Core.Path.{_≡_, refl, sym, _∙_, ap, ap₂, subst}
+use mathlib.Core.Path.{_≡_, refl, sym, _∙_, ap, subst}
 use native.Mathlib.Omega.{arith}
 use lib.ListN.{length}
 use lib.Seq.{length-take-le}
-use Rattle.model.specs.Limits.{programCells}
+use Rattle.model.specs.Limits.{blockNumbers, programCells}
 use Rattle.model.specs.World as model
-use Rattle.model.specs.Step.{Call, load, step}
+use Rattle.model.specs.Step.{Call, load}
 use Rattle.units.specs.declared.Grid as declared
 use Rattle.units.specs.declared.Answer.{Answer}
+use Rattle.units.specs.Answer.{Agrees}
 use Rattle.units.specs.Grid.{gridOf, in-range}
 use Rattle.program.specs.Records as program
 use Rattle.commands.specs.declared.Command.{Command}
 use Rattle.commands.specs.declared.Command.the-variants.{Grid, Load}
 use Rattle.stages.specs.declared.Stage.the-variants.{Gridded}
-use Rattle.stages.specs.Limits.{programAmounts}
+use Rattle.stages.specs.Limits.{programAmounts, programLedger}
 use Rattle.stages.specs.Buffers.{Buffers, worldIn, held, over}
 use Rattle.stages.specs.Stage.{stateOf, SmallGrid}
-use Rattle.stages.specs.Laws.{takes, taken-small, tracer-cells}
+use Rattle.stages.specs.Laws.{takes, taken-small, tracer-cells, tracer-blocks}
 use Rattle.commands.specs.Command.{commandIs, kindOfCommand}
 use Rattle.command_to_answer.specs.Makes.{MakeNeed, bodyWorld, MakesLoad}
+use Rattle.command_to_answer.specs.Room.{agrees-in}
 use Rattle.record_to_line.specs.declared.Outcome as code
 use Rattle.record_to_line.specs.declared.Outcome.the-variants.{Next, Last}
 use Rattle.record_to_line.specs.Outcome.{TakesGrid, AnswersLoad, TakeNeed, TakesLoad, TakesCall, CarryNeed, CarriesCommand, Leaves, worldAfter}
@@ -42,16 +44,15 @@ unfolding program.carriedOut
 grid-refused byte wanted zero e nonzero s b = absurd (nonzero refl)
 grid-refused byte wanted (suc n) e nonzero s b = rw (← e, program.carriedOut)
 
--- ---- a load that was decoded into room of its own
-pub answers-load :
-    {g : declared.Grid} {body : List ℕ} {cells amounts : ℕ} {x : Answer} {before left : Buffers} → length (before .air) ≡ cells →
-    length (before .tracers) ≡ amounts → MakesLoad g body before x left → AnswersLoad g body cells amounts x
-answers-load {g} {body} {cells} {amounts} {x} {before} {left} p q made =
-    let same : worldIn g left ≡ bodyWorld (gridOf g) body cells amounts = made .is ∙ ap₂ (bodyWorld (gridOf g) body) p q in
-    record {
-      number = made .agrees .number ∙ ap (λ (w : model.World). step w load .answer) same;
-      count = made .agrees .count ∙ ap (λ (w : model.World). step w load .count) same;
-    }
+-- ---- a load that was made in buffers of these lengths
+module _
+    {g : declared.Grid} {body : List ℕ} {x : Answer} {before left : Buffers} {cells amounts numbers : ℕ} (air : length (before .air) ≡ cells)
+    (tracers : length (before .tracers) ≡ amounts) (ledger : length (before .ledger) ≡ numbers) (makes : MakesLoad g body before x left) where
+  pub made-load : Agrees (bodyWorld (gridOf g) body cells amounts numbers) load x (worldIn g left)
+  made-load = agrees-in (λ i. bodyWorld (gridOf g) body (air i) (tracers i) (ledger i)) (makes .made)
+
+  pub answers-load : AnswersLoad g body cells amounts numbers x
+  answers-load = record { number = made-load .number; count = made-load .count }
 
 -- ---- a taken grid with room for it
 module _ {g : declared.Grid} {c : Command} {body : List ℕ} {b : Buffers} (need : TakeNeed g c body b) where
@@ -61,6 +62,12 @@ module _ {g : declared.Grid} {c : Command} {body : List ℕ} {b : Buffers} (need
   pub make-need : MakeNeed g c body
   make-need =
       record { small = small; layers = in-range g (takes (gridOf g) (need .taken) .fits) .lowK; whole = need .whole }
+
+  pub numbers-few : g .n * blockNumbers ≤ programLedger
+  numbers-few = tracer-blocks g small
+
+  pub ledger-room : g .n * blockNumbers ≤ length (b .ledger)
+  ledger-room = omega (arith, numbers-few, need .room .ledger)
 
   module _ {cells : ℕ} (few : cells ≤ programCells) where
     pub amounts-few : g .n * cells ≤ programAmounts
@@ -78,6 +85,7 @@ module _ {g : declared.Grid} {c : Command} {body : List ℕ} {b : Buffers} (need
         record {
           air = length-take-le cells (b .air) air-room;
           tracers = length-take-le (g .n * cells) (b .tracers) tracers-room;
+          ledger = length-take-le (g .n * blockNumbers) (b .ledger) ledger-room;
         }
 
 -- both lists of a load are in its body

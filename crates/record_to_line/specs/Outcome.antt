@@ -15,7 +15,7 @@ use Rattle.program.specs.Records as program
 use Rattle.stages.specs.declared.Stage.{Stage}
 use Rattle.commands.specs.declared.Command.{Command}
 use Rattle.commands.specs.declared.Command.the-variants.{Load}
-use Rattle.stages.specs.Limits.{programAmounts}
+use Rattle.stages.specs.Limits.{programAmounts, programLedger}
 use Rattle.stages.specs.Buffers.{Buffers, held, over, BufferRoom}
 use Rattle.stages.specs.Stage.{stateOf}
 use Rattle.commands.specs.Command.{commandIs, kindOfCommand}
@@ -55,14 +55,15 @@ abbrev pub TakesGrid : ℕ → declared.Grid → code.Outcome → Type 0
 TakesGrid byte wanted o =
     (s : program.State) (b : Buffers) → outcomeIs o b ≡ program.carriedOut s byte (program.setGrid (gridOf wanted))
 
-pub record AnswerNeed (body : List ℕ) (cells amounts : ℕ) : Type 0 where
+pub record AnswerNeed (body : List ℕ) (cells amounts numbers : ℕ) : Type 0 where
   pub fewCells : cells ≤ programCells
   pub fewAmounts : amounts ≤ programAmounts
+  pub fewNumbers : numbers ≤ programLedger
   pub whole : 4 * cells + 4 * amounts ≤ length body
 
-pub record AnswersLoad (g : declared.Grid) (body : List ℕ) (cells amounts : ℕ) (answer : Answer) : Type 0 where
-  pub number : numberOf answer ≡ step (bodyWorld (gridOf g) body cells amounts) load .answer
-  pub count : countOf answer ≡ step (bodyWorld (gridOf g) body cells amounts) load .count
+pub record AnswersLoad (g : declared.Grid) (body : List ℕ) (cells amounts numbers : ℕ) (answer : Answer) : Type 0 where
+  pub number : numberOf answer ≡ step (bodyWorld (gridOf g) body cells amounts numbers) load .answer
+  pub count : countOf answer ≡ step (bodyWorld (gridOf g) body cells amounts numbers) load .count
 
 -- a grid that the program took, with room for it in the buffers, and a command's whole body
 pub record TakeNeed (g : declared.Grid) (c : Command) (body : List ℕ) (b : Buffers) : Type 0 where

@@ -3,7 +3,7 @@ ghost use mathlib.Core.Path.{_≡_};
 ghost use lib.ListN.{length};
 ghost use Rattle.model.specs.Limits.{programCells};
 ghost use Rattle.stages.specs.Buffers.{buffers};
-ghost use Rattle.stages.specs.Limits.{programAmounts};
+ghost use Rattle.stages.specs.Limits.{programAmounts, programLedger};
 ghost use Rattle.units.specs.Answer.{numberOf, countOf};
 ghost use Rattle.program.specs.Records.{line};
 ghost use Rattle.record_to_line.specs.Outcome.{lineIs, TakesGrid, AnswerNeed, AnswersLoad, TakeNeed, TakesLoad, TakesCall, CarryNeed, CarriesCommand, Carries};
@@ -21,8 +21,10 @@ use stages::grid_refusal;
 use stages::settled;
 use units::Answer;
 use units::Grid;
+use units::LEDGER_BLOCK;
 use units::PROGRAM_AMOUNTS;
 use units::PROGRAM_CELLS;
+use units::PROGRAM_LEDGER;
 use units::number;
 
 // What comes of a record: nothing, a line and the next stage, or the program's last line.
@@ -67,7 +69,7 @@ fn take_grid(kind: u32, wanted: Grid) -> Outcome
     }
 }
 
-// Room for the air and the tracers of a grid that the program takes.
+// Room for the air, the tracers and the ledger of a grid that the program takes.
 pub fn air_space() -> [u32; PROGRAM_CELLS]
     ensures { λ r. ⌜ length r ≡ programCells ⌝ }
 {
@@ -80,29 +82,56 @@ pub fn tracer_space() -> [u32; PROGRAM_AMOUNTS]
     [0; PROGRAM_AMOUNTS]
 }
 
+pub fn ledger_space() -> [u32; PROGRAM_LEDGER]
+    ensures { λ r. ⌜ length r ≡ programLedger ⌝ }
+{
+    [0; PROGRAM_LEDGER]
+}
+
 // The answer to a load, decoded and tested beside the program's buffers, so that a refused one changes none of them.
-fn answer_to_load(g: Grid, body: &[u8], cells: usize, amounts: usize) -> Answer
-    requires { ⌜ AnswerNeed (now body) cells amounts ⌝ }
-    ensures { λ x. ⌜ AnswersLoad g (now (body .entry)) cells amounts x ⌝ }
+fn answer_to_load(g: Grid, body: &[u8], cells: usize, amounts: usize, numbers: usize) -> Answer
+    requires { ⌜ AnswerNeed (now body) cells amounts numbers ⌝ }
+    ensures { λ x. ⌜ AnswersLoad g (now (body .entry)) cells amounts numbers x ⌝ }
 {
     let mut air = air_space();
     let mut tracers = tracer_space();
-    make_load(g, body, &mut air[..cells], &mut tracers[..amounts])
+    let mut ledger = ledger_space();
+    make_load(
+        g,
+        body,
+        &mut air[..cells],
+        &mut tracers[..amounts],
+        &mut ledger[..numbers],
+    )
 }
 
 // A load's record.
-fn take_load(g: Grid, kind: u32, body: &[u8], air: &mut [u32], tracers: &mut [u32]) -> Outcome
-    requires { ⌜ TakeNeed g Command.Load (now body) (buffers (now air) (now tracers)) ⌝ }
-    ensures { λ o. ⌜ TakesLoad g kind (now (body .entry)) o (buffers (now (air .entry)) (now (tracers .entry))) (buffers (now (air .exit)) (now (tracers .exit))) ⌝ }
+fn take_load(
+    g: Grid,
+    kind: u32,
+    body: &[u8],
+    air: &mut [u32],
+    tracers: &mut [u32],
+    ledger: &mut [u32],
+) -> Outcome
+    requires { ⌜ TakeNeed g Command.Load (now body) (buffers (now air) (now tracers) (now ledger)) ⌝ }
+    ensures { λ o. ⌜ TakesLoad g kind (now (body .entry)) o (buffers (now (air .entry)) (now (tracers .entry)) (now (ledger .entry))) (buffers (now (air .exit)) (now (tracers .exit)) (now (ledger .exit))) ⌝ }
 {
     let cells = cells_of(g);
     let amounts = (g.n as usize) * cells;
-    let answer = answer_to_load(g, body, cells, amounts);
+    let numbers = (g.n as usize) * LEDGER_BLOCK;
+    let answer = answer_to_load(g, body, cells, amounts, numbers);
     let line = line_of(kind, answer);
     if number(answer) == 0 {} else {
         return Outcome::Next(line, Stage::Gridded(g));
     }
-    make_load(g, body, &mut air[..cells], &mut tracers[..amounts]);
+    make_load(
+        g,
+        body,
+        &mut air[..cells],
+        &mut tracers[..amounts],
+        &mut ledger[..numbers],
+    );
     Outcome::Next(line, Stage::Loaded(g))
 }
 
@@ -114,13 +143,22 @@ fn take_call(
     body: &[u8],
     air: &mut [u32],
     tracers: &mut [u32],
+    ledger: &[u32],
 ) -> Outcome
-    requires { ⌜ TakeNeed g c (now body) (buffers (now air) (now tracers)) ⌝ }
-    ensures { λ o. ⌜ TakesCall g kind c (now (body .entry)) o (buffers (now (air .entry)) (now (tracers .entry))) (buffers (now (air .exit)) (now (tracers .exit))) ⌝ }
+    requires { ⌜ TakeNeed g c (now body) (buffers (now air) (now tracers) (now ledger)) ⌝ }
+    ensures { λ o. ⌜ TakesCall g kind c (now (body .entry)) o (buffers (now (air .entry)) (now (tracers .entry)) (now (ledger .entry))) (buffers (now (air .exit)) (now (tracers .exit)) (now (ledger .entry))) ⌝ }
 {
     let cells = cells_of(g);
     let amounts = (g.n as usize) * cells;
-    let answer = make(g, c, body, &mut air[..cells], &mut tracers[..amounts]);
+    let numbers = (g.n as usize) * LEDGER_BLOCK;
+    let answer = make(
+        g,
+        c,
+        body,
+        &mut air[..cells],
+        &mut tracers[..amounts],
+        &ledger[..numbers],
+    );
     Outcome::Next(line_of(kind, answer), Stage::Loaded(g))
 }
 
@@ -132,14 +170,15 @@ fn carry_command(
     body: &[u8],
     air: &mut [u32],
     tracers: &mut [u32],
+    ledger: &mut [u32],
 ) -> Outcome
-    requires { ⌜ CarryNeed g c (now body) (buffers (now air) (now tracers)) ⌝ }
-    ensures { λ o. ⌜ CarriesCommand g kind c (now (body .entry)) o (buffers (now (air .entry)) (now (tracers .entry))) (buffers (now (air .exit)) (now (tracers .exit))) ⌝ }
+    requires { ⌜ CarryNeed g c (now body) (buffers (now air) (now tracers) (now ledger)) ⌝ }
+    ensures { λ o. ⌜ CarriesCommand g kind c (now (body .entry)) o (buffers (now (air .entry)) (now (tracers .entry)) (now (ledger .entry))) (buffers (now (air .exit)) (now (tracers .exit)) (now (ledger .exit))) ⌝ }
 {
     match c {
         Command::Grid(wanted) => take_grid(kind, wanted),
-        Command::Load => take_load(g, kind, body, air, tracers),
-        _ => take_call(g, kind, c, body, air, tracers),
+        Command::Load => take_load(g, kind, body, air, tracers, ledger),
+        _ => take_call(g, kind, c, body, air, tracers, ledger),
     }
 }
 
@@ -149,8 +188,9 @@ pub fn carry_out(
     input: &[u8],
     air: &mut [u32; PROGRAM_CELLS],
     tracers: &mut [u32; PROGRAM_AMOUNTS],
+    ledger: &mut [u32; PROGRAM_LEDGER],
 ) -> Outcome
-    ensures { λ o. ⌜ Carries stage (now (input .entry)) o (buffers (now (air .entry)) (now (tracers .entry))) (buffers (now (air .exit)) (now (tracers .exit))) ⌝ }
+    ensures { λ o. ⌜ Carries stage (now (input .entry)) o (buffers (now (air .entry)) (now (tracers .entry)) (now (ledger .entry))) (buffers (now (air .exit)) (now (tracers .exit)) (now (ledger .exit))) ⌝ }
 {
     if input.len() == 0 {
         return Outcome::Nothing;
@@ -165,6 +205,14 @@ pub fn carry_out(
             answer: fault_number(f),
             count: 0,
         }),
-        Found::Record(c) => carry_command(grid_of(sound), kind, c, &input[1..], air, tracers),
+        Found::Record(c) => carry_command(
+            grid_of(sound),
+            kind,
+            c,
+            &input[1..],
+            air,
+            tracers,
+            ledger,
+        ),
     }
 }

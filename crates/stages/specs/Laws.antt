@@ -6,13 +6,13 @@ use native.Mathlib.Omega.{arith}
 use native.Mathlib.Nat.{mul-le-mul, le-refl}
 use borrow.Author.Tests.{ltb-true, ltb-false, le-ltb, lt-ltb}
 use lib.Dec.{ltb}
-use Rattle.model.specs.Limits.{mostColumns, mostRows, programCells, programTracers}
+use Rattle.model.specs.Limits.{mostColumns, mostRows, blockNumbers, programCells, programTracers}
 use Rattle.model.specs.World as model
 use Rattle.model.specs.Step.{gridFits}
 use Rattle.units.specs.declared.Grid as declared
 use Rattle.units.specs.Grid.{gridOf, in-range}
 use Rattle.program.specs.Records as program
-use Rattle.stages.specs.Limits.{programAmounts, programFaces}
+use Rattle.stages.specs.Limits.{programAmounts, programLedger, programFaces}
 use Rattle.stages.specs.Buffers.{Buffers}
 use Rattle.stages.specs.declared.Stage.{Stage}
 use Rattle.stages.specs.declared.Stage.the-variants.{Start, Gridded, Loaded}
@@ -50,6 +50,9 @@ module _ (g : declared.Grid) (small : SmallGrid g) where
 
   pub tracer-cells : (cells : ℕ) → cells ≤ programCells → g .n * cells ≤ programAmounts
   tracer-cells cells few = mul-le-mul {n₂ = programTracers} {m₂ = programCells} (small .highN) few
+
+  pub tracer-blocks : g .n * blockNumbers ≤ programLedger
+  tracer-blocks = omega (arith, small .highN)
 
   -- the faces of a layer are its rows' cells and one row more
   pub layer-faces : g .w * (g .r + 1) ≡ g .r * g .w + g .w

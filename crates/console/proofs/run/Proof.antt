@@ -8,10 +8,10 @@ use Rattle.console.proofs.run.Statement.{statement}
 use Rattle.console.proofs.run.Tie as tie
 
 abbrev Inv-loop : tie.InvT-loop
-Inv-loop bytes₀ air₀ tracers₀ stage₀ turns₀ bytes air tracers stage turns = length bytes ≡ programBody + 1
+Inv-loop bytes₀ air₀ tracers₀ ledger₀ stage₀ turns₀ bytes air tracers ledger stage turns = length bytes ≡ programBody + 1
 
 abbrev μ-loop : tie.MeasureT-loop
-μ-loop bytes₀ air₀ tracers₀ stage₀ turns₀ bytes air tracers stage turns = turns
+μ-loop bytes₀ air₀ tracers₀ ledger₀ stage₀ turns₀ bytes air tracers ledger stage turns = turns
 
 pub run-spec : {M : Type 1} → statement M
 run-spec =
@@ -22,6 +22,7 @@ run-spec =
     (λ c κs. search needs)  -- record-space-requires
     (λ c κs. search needs)  -- air-space-requires
     (λ c κs. search needs)  -- tracer-space-requires
+    (λ c κs. search needs)  -- ledger-space-requires
     (λ c. search needs)  -- loop-holds
     (λ c. search needs)  -- slice-aggregate-turn
     (λ c κs. search needs)  -- turn-requires

@@ -7,11 +7,11 @@ use mathlib.Core.Path.{_≡_, refl, sym, _∙_, ap, subst}
 use native.Mathlib.Omega.{arith}
 use lib.ListN.{length}
 use Rattle.model.specs.World.{Grid, World, gasTotal}
-use Rattle.model.specs.Step.{Call, load, total, ownPlaces, accepted, step, Result}
-use Rattle.model.specs.Lists.{loadedWorld, after, history}
+use Rattle.model.specs.Step.{Call, load, total, meaning, ownPlaces, accepted, step, Result}
+use Rattle.model.specs.Lists.{loadedWorld, listed, after, history}
 use Rattle.model.specs.Laws.Step.{Fits, Reached, found as present, own-refusal, loaded-reached, step-accepted, answer-is}
 use Rattle.model.specs.Laws.Entries.{below-or-not}
-use Rattle.model.specs.Laws.Lists.{after-append}
+use Rattle.model.specs.Laws.Lists.{after-append, listed-append}
 use Rattle.model.specs.Demand3.{calls-keep}
 use Rattle.program.specs.Records.{Kind, unknown, gridKind, loadKind, emissionKind, withdrawalKind, zonalKind, meridionalKind, remapKind, totalKind, cellKind, kindOf, State, start, gridded, loaded, worldOf, gridOf, isLoaded, inPlace, bodyLength, commandOf, gridRefusal, Command, setGrid, setWorld, make, Finding, nothing, fault, command, Line, line, afterLoad, Outcome, none, onward, last, found, needed, carriedOut, outcomeOf}
 use Rattle.program.specs.Lines.{Entry, entry, entriesFrom}
@@ -19,10 +19,11 @@ use Rattle.program.specs.Laws.Lines.{firstOutcome, entries-none, entries
 use Rattle.program.specs.Laws.Records.{found-misplaced, found-short, found-command}
 use Rattle.program.specs.Totals.{Since, noted, since, worldNow}
 
--- ---- what is noted stands behind a state: nothing before a load; then the loaded world is reached by the noted calls
+-- ---- what is noted stands behind a state: nothing before a load; then the loaded world is reached by the noted calls, none of which is a load
 pub record Behind (w : World) (s : Since) : Type 0 where
   pub reached : Reached (s .first)
   pub now : w ≡ worldNow s
+  pub allListed : listed (s .calls) ≡ true
 
 abbrev pub Sound : State → Since → Type 0
 Sound start s = Unit {0}
@@ -31,18 +32,19 @@ Sound (loaded w) s = Behind w s
 
 -- ---- .. over a call
 make-sound :
-    (w : World) (call : Call) (s : Since) (l : Line) → Behind w s →
+    (w : World) (call : Call) (s : Since) (l : Line) → meaning call .listed ≡ true → Behind w s →
     Sound (loaded (step w call .next)) (noted s (entry (command (make call)) l))
-unfolding after
-make-sound w call s l behind =
+unfolding after listed
+make-sound w call s l may behind =
     record {
       reached = behind .reached;
       now = ap (λ (v : World). step v call .next) (behind .now) ∙ sym (after-append (s .first) (s .calls) (call ∷ []));
+      allListed = listed-append (s .calls) (call ∷ []) (behind .allListed) (rw may);
     }
 
 -- ---- .. over a load: an accepted one begins anew, a refused one leaves nothing loaded
 load-sound : (w : World) (s : Since) (l : Line) → l .answer ≡ step w load .answer → Sound (afterLoad w) (noted s (entry (command (setWorld w)) l))
-unfolding after
+unfolding after listed
 load-sound w s l same = go (step w load .answer) refl
   where
     e : Entry
@@ -51,32 +53,40 @@ load-sound w s l same = go (step w load .answer) refl
     go : (n : ℕ) → step w load .answer ≡ n → Sound (afterLoad w) (noted s e)
     go zero h =
         let begun : noted s e ≡ record { first = loadedWorld w; calls = [] } = rw (same ∙ h, noted) in
-        rw (h, afterLoad, begun) (record { reached = loaded-reached w h; now = refl })
+        rw (h, afterLoad, begun) (record { reached = loaded-reached w h; now = refl; allListed = refl })
     go (suc n) h = rw (h, afterLoad) tt
 
 -- ---- .. over any record that does not end the program
--- a call is found only in a loaded world
+-- whether a list of calls may hold what a command asks for
+abbrev mayStand : Command → Bool
+mayStand (setGrid g) = true
+mayStand (setWorld w) = true
+mayStand (make call) = meaning call .listed
+
+-- a call is found only in a loaded world, and a list may hold it
 call-in-place :
     (s : State) (g : Grid) (kind : Kind) (body : List ℕ) (call : Call) → inPlace s kind ≡ true →
-    commandOf g kind body ≡ make call → isLoaded s ≡ true
+    commandOf g kind body ≡ make call → (isLoaded s ≡ true) × (meaning call .listed ≡ true)
 call-in-place s g unknown body call p e = absurd (false≢true p)
 call-in-place s g gridKind body call p e = absurd (let z : _≡_ {A = ℕ} 0 1 = cc in omega arith)
 call-in-place s g loadKind body call p e = absurd (let z : _≡_ {A = ℕ} 0 1 = cc in omega arith)
-call-in-place s g emissionKind body call p e = p
-call-in-place s g withdrawalKind body call p e = p
-call-in-place s g zonalKind body call p e = p
-call-in-place s g meridionalKind body call p e = p
-call-in-place s g remapKind body call p e = p
-call-in-place s g totalKind body call p e = p
-call-in-place s g cellKind body call p e = p
+call-in-place s g emissionKind body call p e = (p, ap mayStand (sym e))
+call-in-place s g withdrawalKind body call p e = (p, ap mayStand (sym e))
+call-in-place s g zonalKind body call p e = (p, ap mayStand (sym e))
+call-in-place s g meridionalKind body call p e = (p, ap mayStand (sym e))
+call-in-place s g remapKind body call p e = (p, ap mayStand (sym e))
+call-in-place s g totalKind body call p e = (p, ap mayStand (sym e))
+call-in-place s g cellKind body call p e = (p, ap mayStand (sym e))
 
-pub found-loaded : (s : State) (byte : ℕ) (bytes : List ℕ) (call : Call) → found s (byte ∷ bytes) ≡ command (make call) → isLoaded s ≡ true
-found-loaded s byte bytes call e = go (inPlace s (kindOf byte)) refl (below-or-not (length bytes) (bodyLength (gridOf s) (kindOf byte)))
+pub found-call :
+    (s : State) (byte : ℕ) (bytes : List ℕ) (call : Call) → found s (byte ∷ bytes) ≡ command (make call) →
+    (isLoaded s ≡ true) × (meaning call .listed ≡ true)
+found-call s byte bytes call e = go (inPlace s (kindOf byte)) refl (below-or-not (length bytes) (bodyLength (gridOf s) (kindOf byte)))
   where
     go :
         (b : Bool) → inPlace s (kindOf byte) ≡ b →
         (length bytes < bodyLength (gridOf s) (kindOf byte)) ⊎ (bodyLength (gridOf s) (kindOf byte) ≤ length bytes) →
-        isLoaded s ≡ true
+        (isLoaded s ≡ true) × (meaning call .listed ≡ true)
     go false p h = absurd (let f = found-misplaced s byte bytes p in let z : _≡_ {A = ℕ} 0 1 = cc in omega arith)
     go true p (inl h) = absurd (let f = found-short s byte bytes p h in let z : _≡_ {A = ℕ} 0 1 = cc in omega arith)
     go true p (inr h) =
@@ -96,7 +106,7 @@ grid-outcome s byte g l next e = go (gridRefusal g) refl
 
 module _ (byte : ℕ) (s : Since) (l : Line) (next : State) where
   command-sound :
-      (state : State) (c : Command) → ((call : Call) → c ≡ make call → isLoaded state ≡ true) → Sound state s →
+      (state : State) (c : Command) → ((call : Call) → c ≡ make call → (isLoaded state ≡ true) × (meaning call .listed ≡ true)) → Sound state s →
       carriedOut state byte c ≡ onward l next → Sound next (noted s (entry (command c) l))
   unfolding carriedOut
   command-sound state (setGrid g) p sound e = rw (grid-outcome state byte g l next e) tt
@@ -104,11 +114,11 @@ module _ (byte : ℕ) (s : Since) (l : Line) (next : State) where
       let n : afterLoad w ≡ next = cc in
       let m : line byte (step w load .answer) (step w load .count) ≡ l = cc in
       rw (← n) (load-sound w s l (sym (ap (λ (x : Line). x .answer) m)))
-  command-sound start (make call) p sound e = absurd (false≢true (p call refl))
-  command-sound (gridded g) (make call) p sound e = absurd (false≢true (p call refl))
+  command-sound start (make call) p sound e = absurd (false≢true (p call refl .0))
+  command-sound (gridded g) (make call) p sound e = absurd (false≢true (p call refl .0))
   command-sound (loaded w) (make call) p sound e =
       let n : loaded (step w call .next) ≡ next = cc in
-      rw (← n) (make-sound w call s l sound)
+      rw (← n) (make-sound w call s l (p call refl .1) sound)
 
   record-sound : (state : State) (bytes : List ℕ) → Sound state s → outcomeOf state byte (found state (byte ∷ bytes)) ≡ onward l next → Sound next (noted s (entry (found state (byte ∷ bytes)) l))
   unfolding outcomeOf
@@ -120,11 +130,12 @@ module _ (byte : ℕ) (s : Since) (l : Line) (next : State) where
           absurd (let z : _≡_ {A = ℕ} 0 1 = let o : last (line byte n 0) ≡ onward l next = rw q at e in cc in omega arith)
       go (command c) q =
           subst (λ (r : Finding). Sound next (noted s (entry r l))) (sym q)
-          (command-sound state c (λ call same. found-loaded state byte bytes call (q ∙ ap command same)) sound (rw q at e))
+          (command-sound state c (λ call same. found-call state byte bytes call (q ∙ ap command same)) sound (rw q at e))
 
 -- ---- a call's line: answer and count are `step`'s in the world behind it
 pub record Said (s : Since) (call : Call) (e : Entry) : Type 0 where
   pub reached : Reached (s .first)
+  pub allListed : listed (s .calls) ≡ true
   pub answered : e .printed .answer ≡ step (worldNow s) call .answer
   pub counted : e .printed .count ≡ step (worldNow s) call .count
 
@@ -140,6 +151,7 @@ module _ (byte : ℕ) (bytes : List ℕ) (s : Since) where
   said (loaded w) call p sound e same =
       record {
         reached = sound .reached;
+        allListed = sound .allListed;
         answered = ap (λ (x : Line). x .answer) same ∙ ap (λ (v : World). step v call .answer) (sound .now);
         counted = ap (λ (x : Line). x .count) same ∙ ap (λ (v : World). step v call .count) (sound .now);
       }
@@ -162,7 +174,7 @@ module _ (byte : ℕ) (bytes : List ℕ) (s : Since) where
       (state : State) (l : Line) (next : State) → Sound state s →
       outcomeOf state byte (found state (byte ∷ bytes)) ≡ onward l next → Says s (entry (found state (byte ∷ bytes)) l)
   said-onward state l next sound e call is =
-      said state call (found-loaded state byte bytes call is) sound _ (call-printed state call is l next e)
+      said state call (found-call state byte bytes call is .0) sound _ (call-printed state call is l next e)
 
   said-last : (state : State) (l : Line) → outcomeOf state byte (found state (byte ∷ bytes)) ≡ last l → Says s (entry (found state (byte ∷ bytes)) l)
   said-last state l e call is = absurd (call-ends-not state call is l e)
@@ -215,6 +227,6 @@ pub total-said :
     (t : ℕ) (s : Since) (e : Entry) → Said s (total t) e → e .printed .answer ≡ 0 →
     e .printed .count + history (s .first) t (s .calls) .withdrawn ≡ gasTotal (s .first) t + history (s .first) t (s .calls) .emitted
 total-said t s e said zeroed =
-    let kept = calls-keep (s .first) (s .calls) (said .reached) in
+    let kept = calls-keep (s .first) (s .calls) (said .allListed) (said .reached) in
     let c = total-count (worldNow s) t (kept .reached .fits) (sym (said .answered) ∙ zeroed) in
     omega (arith, said .counted, c .1, kept .gasKept t (rw (kept .sameGrid) at (c .0)))

@@ -21,6 +21,12 @@ slice-aggregate-make-load-2 c =
     let amounts = the tie.After-tracer-space (search) .tracer-space in
     sym (length-take-le (start .args .amounts) _ (omega (arith, amounts .ensures, start .pre .fewAmounts)))
 
+slice-aggregate-make-load-3 : tie.Need-slice-aggregate-make-load-3
+slice-aggregate-make-load-3 c =
+    let start : tie.Start = search in
+    let numbers = the tie.After-ledger-space (search) .ledger-space in
+    sym (length-take-le (start .args .numbers) _ (omega (arith, numbers .ensures, start .pre .fewNumbers)))
+
 make-load-requires : tie.Need-make-load-requires
 make-load-requires c κs =
     let start : tie.Start = search in
@@ -35,10 +41,12 @@ returns c =
     let start : tie.Start = search in
     let airs = the tie.After-air-space (search) .air-space in
     let amounts = the tie.After-tracer-space (search) .tracer-space in
+    let numbers = the tie.After-ledger-space (search) .ledger-space in
     let made = the tie.After-make-load (search) .make-load in
     answers-load
     (length-take-le (start .args .cells) (airs .result) (omega (arith, airs .ensures, start .pre .fewCells)))
     (length-take-le (start .args .amounts) (amounts .result) (omega (arith, amounts .ensures, start .pre .fewAmounts)))
+    (length-take-le (start .args .numbers) (numbers .result) (omega (arith, numbers .ensures, start .pre .fewNumbers)))
     (made .ensures)
 
 pub answer-to-load-spec : {M : Type 1} → statement M
@@ -47,9 +55,12 @@ answer-to-load-spec =
     (tie.spec
     (λ c κs. search needs)  -- air-space-requires
     (λ c κs. search needs)  -- tracer-space-requires
+    (λ c κs. search needs)  -- ledger-space-requires
     (λ c. search needs)  -- array-borrow-prefix-air
     slice-aggregate-make-load
     (λ c. search needs)  -- array-borrow-prefix-tracers
     slice-aggregate-make-load-2
+    (λ c. search needs)  -- array-borrow-prefix-ledger
+    slice-aggregate-make-load-3
     make-load-requires
     returns)

@@ -106,7 +106,9 @@ carry-command-spec =
     returns
     (λ c. search needs)  -- same-length
     (λ c. search needs)  -- same-length-2
-    returns-2
     (λ c. search needs)  -- same-length-3
+    returns-2
     (λ c. search needs)  -- same-length-4
+    (λ c. search needs)  -- same-length-5
+    (λ c. search needs)  -- same-length-6
     returns-3)

@@ -10,7 +10,7 @@ use Rattle.record_to_line.proofs.carry_out.Tie as tie
 returns : tie.Need-returns
 returns c =
     let start : tie.Start = search in
-    carries-nothing (start .args .stage) (start .args .input .now) (buffers _ _) (c .if1 .taken)
+    carries-nothing (start .args .stage) (start .args .input .now) (buffers _ _ _) (c .if1 .taken)
 
 cast-kind : tie.Need-cast-kind
 cast-kind c = omega (arith, c .shared-slice-known2 .given 0)
@@ -21,21 +21,21 @@ carry-command-requires c κs =
     let reading = the tie.After-read (search) .read in
     let grid = the tie.After-grid-of (search) .grid-of in
     let told = the tie.After-found2 (search) .found2 in
-    carry-need (sound .ensures) (reading .ensures) (buffers _ _) (search needs) (grid .result) (grid .ensures) (told .given .1)
-    (record { air = search needs; tracers = search needs })
+    carry-need (sound .ensures) (reading .ensures) (buffers _ _ _) (search needs) (grid .result) (grid .ensures) (told .given .1)
+    (record { air = search needs; tracers = search needs; ledger = search needs })
 
 returns-2 : tie.Need-returns-2
 returns-2 c =
     let sound = the tie.After-settled (search) .settled in
     let reading = the tie.After-read (search) .read in
-    carries-none (sound .ensures) (reading .ensures) (buffers _ _) (c .enum-told .given .1)
+    carries-none (sound .ensures) (reading .ensures) (buffers _ _ _) (c .enum-told .given .1)
 
 returns-3 : tie.Need-returns-3
 returns-3 c =
     let sound = the tie.After-settled (search) .settled in
     let reading = the tie.After-read (search) .read in
     let told = the tie.After-found (search) .found in
-    carries-fault (sound .ensures) (reading .ensures) (buffers _ _) (told .given .1) (c .fault-number .ensures)
+    carries-fault (sound .ensures) (reading .ensures) (buffers _ _ _) (told .given .1) (c .fault-number .ensures)
 
 returns-4 : tie.Need-returns-4
 returns-4 c =
@@ -43,7 +43,7 @@ returns-4 c =
     let reading = the tie.After-read (search) .read in
     let grid = the tie.After-grid-of (search) .grid-of in
     let told = the tie.After-found2 (search) .found2 in
-    carries-record (sound .ensures) (reading .ensures) (buffers _ _) (search needs) (grid .result) (grid .ensures) (told .given .1)
+    carries-record (sound .ensures) (reading .ensures) (buffers _ _ _) (search needs) (grid .result) (grid .ensures) (told .given .1)
     (c .carry-command .ensures)
 
 pub carry-out-spec : {M : Type 1} → statement M

@@ -1,7 +1,7 @@
 -- `record_to_line::take_call` meets its contract: the call made in the world at the start of the buffers.
-use mathlib.Core.Path.{sym, _∙_}
+use mathlib.Core.Path.{refl, sym, _∙_}
 use Rattle.stages.specs.Buffers.{buffers}
-use Rattle.record_to_line.specs.Laws.{small, make-need, amounts-few, tracers-room, parts-sized}
+use Rattle.record_to_line.specs.Laws.{small, make-need, amounts-few, numbers-few, tracers-room, parts-sized}
 use Rattle.record_to_line.specs.Leaves.{call-leaves}
 use Rattle.units.specs.The.{the}
 use borrow.Author.Needs.{needs}
@@ -18,6 +18,12 @@ mul-amounts c =
     let start : tie.Start = search in
     let cells = the tie.After-cells-of (search) .cells-of in
     let few = amounts-few (start .pre) (cells .ensures .1) in
+    search needs
+
+mul-numbers : tie.Need-mul-numbers
+mul-numbers c =
+    let start : tie.Start = search in
+    let few = numbers-few (start .pre) in
     search needs
 
 slice-aggregate-make : tie.Need-slice-aggregate-make
@@ -38,6 +44,12 @@ slice-aggregate-make-2 c =
     let cells = the tie.After-cells-of (search) .cells-of in
     sym (parts-sized (start .pre) (cells .ensures .1) .tracers)
 
+slice-aggregate-make-3 : tie.Need-slice-aggregate-make-3
+slice-aggregate-make-3 c =
+    let start : tie.Start = search in
+    let cells = the tie.After-cells-of (search) .cells-of in
+    sym (parts-sized (start .pre) (cells .ensures .1) .ledger)
+
 make-requires : tie.Need-make-requires
 make-requires c κs =
     let start : tie.Start = search in
@@ -51,9 +63,9 @@ returns c =
     let parts = parts-sized (start .pre) (cells .ensures .1) in
     let kept = made .kept .1 .1 .1 in
     λ call asked.
-    call-leaves (cells .ensures .0) (buffers _ _) (buffers _ _)
-    (record { air = kept .0 ∙ parts .air; tracers = kept .1 .0 ∙ parts .tracers }) (start .pre .taken) (start .args .kind) call (made .result) _
-    (c .line-of .ensures) (made .ensures .made call asked)
+    call-leaves (cells .ensures .0) (buffers _ _ _) (buffers _ _ _)
+    (record { air = kept .0 ∙ parts .air; tracers = kept .1 .0 ∙ parts .tracers; ledger = parts .ledger }) (start .pre .taken) (start .args .kind) call (made .result) _
+    (c .line-of .ensures) refl (made .ensures .made call asked)
 
 pub take-call-spec : {M : Type 1} → statement M
 take-call-spec =
@@ -62,10 +74,13 @@ take-call-spec =
     cells-of-requires
     (λ c. search needs)  -- cast-amounts
     mul-amounts
+    (λ c. search needs)  -- cast-numbers
+    mul-numbers
     (λ c. search needs)  -- slice-relend-prefix-make
     slice-aggregate-make
     slice-relend-prefix-make-2
     slice-aggregate-make-2
+    slice-aggregate-make-3
     make-requires
     (λ c κs. search needs)  -- line-of-requires
     (λ c. search needs)  -- same-length

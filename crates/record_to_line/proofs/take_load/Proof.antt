@@ -1,12 +1,10 @@
 -- `record_to_line::take_load` meets its contract: a refused load leaves the buffers, an accepted one is decoded into them.
 use Prim.Native.Nat.{_*_}
-use mathlib.Core.Path.{sym, _∙_, ap₂}
+use mathlib.Core.Path.{sym, _∙_}
 use native.Mathlib.Omega.{arith}
-use Rattle.units.specs.Grid.{gridOf}
 use Rattle.stages.specs.Buffers.{buffers}
-use Rattle.command_to_answer.specs.Makes.{bodyWorld}
 use Rattle.command_to_answer.specs.Room.{take-short}
-use Rattle.record_to_line.specs.Laws.{small, amounts-few, tracers-room, parts-sized, load-whole}
+use Rattle.record_to_line.specs.Laws.{made-load, small, amounts-few, numbers-few, tracers-room, ledger-room, parts-sized, load-whole}
 use Rattle.record_to_line.specs.Leaves.{load-leaves, load-refused}
 use Rattle.units.specs.The.{the}
 use borrow.Author.Needs.{needs}
@@ -25,6 +23,12 @@ mul-amounts c =
     let few = amounts-few (start .pre) (cells .ensures .1) in
     search needs
 
+mul-numbers : tie.Need-mul-numbers
+mul-numbers c =
+    let start : tie.Start = search in
+    let few = numbers-few (start .pre) in
+    search needs
+
 answer-to-load-requires : tie.Need-answer-to-load-requires
 answer-to-load-requires c κs =
     let start : tie.Start = search in
@@ -32,6 +36,7 @@ answer-to-load-requires c κs =
     record {
       fewCells = cells .ensures .1;
       fewAmounts = amounts-few (start .pre) (cells .ensures .1);
+      fewNumbers = numbers-few (start .pre);
       whole = load-whole (start .args .g) _ (start .args .body .now) (cells .ensures .0) (start .pre .whole);
     }
 
@@ -44,7 +49,7 @@ returns c =
     let number = the tie.After-number (search) .number in
     λ s.
     load-refused (start .args .g) (cells .ensures .0) (start .args .kind) (start .args .body .now) (answer .result) _ s (line .ensures) (answer .ensures)
-    (buffers _ _) (start .pre .taken) (λ e. omega (arith, e, number .ensures, c .if1 .left))
+    (buffers _ _ _) (start .pre .taken) (λ e. omega (arith, e, number .ensures, c .if1 .left))
 
 slice-aggregate-make-load : tie.Need-slice-aggregate-make-load
 slice-aggregate-make-load c =
@@ -63,6 +68,17 @@ slice-aggregate-make-load-2 c =
     let start : tie.Start = search in
     let cells = the tie.After-cells-of (search) .cells-of in
     sym (parts-sized (start .pre) (cells .ensures .1) .tracers)
+
+slice-relend-prefix-make-load-3 : tie.Need-slice-relend-prefix-make-load-3
+slice-relend-prefix-make-load-3 c =
+    let start : tie.Start = search in
+    ledger-room (start .pre)
+
+slice-aggregate-make-load-3 : tie.Need-slice-aggregate-make-load-3
+slice-aggregate-make-load-3 c =
+    let start : tie.Start = search in
+    let cells = the tie.After-cells-of (search) .cells-of in
+    sym (parts-sized (start .pre) (cells .ensures .1) .ledger)
 
 make-load-requires : tie.Need-make-load-requires
 make-load-requires c κs =
@@ -84,10 +100,10 @@ returns-2 c =
     let made = the tie.After-make-load (search) .make-load in
     let parts = parts-sized (start .pre) (cells .ensures .1) in
     let kept = made .kept .1 .1 in
-    let is = made .ensures .is ∙ ap₂ (bodyWorld (gridOf (start .args .g)) (start .args .body .now)) (parts .air) (parts .tracers) in
+    let is = made-load (parts .air) (parts .tracers) (parts .ledger) (made .ensures) .left in
     λ s.
-    load-leaves (cells .ensures .0) (buffers _ _) (buffers _ _)
-    (record { air = kept .0 ∙ parts .air; tracers = kept .1 .0 ∙ parts .tracers }) (start .pre .taken) (start .args .kind) (start .args .body .now) (answer .result) _ s
+    load-leaves (cells .ensures .0) (buffers _ _ _) (buffers _ _ _)
+    (record { air = kept .0 ∙ parts .air; tracers = kept .1 .0 ∙ parts .tracers; ledger = kept .1 .1 .0 ∙ parts .ledger }) (start .pre .taken) (start .args .kind) (start .args .body .now) (answer .result) _ s
     (line .ensures) (answer .ensures) (sym (number .ensures) ∙ accepted .taken) is
 
 pub take-load-spec : {M : Type 1} → statement M
@@ -97,6 +113,8 @@ take-load-spec =
     cells-of-requires
     (λ c. search needs)  -- cast-amounts
     mul-amounts
+    (λ c. search needs)  -- cast-numbers
+    mul-numbers
     answer-to-load-requires
     (λ c κs. search needs)  -- line-of-requires
     (λ c κs. search needs)  -- number-requires
@@ -105,7 +123,10 @@ take-load-spec =
     slice-aggregate-make-load
     slice-relend-prefix-make-load-2
     slice-aggregate-make-load-2
+    slice-relend-prefix-make-load-3
+    slice-aggregate-make-load-3
     make-load-requires
     (λ c. search needs)  -- same-length
     (λ c. search needs)  -- same-length-2
+    (λ c. search needs)  -- same-length-3
     returns-2)
