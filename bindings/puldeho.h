@@ -1,5 +1,5 @@
 /*
- * Puldeho, the transport core of the tracer console, for C (C99 or later) and C++: version 0.2.0.
+ * Puldeho, the transport core of the tracer console, for C (C99 or later) and C++: version 0.3.0.
  * Made by tools/bindings from the tables of bindings/: not to be edited.
  *
  * To compile and link, on x86-64 Linux: cc program.c $(pkg-config --cflags --libs puldeho)
@@ -17,8 +17,8 @@
  *
  * What a call gives: PULDEHO_ACCEPTED, which is 0, or the first refusal that applies. (So a true value
  * is a refusal: do not keep it in a bool called ok.) A refused call changes nothing: neither air nor
- * tracers. A count, where a call has one, is written to the last argument, 0 if the call is refused;
- * that pointer may be null.
+ * tracers nor emitters. A count, where a call has one, is written to the last argument, 0 if the call
+ * is refused; that pointer may be null.
  *
  * What is assumed of pointers:
  * - each goes with the length after it, in numbers, not bytes: so many can be read there, or written. A
@@ -27,23 +27,29 @@
  * - a list that is written shares no memory with another list of the same call;
  * - nobody else writes a lent list during the call, or reads one that is written.
  * Nothing is assumed of the numbers: any are answered. The library keeps nothing
- * between calls, and each call tests the whole world before it does anything. Several threads may call
- * it at once, each with a world of its own; a list that is only read may be shared. Between calls you
- * may read the lists. If you write into them, load again: what is promised of a run counts from there,
- * and later versions, which keep books of each gas, refuse other calls until then.
+ * between calls, and each call tests the whole world before it does anything (the numbers of the ledger
+ * only if it is one of the four calls on emitters). Several threads may call it at once, each with a
+ * world of its own; a list that is only read may be shared. Between calls you may read the lists. If
+ * you write into them, load again: what is promised of a run counts from there, no emitter stands
+ * then, and later versions, which keep books of each gas, refuse other calls until then.
  * Names that begin with puldeho or PULDEHO are the library's. Take sizes and limits by their names: they may grow.
  *
  * What is assumed of the stack: that it has room for the call, PULDEHO_STACK bytes or, of the proved
  * function under each call (return address and libc's functions included, arguments not):
- *   puldeho_raw_load               336
- *   puldeho_raw_emission           448
- *   puldeho_raw_withdrawal         384
- *   puldeho_raw_zonal           25,536
- *   puldeho_raw_long_zonal      18,656
- *   puldeho_raw_meridional      93,952
- *   puldeho_raw_remap           17,840
- *   puldeho_raw_total              416
- *   puldeho_raw_cell               384
+ *   puldeho_raw_load                   16,576
+ *   puldeho_raw_emission                  464
+ *   puldeho_raw_withdrawal                400
+ *   puldeho_raw_zonal                  25,536
+ *   puldeho_raw_long_zonal             18,672
+ *   puldeho_raw_meridional             93,968
+ *   puldeho_raw_remap                  17,856
+ *   puldeho_raw_total                     432
+ *   puldeho_raw_cell                      400
+ *   puldeho_raw_add_emitter               720
+ *   puldeho_raw_remove_emitter            704
+ *   puldeho_raw_tick                      720
+ *   puldeho_raw_units_a_tick              672
+ *   puldeho_raw_units_a_tick_number       688
  * A function puldeho_why_NAME wants at most PULDEHO_WHY_STACK bytes.
  */
 #ifndef PULDEHO_H
@@ -53,11 +59,11 @@
 #include <stdint.h>
 #include <string.h>
 
-#define PULDEHO_VERSION "0.2.0"
+#define PULDEHO_VERSION "0.3.0"
 #define PULDEHO_VERSION_MAJOR 0
-#define PULDEHO_VERSION_MINOR 2
+#define PULDEHO_VERSION_MINOR 3
 #define PULDEHO_VERSION_PATCH 0
-#define PULDEHO_ABI puldeho_abi_0_2
+#define PULDEHO_ABI puldeho_abi_0_3
 
 /* the most air of a cell; the least is 1 */
 #define PULDEHO_AIR_LIMIT 65535
@@ -81,9 +87,14 @@
 #define PULDEHO_MOST_LAYERS 32
 /* the largest N */
 #define PULDEHO_MOST_TRACERS 8
+/* the most emitters of a tracer that stand at once */
+#define PULDEHO_MOST_EMITTERS 16
+/* how many numbers of the ledger each tracer has; tracer t's block starts at t times this
+ * number. Later versions have more */
+#define PULDEHO_LEDGER_BLOCK 51
 
 /* The deepest stack of all calls, in bytes, and room enough for each function that says why one was refused. */
-#define PULDEHO_STACK 93952
+#define PULDEHO_STACK 93968
 #define PULDEHO_WHY_STACK 131072
 
 /* What a compiler that knows them warns of: a result that nobody looks at, a null pointer, and a list that is shorter
@@ -117,7 +128,9 @@ enum puldeho_refusal {
     PULDEHO_REFUSAL_AIR_RANGE = 3,
     /* a tracer's total is above 268,435,455 */
     PULDEHO_REFUSAL_TOTALS = 4,
-    /* the tracer, cell, layer or row is absent */
+    /* the tracer, cell, layer or row is absent; in add_emitter, remove_emitter, tick and
+     * units_a_tick also: in the ledger some tracer has more than 16 emitters, an emitter in an
+     * absent cell, an id twice or a false sum */
     PULDEHO_REFUSAL_INDEX = 5,
     /* the total would pass 268,435,455 */
     PULDEHO_REFUSAL_EMISSION = 6,
@@ -129,14 +142,19 @@ enum puldeho_refusal {
     PULDEHO_REFUSAL_ZONAL = 9,
     /* the substep is not allowed */
     PULDEHO_REFUSAL_MERIDIONAL = 10,
-    /* the first pair is not (0, 0), the last is not (0, 65,536), an a is above 2,097,120, or a b is above 65,536 */
+    /* the first pair is not (0, 0), the last is not (0, 65,536), an a is above 2,097,120, or
+     * a b is above 65,536 */
     PULDEHO_REFUSAL_TABLE = 11,
     /* in some column the edges do not rise strictly, or a new layer exceeds 65,535 */
     PULDEHO_REFUSAL_REMAP = 12,
     /* a flux's size exceeds the row's air */
     PULDEHO_REFUSAL_LONG_FLUX = 16,
     /* air afterwards leaves 1 to 65,535 */
-    PULDEHO_REFUSAL_LONG_AIR = 17
+    PULDEHO_REFUSAL_LONG_AIR = 17,
+    /* the tracer has 16 emitters or already has that id */
+    PULDEHO_REFUSAL_EMITTER_ADDED = 18,
+    /* the tracer has no emitter of that id */
+    PULDEHO_REFUSAL_EMITTER_ABSENT = 19
 };
 
 /* Why a call was refused: the condition of a refusal, in words. */
@@ -154,7 +172,7 @@ static inline const char *puldeho_refusal_text(enum puldeho_refusal refusal)
     case PULDEHO_REFUSAL_TOTALS:
         return "a tracer's total is above 268,435,455";
     case PULDEHO_REFUSAL_INDEX:
-        return "the tracer, cell, layer or row is absent";
+        return "the tracer, cell, layer or row is absent; in add_emitter, remove_emitter, tick and units_a_tick also: in the ledger some tracer has more than 16 emitters, an emitter in an absent cell, an id twice or a false sum";
     case PULDEHO_REFUSAL_EMISSION:
         return "the total would pass 268,435,455";
     case PULDEHO_REFUSAL_WITHDRAWAL:
@@ -173,6 +191,10 @@ static inline const char *puldeho_refusal_text(enum puldeho_refusal refusal)
         return "a flux's size exceeds the row's air";
     case PULDEHO_REFUSAL_LONG_AIR:
         return "air afterwards leaves 1 to 65,535";
+    case PULDEHO_REFUSAL_EMITTER_ADDED:
+        return "the tracer has 16 emitters or already has that id";
+    case PULDEHO_REFUSAL_EMITTER_ABSENT:
+        return "the tracer has no emitter of that id";
     }
     return "no refusal of this version";
 }
@@ -192,9 +214,9 @@ static inline const char *puldeho_refusal_remedy(enum puldeho_refusal refusal)
     case PULDEHO_REFUSAL_TOTALS:
         return "choose a larger unit for that gas, so that its total with all later emissions stays below the limit";
     case PULDEHO_REFUSAL_INDEX:
-        return "count from 0, and take cell numbers from the grid's functions for cells and caps";
+        return "count from 0, and take cell numbers from the grid's functions for cells and caps; if the ledger is at fault, load the world again, which leaves no emitter standing, and add the emitters anew";
     case PULDEHO_REFUSAL_EMISSION:
-        return "load the gas in a larger unit, with room for all emissions of the run";
+        return "correct an amount that is wrong, and remove an emitter whose units are wrong; else load the gas in a larger unit, with room for all emissions and ticks of the run, and add its emitters anew, with their units in the larger unit";
     case PULDEHO_REFUSAL_WITHDRAWAL:
         return "read the cell first, and withdraw at most what it has";
     case PULDEHO_REFUSAL_FLUXES:
@@ -211,6 +233,10 @@ static inline const char *puldeho_refusal_remedy(enum puldeho_refusal refusal)
         return "take whole turns, each the sum of the row's air, off every flux (add them if the fluxes are negative): a whole turn brings every cell back, so nothing else changes; or divide the step";
     case PULDEHO_REFUSAL_LONG_AIR:
         return "give fluxes that leave every cell 1 to 65,535; if the other sweeps of the step would bring the air back, make the whole step (zonal, meridional, remap) in parts, or make the meridional sweep or a remap first";
+    case PULDEHO_REFUSAL_EMITTER_ADDED:
+        return "remove a stack before you add it again with another cell or other units; add stacks of one cell as one emitter, with the sum of their units (to close one of them, remove the emitter and add it again with the rest); what does not fit 16 emitters give by emission";
+    case PULDEHO_REFUSAL_EMITTER_ABSENT:
+        return "remove each stack once, from the tracer that it was added to, and add the emitters anew after a load";
     }
     return "compile the program anew, with the header of the library that it is linked with";
 }
@@ -238,6 +264,14 @@ static inline size_t puldeho_air_length(struct puldeho_grid grid)
 static inline size_t puldeho_tracers_length(struct puldeho_grid grid)
 {
     return (size_t)grid.n * (size_t)grid.k * puldeho_cells_in_layer(grid);
+}
+
+/* The length of ledger: N*51. In it: the emitters, a block for each tracer: at its place 0
+ * how many stand, at 1 and 2 the sum of their units, low and high 32 bits, from 3 on id, cell
+ * and units of each. */
+static inline size_t puldeho_ledger_length(struct puldeho_grid grid)
+{
+    return (size_t)grid.n * 51;
 }
 
 /* The length of fluxes of a zonal call: W. In it: flux i crosses the face from column i to
@@ -303,7 +337,23 @@ static inline uint32_t puldeho_north_cap(struct puldeho_grid grid, uint32_t laye
  * - load each world, once it is made, before any other call;
  * - load again when you have written into its lists or set its fields, before the next call;
  * - make all calls on the one struct, by its address: a copy of the struct is neither the same world nor
- *   a second one. It may be moved, as by a function that returns it. puldeho_copy copies a state. */
+ *   a second one. It may be moved, as by a function that returns it. puldeho_copy copies a state.
+ *
+ * The ledger holds the emitters that stand. A program need not know of it: where `ledger` is null, the world has
+ * one of its own, in the struct. To keep it elsewhere, set `ledger` to puldeho_ledger_length(grid) numbers and
+ * `ledger_length` to that length before the load; the load clears it. Tracer t's block of numbers starts at
+ * t*PULDEHO_LEDGER_BLOCK. In it stand at
+ *   0                          how many emitters stand, 0 to PULDEHO_MOST_EMITTERS
+ *   1 and 2                    the sum of their units a tick, its low and its high 32 bits
+ *   3 + 3*i, 4 + 3*i, 5 + 3*i  id, cell and units a tick of emitter i, counted from 0
+ * A new emitter comes after the last. In place of a removed one comes the last one, whose place becomes 0, 0, 0. A load
+ * leaves 0 everywhere. So two programs that make the same calls have the same ledger, number for number.
+ * Read it with puldeho_lent_ledger. Only calls may write it: the four calls on emitters refuse with 5 a ledger in which
+ * some tracer has more emitters than that, one in an absent cell, an id twice or a false sum; no other call looks into
+ * it. To keep the emitters in a file, keep what stands in each block; to bring them back, load, and then add them again
+ * in the same order: the ledger is then the same.
+ * Later versions have further numbers at the end of each block and after all blocks: take lengths and starts of
+ * blocks from the functions and names above, and do not count on those of this version. */
 struct puldeho_world {
     struct puldeho_grid grid;
     /* the air of every cell; layer k starts at k*C: K*C numbers */
@@ -312,6 +362,12 @@ struct puldeho_world {
     /* the amounts of every tracer; tracer t starts at t*K*C: N*K*C numbers */
     uint32_t *tracers;
     size_t tracers_length;
+    /* the emitters, a block for each tracer: at its place 0 how many stand, at 1 and 2 the
+     * sum of their units, low and high 32 bits, from 3 on id, cell and units of each: N*51
+     * numbers; null and 0: the world's own, below */
+    uint32_t *ledger;
+    size_t ledger_length;
+    uint32_t own_ledger[408];
 };
 
 /* The world of a grid and lent lists; each length is how many numbers the list has. It reads none of them, so they may
@@ -332,27 +388,52 @@ static inline struct puldeho_world puldeho_world_over(
     return world;
 }
 
-/* Copies a world's state, all its lists with whatever a later version adds, into another world over lists of the same
- * lengths: to keep the state before a step, and to go back to it. Gives refusal 2 and copies nothing if a length differs. */
+/* How many numbers of its own ledger a world of the grid lends. */
+static inline size_t puldeho_own_ledger_length(struct puldeho_grid grid)
+{
+    size_t wanted = puldeho_ledger_length(grid);
+    return wanted < 408 ? wanted : 408;
+}
+
+/* How many numbers of ledger are lent: those of the list that was set, or of the world's own. */
+static inline size_t puldeho_lent_ledger_length(const struct puldeho_world *world)
+{
+    return world->ledger != NULL ? world->ledger_length : puldeho_own_ledger_length(world->grid);
+}
+
+/* The world's ledger, to be read: the list that was set, or the world's own. */
+static inline const uint32_t *puldeho_lent_ledger(const struct puldeho_world *world)
+{
+    return world->ledger != NULL ? world->ledger : world->own_ledger;
+}
+
+/* Copies a world's state, all its lists, the ledger and whatever a later version adds, into another world over lists of
+ * the same lengths: to keep the state before a step, and to go back to it. Gives refusal 2 and copies nothing if a
+ * length differs. */
 PULDEHO_MUST_USE PULDEHO_NOT_NULL(1) PULDEHO_NOT_NULL(2)
 static inline enum puldeho_refusal puldeho_copy(struct puldeho_world *to, const struct puldeho_world *from)
 {
     if (to->air_length != from->air_length
-        || to->tracers_length != from->tracers_length)
+        || to->tracers_length != from->tracers_length
+        || (to->ledger != NULL ? to->ledger_length : puldeho_own_ledger_length(from->grid)) != puldeho_lent_ledger_length(from))
         return PULDEHO_REFUSAL_LENGTHS;
     to->grid = from->grid;
     if (to->air_length > 0)
         memcpy(to->air, from->air, to->air_length * sizeof *to->air);
     if (to->tracers_length > 0)
         memcpy(to->tracers, from->tracers, to->tracers_length * sizeof *to->tracers);
+    if (puldeho_lent_ledger_length(from) > 0)
+        memcpy(to->ledger != NULL ? to->ledger : to->own_ledger, puldeho_lent_ledger(from),
+               puldeho_lent_ledger_length(from) * sizeof *to->ledger);
     return PULDEHO_ACCEPTED;
 }
 
 /* The calls. A refused one changes nothing; puldeho_why_NAME, below, says more about why. */
 
 /*
- * Tests the lent lists, which are the world from then on, and changes no number in them. Writes
- * nothing. Refusals, in order: 1 2 3 4.
+ * Tests the grid and the lists air and tracers, which are the world from then on, and changes
+ * no number in them. Leaves no emitter standing: it writes 0 over the whole ledger and does not
+ * look at what stood there. Writes ledger. Refusals, in order: 1 2 3 4.
  */
 PULDEHO_MUST_USE PULDEHO_NOT_NULL(1)
 static inline enum puldeho_refusal puldeho_load(
@@ -452,9 +533,51 @@ static inline enum puldeho_refusal puldeho_cell(
     uint32_t *units);
 
 /*
+ * Lets an emitter stand for one tracer: in each tick it gives so many units to the cell. Any
+ * number is an id, and each tracer has its own. Cells are numbered over all layers. Writes
+ * ledger. Refusals, in order: 1 2 3 4 5 18.
+ */
+PULDEHO_MUST_USE PULDEHO_NOT_NULL(1)
+static inline enum puldeho_refusal puldeho_add_emitter(
+    struct puldeho_world *world,
+    uint32_t tracer,
+    uint32_t cell,
+    uint32_t id,
+    uint32_t units);
+
+/*
+ * Removes the emitter that one tracer has under the id. The tracer's last emitter takes its
+ * place in the ledger. Writes ledger. Refusals, in order: 1 2 3 4 5 19.
+ */
+PULDEHO_MUST_USE PULDEHO_NOT_NULL(1)
+static inline enum puldeho_refusal puldeho_remove_emitter(
+    struct puldeho_world *world,
+    uint32_t tracer,
+    uint32_t id);
+
+/*
+ * Adds the units of every emitter of one tracer to its cell, or, if it is refused, of none.
+ * Writes tracers. Refusals, in order: 1 2 3 4 5 6.
+ */
+PULDEHO_MUST_USE PULDEHO_NOT_NULL(1)
+static inline enum puldeho_refusal puldeho_tick(
+    struct puldeho_world *world,
+    uint32_t tracer);
+
+/*
+ * Reads how much a tick of one tracer emits. Writes nothing. Refusals, in order: 1 2 3 4 5.
+ * units: the units that the tracer's emitters give in a tick.
+ */
+PULDEHO_MUST_USE PULDEHO_NOT_NULL(1)
+static inline enum puldeho_refusal puldeho_units_a_tick(
+    const struct puldeho_world *world,
+    uint32_t tracer,
+    uint64_t *units);
+
+/*
  * Why a call is refused: for each call a function that takes the same arguments, writes into `text`
- * which cell, row or column is in the way, how much air it has and how much would leave, and whether
- * a smaller time step can help, and returns the refusal, 0 if the call would be accepted. Ask after the
+ * which cell, row, column or emitter is in the way, how much air it has and how much would leave, and
+ * whether a smaller time step can help, and returns the refusal, 0 if the call would be accepted. Ask after the
  * refusal, before the world changes. `text` gets at most `size` bytes with the final 0;
  * PULDEHO_WHY_SIZE are enough for any. These functions are plain C and not proved; they only read.
  */
@@ -523,81 +646,163 @@ enum puldeho_refusal puldeho_why_cell(
     uint32_t cell,
     char *text, size_t size);
 
+PULDEHO_NOT_NULL(1) PULDEHO_LIST(write_only, 6, 7)
+enum puldeho_refusal puldeho_why_add_emitter(
+    const struct puldeho_world *world,
+    uint32_t tracer,
+    uint32_t cell,
+    uint32_t id,
+    uint32_t units,
+    char *text, size_t size);
+
+PULDEHO_NOT_NULL(1) PULDEHO_LIST(write_only, 4, 5)
+enum puldeho_refusal puldeho_why_remove_emitter(
+    const struct puldeho_world *world,
+    uint32_t tracer,
+    uint32_t id,
+    char *text, size_t size);
+
+PULDEHO_NOT_NULL(1) PULDEHO_LIST(write_only, 3, 4)
+enum puldeho_refusal puldeho_why_tick(
+    const struct puldeho_world *world,
+    uint32_t tracer,
+    char *text, size_t size);
+
+PULDEHO_NOT_NULL(1) PULDEHO_LIST(write_only, 3, 4)
+enum puldeho_refusal puldeho_why_units_a_tick(
+    const struct puldeho_world *world,
+    uint32_t tracer,
+    char *text, size_t size);
+
 /*
  * From here on: how the calls are made. The proved functions return one number, refusal * 2^32 + count,
- * which kept in an int is 0 for many a refused call; the calls above take it apart.
+ * which kept in an int is 0 for many a refused call; the calls above take it apart. Where the count has
+ * 64 bits, puldeho_raw_NAME returns the refusal alone, and puldeho_raw_NAME_number the count.
  */
-PULDEHO_MUST_USE PULDEHO_LIST(read_only, 5, 6) PULDEHO_LIST(read_only, 7, 8)
+PULDEHO_MUST_USE PULDEHO_LIST(read_only, 5, 6) PULDEHO_LIST(read_only, 7, 8) PULDEHO_LIST(read_write, 9, 10)
 uint64_t puldeho_raw_load(
     uint32_t w, uint32_t r, uint32_t k, uint32_t n,
     const uint32_t *air, size_t air_length,
-    const uint32_t *tracers, size_t tracers_length);
+    const uint32_t *tracers, size_t tracers_length,
+    uint32_t *ledger, size_t ledger_length);
 
-PULDEHO_MUST_USE PULDEHO_LIST(read_only, 5, 6) PULDEHO_LIST(read_write, 7, 8)
+PULDEHO_MUST_USE PULDEHO_LIST(read_only, 5, 6) PULDEHO_LIST(read_write, 7, 8) PULDEHO_LIST(read_only, 9, 10)
 uint64_t puldeho_raw_emission(
     uint32_t w, uint32_t r, uint32_t k, uint32_t n,
     const uint32_t *air, size_t air_length,
     uint32_t *tracers, size_t tracers_length,
+    const uint32_t *ledger, size_t ledger_length,
     uint32_t tracer,
     uint32_t cell,
     uint32_t amount);
 
-PULDEHO_MUST_USE PULDEHO_LIST(read_only, 5, 6) PULDEHO_LIST(read_write, 7, 8)
+PULDEHO_MUST_USE PULDEHO_LIST(read_only, 5, 6) PULDEHO_LIST(read_write, 7, 8) PULDEHO_LIST(read_only, 9, 10)
 uint64_t puldeho_raw_withdrawal(
     uint32_t w, uint32_t r, uint32_t k, uint32_t n,
     const uint32_t *air, size_t air_length,
     uint32_t *tracers, size_t tracers_length,
+    const uint32_t *ledger, size_t ledger_length,
     uint32_t tracer,
     uint32_t cell,
     uint32_t amount);
 
-PULDEHO_MUST_USE PULDEHO_LIST(read_write, 5, 6) PULDEHO_LIST(read_write, 7, 8) PULDEHO_LIST(read_only, 11, 12)
+PULDEHO_MUST_USE PULDEHO_LIST(read_write, 5, 6) PULDEHO_LIST(read_write, 7, 8) PULDEHO_LIST(read_only, 9, 10) PULDEHO_LIST(read_only, 13, 14)
 uint64_t puldeho_raw_zonal(
     uint32_t w, uint32_t r, uint32_t k, uint32_t n,
     uint32_t *air, size_t air_length,
     uint32_t *tracers, size_t tracers_length,
+    const uint32_t *ledger, size_t ledger_length,
     uint32_t layer,
     uint32_t row,
     const int32_t *fluxes, size_t fluxes_length);
 
-PULDEHO_MUST_USE PULDEHO_LIST(read_write, 5, 6) PULDEHO_LIST(read_write, 7, 8) PULDEHO_LIST(read_only, 11, 12)
+PULDEHO_MUST_USE PULDEHO_LIST(read_write, 5, 6) PULDEHO_LIST(read_write, 7, 8) PULDEHO_LIST(read_only, 9, 10) PULDEHO_LIST(read_only, 13, 14)
 uint64_t puldeho_raw_long_zonal(
     uint32_t w, uint32_t r, uint32_t k, uint32_t n,
     uint32_t *air, size_t air_length,
     uint32_t *tracers, size_t tracers_length,
+    const uint32_t *ledger, size_t ledger_length,
     uint32_t layer,
     uint32_t row,
     const int32_t *fluxes, size_t fluxes_length);
 
-PULDEHO_MUST_USE PULDEHO_LIST(read_write, 5, 6) PULDEHO_LIST(read_write, 7, 8) PULDEHO_LIST(read_only, 10, 11)
+PULDEHO_MUST_USE PULDEHO_LIST(read_write, 5, 6) PULDEHO_LIST(read_write, 7, 8) PULDEHO_LIST(read_only, 9, 10) PULDEHO_LIST(read_only, 12, 13)
 uint64_t puldeho_raw_meridional(
     uint32_t w, uint32_t r, uint32_t k, uint32_t n,
     uint32_t *air, size_t air_length,
     uint32_t *tracers, size_t tracers_length,
+    const uint32_t *ledger, size_t ledger_length,
     uint32_t layer,
     const int32_t *fluxes, size_t fluxes_length);
 
-PULDEHO_MUST_USE PULDEHO_LIST(read_write, 5, 6) PULDEHO_LIST(read_write, 7, 8) PULDEHO_LIST(read_only, 9, 10)
+PULDEHO_MUST_USE PULDEHO_LIST(read_write, 5, 6) PULDEHO_LIST(read_write, 7, 8) PULDEHO_LIST(read_only, 9, 10) PULDEHO_LIST(read_only, 11, 12)
 uint64_t puldeho_raw_remap(
     uint32_t w, uint32_t r, uint32_t k, uint32_t n,
     uint32_t *air, size_t air_length,
     uint32_t *tracers, size_t tracers_length,
+    const uint32_t *ledger, size_t ledger_length,
     const uint32_t *table, size_t table_length);
 
-PULDEHO_MUST_USE PULDEHO_LIST(read_only, 5, 6) PULDEHO_LIST(read_only, 7, 8)
+PULDEHO_MUST_USE PULDEHO_LIST(read_only, 5, 6) PULDEHO_LIST(read_only, 7, 8) PULDEHO_LIST(read_only, 9, 10)
 uint64_t puldeho_raw_total(
     uint32_t w, uint32_t r, uint32_t k, uint32_t n,
     const uint32_t *air, size_t air_length,
     const uint32_t *tracers, size_t tracers_length,
+    const uint32_t *ledger, size_t ledger_length,
     uint32_t tracer);
 
-PULDEHO_MUST_USE PULDEHO_LIST(read_only, 5, 6) PULDEHO_LIST(read_only, 7, 8)
+PULDEHO_MUST_USE PULDEHO_LIST(read_only, 5, 6) PULDEHO_LIST(read_only, 7, 8) PULDEHO_LIST(read_only, 9, 10)
 uint64_t puldeho_raw_cell(
     uint32_t w, uint32_t r, uint32_t k, uint32_t n,
     const uint32_t *air, size_t air_length,
     const uint32_t *tracers, size_t tracers_length,
+    const uint32_t *ledger, size_t ledger_length,
     uint32_t tracer,
     uint32_t cell);
+
+PULDEHO_MUST_USE PULDEHO_LIST(read_only, 5, 6) PULDEHO_LIST(read_only, 7, 8) PULDEHO_LIST(read_write, 9, 10)
+uint64_t puldeho_raw_add_emitter(
+    uint32_t w, uint32_t r, uint32_t k, uint32_t n,
+    const uint32_t *air, size_t air_length,
+    const uint32_t *tracers, size_t tracers_length,
+    uint32_t *ledger, size_t ledger_length,
+    uint32_t tracer,
+    uint32_t cell,
+    uint32_t id,
+    uint32_t units);
+
+PULDEHO_MUST_USE PULDEHO_LIST(read_only, 5, 6) PULDEHO_LIST(read_only, 7, 8) PULDEHO_LIST(read_write, 9, 10)
+uint64_t puldeho_raw_remove_emitter(
+    uint32_t w, uint32_t r, uint32_t k, uint32_t n,
+    const uint32_t *air, size_t air_length,
+    const uint32_t *tracers, size_t tracers_length,
+    uint32_t *ledger, size_t ledger_length,
+    uint32_t tracer,
+    uint32_t id);
+
+PULDEHO_MUST_USE PULDEHO_LIST(read_only, 5, 6) PULDEHO_LIST(read_write, 7, 8) PULDEHO_LIST(read_only, 9, 10)
+uint64_t puldeho_raw_tick(
+    uint32_t w, uint32_t r, uint32_t k, uint32_t n,
+    const uint32_t *air, size_t air_length,
+    uint32_t *tracers, size_t tracers_length,
+    const uint32_t *ledger, size_t ledger_length,
+    uint32_t tracer);
+
+PULDEHO_MUST_USE PULDEHO_LIST(read_only, 5, 6) PULDEHO_LIST(read_only, 7, 8) PULDEHO_LIST(read_only, 9, 10)
+uint32_t puldeho_raw_units_a_tick(
+    uint32_t w, uint32_t r, uint32_t k, uint32_t n,
+    const uint32_t *air, size_t air_length,
+    const uint32_t *tracers, size_t tracers_length,
+    const uint32_t *ledger, size_t ledger_length,
+    uint32_t tracer);
+
+PULDEHO_MUST_USE PULDEHO_LIST(read_only, 5, 6) PULDEHO_LIST(read_only, 7, 8) PULDEHO_LIST(read_only, 9, 10)
+uint64_t puldeho_raw_units_a_tick_number(
+    uint32_t w, uint32_t r, uint32_t k, uint32_t n,
+    const uint32_t *air, size_t air_length,
+    const uint32_t *tracers, size_t tracers_length,
+    const uint32_t *ledger, size_t ledger_length,
+    uint32_t tracer);
 
 /* Does nothing. Its name has the version: the proved functions may take other arguments in another, and a program that is
  * linked with the library of another version wants a name that is not there. */
@@ -618,7 +823,8 @@ static inline enum puldeho_refusal puldeho_load(
     return puldeho_refusal_and_count(puldeho_raw_load(
         world->grid.w, world->grid.r, world->grid.k, world->grid.n,
         world->air, world->air_length,
-        world->tracers, world->tracers_length), NULL);
+        world->tracers, world->tracers_length,
+        world->ledger != NULL ? world->ledger : world->own_ledger, puldeho_lent_ledger_length(world)), NULL);
 }
 
 static inline enum puldeho_refusal puldeho_emission(
@@ -631,6 +837,7 @@ static inline enum puldeho_refusal puldeho_emission(
         world->grid.w, world->grid.r, world->grid.k, world->grid.n,
         world->air, world->air_length,
         world->tracers, world->tracers_length,
+        world->ledger != NULL ? world->ledger : world->own_ledger, puldeho_lent_ledger_length(world),
         tracer,
         cell,
         amount), NULL);
@@ -646,6 +853,7 @@ static inline enum puldeho_refusal puldeho_withdrawal(
         world->grid.w, world->grid.r, world->grid.k, world->grid.n,
         world->air, world->air_length,
         world->tracers, world->tracers_length,
+        world->ledger != NULL ? world->ledger : world->own_ledger, puldeho_lent_ledger_length(world),
         tracer,
         cell,
         amount), NULL);
@@ -662,6 +870,7 @@ static inline enum puldeho_refusal puldeho_zonal(
         world->grid.w, world->grid.r, world->grid.k, world->grid.n,
         world->air, world->air_length,
         world->tracers, world->tracers_length,
+        world->ledger != NULL ? world->ledger : world->own_ledger, puldeho_lent_ledger_length(world),
         layer,
         row,
         fluxes, fluxes_length), substeps);
@@ -677,6 +886,7 @@ static inline enum puldeho_refusal puldeho_long_zonal(
         world->grid.w, world->grid.r, world->grid.k, world->grid.n,
         world->air, world->air_length,
         world->tracers, world->tracers_length,
+        world->ledger != NULL ? world->ledger : world->own_ledger, puldeho_lent_ledger_length(world),
         layer,
         row,
         fluxes, fluxes_length), NULL);
@@ -692,6 +902,7 @@ static inline enum puldeho_refusal puldeho_meridional(
         world->grid.w, world->grid.r, world->grid.k, world->grid.n,
         world->air, world->air_length,
         world->tracers, world->tracers_length,
+        world->ledger != NULL ? world->ledger : world->own_ledger, puldeho_lent_ledger_length(world),
         layer,
         fluxes, fluxes_length), substeps);
 }
@@ -705,6 +916,7 @@ static inline enum puldeho_refusal puldeho_remap(
         world->grid.w, world->grid.r, world->grid.k, world->grid.n,
         world->air, world->air_length,
         world->tracers, world->tracers_length,
+        world->ledger != NULL ? world->ledger : world->own_ledger, puldeho_lent_ledger_length(world),
         table, table_length), overlaps);
 }
 
@@ -717,6 +929,7 @@ static inline enum puldeho_refusal puldeho_total(
         world->grid.w, world->grid.r, world->grid.k, world->grid.n,
         world->air, world->air_length,
         world->tracers, world->tracers_length,
+        world->ledger != NULL ? world->ledger : world->own_ledger, puldeho_lent_ledger_length(world),
         tracer), units);
 }
 
@@ -730,8 +943,75 @@ static inline enum puldeho_refusal puldeho_cell(
         world->grid.w, world->grid.r, world->grid.k, world->grid.n,
         world->air, world->air_length,
         world->tracers, world->tracers_length,
+        world->ledger != NULL ? world->ledger : world->own_ledger, puldeho_lent_ledger_length(world),
         tracer,
         cell), units);
+}
+
+static inline enum puldeho_refusal puldeho_add_emitter(
+    struct puldeho_world *world,
+    uint32_t tracer,
+    uint32_t cell,
+    uint32_t id,
+    uint32_t units)
+{
+    return puldeho_refusal_and_count(puldeho_raw_add_emitter(
+        world->grid.w, world->grid.r, world->grid.k, world->grid.n,
+        world->air, world->air_length,
+        world->tracers, world->tracers_length,
+        world->ledger != NULL ? world->ledger : world->own_ledger, puldeho_lent_ledger_length(world),
+        tracer,
+        cell,
+        id,
+        units), NULL);
+}
+
+static inline enum puldeho_refusal puldeho_remove_emitter(
+    struct puldeho_world *world,
+    uint32_t tracer,
+    uint32_t id)
+{
+    return puldeho_refusal_and_count(puldeho_raw_remove_emitter(
+        world->grid.w, world->grid.r, world->grid.k, world->grid.n,
+        world->air, world->air_length,
+        world->tracers, world->tracers_length,
+        world->ledger != NULL ? world->ledger : world->own_ledger, puldeho_lent_ledger_length(world),
+        tracer,
+        id), NULL);
+}
+
+static inline enum puldeho_refusal puldeho_tick(
+    struct puldeho_world *world,
+    uint32_t tracer)
+{
+    return puldeho_refusal_and_count(puldeho_raw_tick(
+        world->grid.w, world->grid.r, world->grid.k, world->grid.n,
+        world->air, world->air_length,
+        world->tracers, world->tracers_length,
+        world->ledger != NULL ? world->ledger : world->own_ledger, puldeho_lent_ledger_length(world),
+        tracer), NULL);
+}
+
+static inline enum puldeho_refusal puldeho_units_a_tick(
+    const struct puldeho_world *world,
+    uint32_t tracer,
+    uint64_t *units)
+{
+    uint32_t refusal = puldeho_raw_units_a_tick(
+        world->grid.w, world->grid.r, world->grid.k, world->grid.n,
+        world->air, world->air_length,
+        world->tracers, world->tracers_length,
+        world->ledger != NULL ? world->ledger : world->own_ledger, puldeho_lent_ledger_length(world),
+        tracer);
+    PULDEHO_ABI();
+    if (units != NULL)
+        *units = puldeho_raw_units_a_tick_number(
+        world->grid.w, world->grid.r, world->grid.k, world->grid.n,
+        world->air, world->air_length,
+        world->tracers, world->tracers_length,
+        world->ledger != NULL ? world->ledger : world->own_ledger, puldeho_lent_ledger_length(world),
+        tracer);
+    return (enum puldeho_refusal)refusal;
 }
 
 #ifdef __cplusplus

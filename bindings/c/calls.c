@@ -47,13 +47,15 @@ static bool make_zonal(struct puldeho_world *world, char *rest, struct outcome *
     uint32_t layer;
     uint32_t row;
     struct list fluxes;
+    uint32_t substeps;
     if (!take_u32(&rest, &layer)
         || !take_u32(&rest, &row)
         || !take_i32s(&rest, &fluxes)
         || !at_end(rest))
         return false;
     outcome->why = puldeho_why_zonal(world, layer, row, (const int32_t *)fluxes.numbers, fluxes.length, outcome->text, sizeof outcome->text);
-    outcome->refusal = puldeho_zonal(world, layer, row, (const int32_t *)fluxes.numbers, fluxes.length, &outcome->count);
+    outcome->refusal = puldeho_zonal(world, layer, row, (const int32_t *)fluxes.numbers, fluxes.length, &substeps);
+    outcome->count = substeps;
     free(fluxes.numbers);
     return true;
 }
@@ -78,12 +80,14 @@ static bool make_meridional(struct puldeho_world *world, char *rest, struct outc
 {
     uint32_t layer;
     struct list fluxes;
+    uint32_t substeps;
     if (!take_u32(&rest, &layer)
         || !take_i32s(&rest, &fluxes)
         || !at_end(rest))
         return false;
     outcome->why = puldeho_why_meridional(world, layer, (const int32_t *)fluxes.numbers, fluxes.length, outcome->text, sizeof outcome->text);
-    outcome->refusal = puldeho_meridional(world, layer, (const int32_t *)fluxes.numbers, fluxes.length, &outcome->count);
+    outcome->refusal = puldeho_meridional(world, layer, (const int32_t *)fluxes.numbers, fluxes.length, &substeps);
+    outcome->count = substeps;
     free(fluxes.numbers);
     return true;
 }
@@ -91,11 +95,13 @@ static bool make_meridional(struct puldeho_world *world, char *rest, struct outc
 static bool make_remap(struct puldeho_world *world, char *rest, struct outcome *outcome)
 {
     struct list table;
+    uint32_t overlaps;
     if (!take_u32s(&rest, &table)
         || !at_end(rest))
         return false;
     outcome->why = puldeho_why_remap(world, (const uint32_t *)table.numbers, table.length, outcome->text, sizeof outcome->text);
-    outcome->refusal = puldeho_remap(world, (const uint32_t *)table.numbers, table.length, &outcome->count);
+    outcome->refusal = puldeho_remap(world, (const uint32_t *)table.numbers, table.length, &overlaps);
+    outcome->count = overlaps;
     free(table.numbers);
     return true;
 }
@@ -103,11 +109,13 @@ static bool make_remap(struct puldeho_world *world, char *rest, struct outcome *
 static bool make_total(struct puldeho_world *world, char *rest, struct outcome *outcome)
 {
     uint32_t tracer;
+    uint32_t units;
     if (!take_u32(&rest, &tracer)
         || !at_end(rest))
         return false;
     outcome->why = puldeho_why_total(world, tracer, outcome->text, sizeof outcome->text);
-    outcome->refusal = puldeho_total(world, tracer, &outcome->count);
+    outcome->refusal = puldeho_total(world, tracer, &units);
+    outcome->count = units;
     return true;
 }
 
@@ -115,12 +123,68 @@ static bool make_cell(struct puldeho_world *world, char *rest, struct outcome *o
 {
     uint32_t tracer;
     uint32_t cell;
+    uint32_t units;
     if (!take_u32(&rest, &tracer)
         || !take_u32(&rest, &cell)
         || !at_end(rest))
         return false;
     outcome->why = puldeho_why_cell(world, tracer, cell, outcome->text, sizeof outcome->text);
-    outcome->refusal = puldeho_cell(world, tracer, cell, &outcome->count);
+    outcome->refusal = puldeho_cell(world, tracer, cell, &units);
+    outcome->count = units;
+    return true;
+}
+
+static bool make_add_emitter(struct puldeho_world *world, char *rest, struct outcome *outcome)
+{
+    uint32_t tracer;
+    uint32_t cell;
+    uint32_t id;
+    uint32_t units;
+    if (!take_u32(&rest, &tracer)
+        || !take_u32(&rest, &cell)
+        || !take_u32(&rest, &id)
+        || !take_u32(&rest, &units)
+        || !at_end(rest))
+        return false;
+    outcome->why = puldeho_why_add_emitter(world, tracer, cell, id, units, outcome->text, sizeof outcome->text);
+    outcome->refusal = puldeho_add_emitter(world, tracer, cell, id, units);
+    return true;
+}
+
+static bool make_remove_emitter(struct puldeho_world *world, char *rest, struct outcome *outcome)
+{
+    uint32_t tracer;
+    uint32_t id;
+    if (!take_u32(&rest, &tracer)
+        || !take_u32(&rest, &id)
+        || !at_end(rest))
+        return false;
+    outcome->why = puldeho_why_remove_emitter(world, tracer, id, outcome->text, sizeof outcome->text);
+    outcome->refusal = puldeho_remove_emitter(world, tracer, id);
+    return true;
+}
+
+static bool make_tick(struct puldeho_world *world, char *rest, struct outcome *outcome)
+{
+    uint32_t tracer;
+    if (!take_u32(&rest, &tracer)
+        || !at_end(rest))
+        return false;
+    outcome->why = puldeho_why_tick(world, tracer, outcome->text, sizeof outcome->text);
+    outcome->refusal = puldeho_tick(world, tracer);
+    return true;
+}
+
+static bool make_units_a_tick(struct puldeho_world *world, char *rest, struct outcome *outcome)
+{
+    uint32_t tracer;
+    uint64_t units;
+    if (!take_u32(&rest, &tracer)
+        || !at_end(rest))
+        return false;
+    outcome->why = puldeho_why_units_a_tick(world, tracer, outcome->text, sizeof outcome->text);
+    outcome->refusal = puldeho_units_a_tick(world, tracer, &units);
+    outcome->count = units;
     return true;
 }
 
@@ -134,5 +198,9 @@ const struct call calls[] = {
     {"remap", make_remap},
     {"total", make_total},
     {"cell", make_cell},
+    {"add_emitter", make_add_emitter},
+    {"remove_emitter", make_remove_emitter},
+    {"tick", make_tick},
+    {"units_a_tick", make_units_a_tick},
     {NULL, NULL},
 };

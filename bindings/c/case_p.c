@@ -78,6 +78,87 @@ static void long_sweep(void)
     expect_list("a whole turn, tracers after", tracers, tracers_after);
 }
 
+static void expect_wide(const char *what, uint64_t got, uint64_t wanted)
+{
+    printf("%s: %llu", what, (unsigned long long)got);
+    if (got != wanted)
+        printf(", but it should be %llu", (unsigned long long)wanted);
+    printf("\n");
+    differences += got != wanted;
+}
+
+/* A stack that starts, stands with another in its cell, and stops; the reading has more than 32 bits. */
+static void emitters(void)
+{
+    static const uint32_t after[CELLS] = {0, 0, 100, 300, 130, 0};
+    struct puldeho_world world = first_world();
+    uint64_t units = 99;
+    expect("load", puldeho_load(&world), PULDEHO_ACCEPTED);
+    expect("a tick without emitters", puldeho_tick(&world, 0), PULDEHO_ACCEPTED);
+    expect("id 7 starts", puldeho_add_emitter(&world, 0, 3, 7, 40), PULDEHO_ACCEPTED);
+    expect("id 8 starts in its cell", puldeho_add_emitter(&world, 0, 3, 8, 60), PULDEHO_ACCEPTED);
+    expect("id 0 starts", puldeho_add_emitter(&world, 0, 4, 0, 30), PULDEHO_ACCEPTED);
+    expect("units a tick", puldeho_units_a_tick(&world, 0, &units), PULDEHO_ACCEPTED);
+    expect_wide("units", units, 130);
+    expect("a tick", puldeho_tick(&world, 0), PULDEHO_ACCEPTED);
+    expect_list("tracers after a tick", tracers, after);
+    expect("id 7 stops", puldeho_remove_emitter(&world, 0, 7), PULDEHO_ACCEPTED);
+    expect_number("how many stand", puldeho_lent_ledger(&world)[0], 2);
+    expect_number("the last one is in its place", puldeho_lent_ledger(&world)[3], 0);
+    expect("the largest units", puldeho_add_emitter(&world, 0, 0, UINT32_MAX, UINT32_MAX), PULDEHO_ACCEPTED);
+    expect("units a tick", puldeho_units_a_tick(&world, 0, &units), PULDEHO_ACCEPTED);
+    expect_wide("units", units, 4294967385u);
+    expect("a tick above the limit", puldeho_tick(&world, 0), PULDEHO_REFUSAL_EMISSION);
+    expect_list("tracers after it", tracers, after);
+    expect("an id again", puldeho_add_emitter(&world, 0, 1, 8, 1), PULDEHO_REFUSAL_EMITTER_ADDED);
+    expect("an absent id", puldeho_remove_emitter(&world, 0, 7), PULDEHO_REFUSAL_EMITTER_ABSENT);
+    expect("an absent tracer", puldeho_units_a_tick(&world, 1, &units), PULDEHO_REFUSAL_INDEX);
+    expect_wide("its count", units, 0);
+    expect("a load", puldeho_load(&world), PULDEHO_ACCEPTED);
+    expect_number("how many stand after a load", puldeho_lent_ledger(&world)[0], 0);
+}
+
+/* The load after a program wrote into a list leaves no emitter; added again as the guide does it, they give the ledger as it
+ * was. */
+static void added_again(void)
+{
+    uint32_t kept[PULDEHO_MOST_TRACERS * PULDEHO_LEDGER_BLOCK];
+    struct puldeho_world world = first_world();
+    struct puldeho_grid grid = world.grid;
+    enum puldeho_refusal refusal = PULDEHO_ACCEPTED;
+    for (uint32_t id = 0; !refusal && id < 5; id++)
+        refusal = puldeho_add_emitter(&world, 0, id, 100 + id, 10 * id);
+    expect("five emitters", refusal, PULDEHO_ACCEPTED);
+    expect("one stops", puldeho_remove_emitter(&world, 0, 101), PULDEHO_ACCEPTED);
+    memcpy(kept, puldeho_lent_ledger(&world), grid.n * PULDEHO_LEDGER_BLOCK * sizeof *kept);
+    refusal = puldeho_load(&world);
+    for (uint32_t t = 0; t < grid.n; t++) {
+        const uint32_t *block = kept + t * PULDEHO_LEDGER_BLOCK;
+        for (uint32_t i = 0; !refusal && i < block[0]; i++)
+            refusal = puldeho_add_emitter(&world, t, block[4 + 3 * i], block[3 + 3 * i], block[5 + 3 * i]);
+    }
+    expect("loaded and added again", refusal, PULDEHO_ACCEPTED);
+    expect_number("the ledger as it was", memcmp(kept, puldeho_lent_ledger(&world), puldeho_lent_ledger_length(&world) * sizeof *kept), 0);
+}
+
+/* A ledger that the program keeps: of the wrong length, not as it must be, and cleared by a load. */
+static void own_ledger(void)
+{
+    uint32_t ledger[PULDEHO_LEDGER_BLOCK] = {1, 5, 0, 7, CELLS, 5};
+    struct puldeho_world world = first_world();
+    world.ledger = ledger;
+    world.ledger_length = PULDEHO_LEDGER_BLOCK - 1;
+    expect("a ledger too short", puldeho_load(&world), PULDEHO_REFUSAL_LENGTHS);
+    world.ledger_length = puldeho_ledger_length(world.grid);
+    expect("an emitter in an absent cell", puldeho_tick(&world, 0), PULDEHO_REFUSAL_INDEX);
+    expect("which an emission does not see", puldeho_emission(&world, 0, 3, 1), PULDEHO_ACCEPTED);
+    expect("nor a load", puldeho_load(&world), PULDEHO_ACCEPTED);
+    expect_number("which clears it", ledger[0] + ledger[3], 0);
+    expect("an emitter", puldeho_add_emitter(&world, 0, 3, 7, 40), PULDEHO_ACCEPTED);
+    expect_number("stands in the program's list", ledger[3], 7);
+    expect_number("and not in the world's own", world.own_ledger[0], 0);
+}
+
 /* Lists of a wrong length, and of none. */
 static void lengths(void)
 {
@@ -120,6 +201,7 @@ static void numbers(void)
     struct puldeho_grid grid = {6, 3, 2, 5};
     expect_number("length of air", (uint32_t)puldeho_air_length(grid), 40);
     expect_number("length of tracers", (uint32_t)puldeho_tracers_length(grid), 200);
+    expect_number("length of the ledger", (uint32_t)puldeho_ledger_length(grid), 5 * PULDEHO_LEDGER_BLOCK);
     expect_number("length of zonal fluxes", (uint32_t)puldeho_zonal_fluxes_length(grid), 6);
     expect_number("length of long zonal fluxes", (uint32_t)puldeho_long_zonal_fluxes_length(grid), 6);
     expect_number("length of meridional fluxes", (uint32_t)puldeho_meridional_fluxes_length(grid), 24);
@@ -134,16 +216,30 @@ static void numbers(void)
     expect_number("an absent north cap", puldeho_north_cap(grid, 2), PULDEHO_NO_CELL);
 }
 
-/* A state that is kept and brought back, and lists of another length. */
+/* A state that is kept and brought back, emitters and all, between a ledger of the world's own and one of the program's, and
+ * by a world made over no grid; lists of another length. */
 static void copies(void)
 {
-    uint32_t kept_air[CELLS], kept_tracers[CELLS];
+    uint32_t kept_air[CELLS], kept_tracers[CELLS], ledger[PULDEHO_LEDGER_BLOCK] = {0};
+    const struct puldeho_grid none = {0, 0, 0, 0};
     struct puldeho_world world = first_world();
-    struct puldeho_world kept = puldeho_world_over(world.grid, kept_air, CELLS, kept_tracers, CELLS);
+    struct puldeho_world kept = puldeho_world_over(none, kept_air, CELLS, kept_tracers, CELLS);
+    kept.ledger = ledger;
+    kept.ledger_length = PULDEHO_LEDGER_BLOCK;
+    expect("an emitter", puldeho_add_emitter(&world, 0, 3, 7, 40), PULDEHO_ACCEPTED);
     expect("a state is kept", puldeho_copy(&kept, &world), PULDEHO_ACCEPTED);
     expect("a withdrawal", puldeho_withdrawal(&world, 0, 3, 200), PULDEHO_ACCEPTED);
+    expect("the emitter stops", puldeho_remove_emitter(&world, 0, 7), PULDEHO_ACCEPTED);
     expect("the state is brought back", puldeho_copy(&world, &kept), PULDEHO_ACCEPTED);
     expect_list("tracers after", tracers, first_tracers);
+    expect("the emitter stands again", puldeho_remove_emitter(&world, 0, 7), PULDEHO_ACCEPTED);
+    kept = puldeho_world_over(none, kept_air, CELLS, kept_tracers, CELLS);
+    expect("a state is kept again", puldeho_copy(&kept, &world), PULDEHO_ACCEPTED);
+    expect("and is a world", puldeho_tick(&kept, 0), PULDEHO_ACCEPTED);
+    kept.ledger = ledger;
+    kept.ledger_length = PULDEHO_LEDGER_BLOCK - 1;
+    expect("a ledger of another length", puldeho_copy(&kept, &world), PULDEHO_REFUSAL_LENGTHS);
+    kept.ledger = NULL;
     kept.tracers_length = CELLS - 1;
     expect("lists of other lengths", puldeho_copy(&kept, &world), PULDEHO_REFUSAL_LENGTHS);
 }
@@ -154,6 +250,9 @@ int main(void)
     copies();
     case_p();
     long_sweep();
+    emitters();
+    added_again();
+    own_ledger();
     lengths();
     refusals();
     return differences == 0 ? 0 : 1;

@@ -85,10 +85,17 @@ static bool set_list(char *rest, uint32_t **numbers, size_t *length)
     return good;
 }
 
-static bool set_grid(char *rest, struct puldeho_grid *grid)
+/* The grid, and zeros for a ledger: the world's own, or an empty list for more tracers than a world may have. */
+static bool set_grid(char *rest, struct puldeho_world *world)
 {
-    return take_u32(&rest, &grid->w) && take_u32(&rest, &grid->r) && take_u32(&rest, &grid->k)
+    struct puldeho_grid *grid = &world->grid;
+    bool good = take_u32(&rest, &grid->w) && take_u32(&rest, &grid->r) && take_u32(&rest, &grid->k)
         && take_u32(&rest, &grid->n) && at_end(rest);
+    free(world->ledger);
+    world->ledger = grid->n <= PULDEHO_MOST_TRACERS ? NULL : reserve(NULL, sizeof *world->ledger);
+    world->ledger_length = 0;
+    memset(world->own_ledger, 0, sizeof world->own_ledger);
+    return good;
 }
 
 static void show_list(const char *name, const uint32_t *numbers, size_t length)
@@ -108,6 +115,14 @@ static bool show(const char *rest, const struct puldeho_world *world)
     return true;
 }
 
+static bool show_ledger(const char *rest, const struct puldeho_world *world)
+{
+    if (!at_end(rest))
+        return false;
+    show_list("ledger", puldeho_lent_ledger(world), puldeho_lent_ledger_length(world));
+    return true;
+}
+
 static bool make_call(const char *name, char *rest, struct puldeho_world *world)
 {
     for (const struct call *call = calls; call->name != NULL; call++) {
@@ -115,7 +130,7 @@ static bool make_call(const char *name, char *rest, struct puldeho_world *world)
             struct outcome outcome = {PULDEHO_ACCEPTED, 0, PULDEHO_ACCEPTED, ""};
             if (!call->make(world, rest, &outcome))
                 return false;
-            printf("%s %d %" PRIu32 "\n", name, (int)outcome.refusal, outcome.count);
+            printf("%s %d %" PRIu64 "\n", name, (int)outcome.refusal, outcome.count);
             if (outcome.why != outcome.refusal)
                 fprintf(stderr, "%s gives %d, but why says %d: %s\n", name, (int)outcome.refusal, (int)outcome.why, outcome.text);
             return outcome.why == outcome.refusal;
@@ -130,13 +145,17 @@ static bool run_line(char *rest, struct puldeho_world *world)
     if (*name == '\0' || *name == '#')
         return true;
     if (strcmp(name, "grid") == 0)
-        return set_grid(rest, &world->grid);
+        return set_grid(rest, world);
     if (strcmp(name, "air") == 0)
         return set_list(rest, &world->air, &world->air_length);
     if (strcmp(name, "tracers") == 0)
         return set_list(rest, &world->tracers, &world->tracers_length);
+    if (strcmp(name, "ledger") == 0)
+        return set_list(rest, &world->ledger, &world->ledger_length);
     if (strcmp(name, "show") == 0)
         return show(rest, world);
+    if (strcmp(name, "show_ledger") == 0)
+        return show_ledger(rest, world);
     return make_call(name, rest, world);
 }
 

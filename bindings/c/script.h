@@ -16,7 +16,7 @@ struct list {
 /* What a call gave, and why beforehand. A call without a count leaves it. */
 struct outcome {
     enum puldeho_refusal refusal;
-    uint32_t count;
+    uint64_t count;
     enum puldeho_refusal why;
     char text[PULDEHO_WHY_SIZE];
 };

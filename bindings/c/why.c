@@ -15,6 +15,10 @@
 
 #include "puldeho.h"
 
+/* A number that a macro stands for, as text. */
+#define TEXT_OF(number) #number
+#define NUMBER_TEXT(macro) TEXT_OF(macro)
+
 enum {
     MOST_CELLS = 2 + PULDEHO_MOST_ROWS * PULDEHO_MOST_COLUMNS, /* of a layer */
     MOST_SWEEPS = 64 /* the most parts of a time step that are tried here */
@@ -29,7 +33,7 @@ struct text {
 /* A call with its own arguments; what it does not have is 0. */
 struct call {
     const struct puldeho_world *world;
-    uint32_t tracer, cell, amount, layer, row;
+    uint32_t tracer, cell, amount, layer, row, id, units;
     const int32_t *fluxes;
     const uint32_t *table;
     size_t length; /* of fluxes or table */
@@ -76,6 +80,12 @@ static void say_number(struct text *text, uint32_t number)
     say(text, "%lld", (long long)number);
     if (number > INT32_MAX)
         say(text, " (%lld, if the number was signed)", (long long)number - UINT32_MAX - 1);
+}
+
+/* A number of things, named by a noun that takes an s: "1 emitter", "2 emitters". */
+static void say_counted(struct text *text, long long count, const char *noun)
+{
+    say(text, "%lld %s%s", count, noun, count == 1 ? "" : "s");
 }
 
 /* How far an amount of air is outside 1 to 65535; 0 if it is inside. */
@@ -138,6 +148,14 @@ static enum puldeho_refusal tracers_length_place(const struct call *call, struct
     const struct puldeho_world *world = call->world;
     size_t wants = puldeho_tracers_length(world->grid);
     return length(call, text, "tracers", world->tracers_length, wants, wants, "N*K*C, where C = 2 + R*W");
+}
+
+static enum puldeho_refusal ledger_length_place(const struct call *call, struct text *text)
+{
+    const struct puldeho_world *world = call->world;
+    size_t wants = puldeho_ledger_length(world->grid);
+    return length(call, text, "ledger", puldeho_lent_ledger_length(world), wants, wants,
+                  "N*" NUMBER_TEXT(PULDEHO_LEDGER_BLOCK));
 }
 
 static enum puldeho_refusal zonal_length_place(const struct call *call, struct text *text)
@@ -231,6 +249,15 @@ static enum puldeho_refusal cell_place(const struct call *call, struct text *tex
     return refusal;
 }
 
+/* The cell of an emitter to be added. Four numbers stand in a row there, and an id may be any. */
+static enum puldeho_refusal emitter_cell_place(const struct call *call, struct text *text)
+{
+    enum puldeho_refusal refusal = cell_place(call, text);
+    if (refusal != PULDEHO_ACCEPTED && call->cell != PULDEHO_NO_CELL && call->id < call->world->air_length)
+        say(text, "; the order is tracer, cell, id, units, and %lld was given as the id", (long long)call->id);
+    return refusal;
+}
+
 static enum puldeho_refusal layer_place(const struct call *call, struct text *text)
 {
     return index_of(text, "layer", call->layer, call->world->grid.k, " from the top down");
@@ -264,6 +291,176 @@ static enum puldeho_refusal withdrawal_place(const struct call *call, struct tex
     say(text, " has %lld of tracer %lld, the amount is ", (long long)has, (long long)call->tracer);
     say_number(text, call->amount);
     return PULDEHO_REFUSAL_WITHDRAWAL;
+}
+
+/* Emitters: 5 for a ledger that is not as it must be, 18, 19, and 6 for a tick. */
+
+/* A tracer's part of the ledger. */
+static const uint32_t *block_of(const struct puldeho_world *world, size_t tracer)
+{
+    return puldeho_lent_ledger(world) + tracer * PULDEHO_LEDGER_BLOCK;
+}
+
+/* Where the id of emitter i stands in a block; its cell and its units stand after it. */
+static size_t entry(size_t i)
+{
+    return 3 + 3 * i;
+}
+
+static unsigned long long kept_sum(const uint32_t *block)
+{
+    return (unsigned long long)block[2] << 32 | block[1];
+}
+
+static unsigned long long sum_of_units(const uint32_t *block)
+{
+    unsigned long long sum = 0;
+    for (size_t i = 0; i < block[0]; i++)
+        sum += block[entry(i) + 2];
+    return sum;
+}
+
+/* The first emitter from `from` on with the id; as many as stand if there is none. */
+static size_t emitter_of(const uint32_t *block, uint32_t id, size_t from)
+{
+    while (from < block[0] && block[entry(from)] != id)
+        from++;
+    return from;
+}
+
+/* An emitter in an absent cell, or two of one id: says so and gives true. At most 16 stand. */
+static bool say_wrong_emitter(struct text *text, const struct puldeho_world *world, size_t tracer)
+{
+    const uint32_t *block = block_of(world, tracer);
+    size_t start = tracer * PULDEHO_LEDGER_BLOCK;
+    for (size_t i = 0; i < block[0]; i++) {
+        long long id = block[entry(i)], cell = block[entry(i) + 1];
+        size_t twin = emitter_of(block, block[entry(i)], i + 1);
+        if ((size_t)cell >= world->air_length)
+            say(text, "emitter %zu of tracer %zu, id %lld, is in the absent cell %lld (number %zu of the ledger), "
+                "cells are 0 to %zu", i, tracer, id, cell, start + entry(i) + 1, world->air_length - 1);
+        else if (twin < block[0])
+            say(text, "emitters %zu and %zu of tracer %zu both have the id %lld (numbers %zu and %zu of the ledger)",
+                i, twin, tracer, id, start + entry(i), start + entry(twin));
+        else
+            continue;
+        return true;
+    }
+    return false;
+}
+
+/* What is wrong with a tracer's part of the ledger: says so and gives true. */
+static bool say_wrong_block(struct text *text, const struct puldeho_world *world, size_t tracer)
+{
+    const uint32_t *block = block_of(world, tracer);
+    size_t start = tracer * PULDEHO_LEDGER_BLOCK;
+    if (block[0] > PULDEHO_MOST_EMITTERS) {
+        say(text, "tracer %zu has %lld emitters (number %zu of the ledger), at most %d may stand", tracer,
+            (long long)block[0], start, PULDEHO_MOST_EMITTERS);
+        return true;
+    }
+    if (say_wrong_emitter(text, world, tracer))
+        return true;
+    if (kept_sum(block) == sum_of_units(block))
+        return false;
+    say(text, "tracer %zu has the sum %llu (numbers %zu and %zu of the ledger), and the units of its ", tracer,
+        kept_sum(block), start + 1, start + 2);
+    say_counted(text, block[0], "emitter");
+    say(text, " sum to %llu", sum_of_units(block));
+    return true;
+}
+
+static enum puldeho_refusal ledger_place(const struct call *call, struct text *text)
+{
+    for (size_t tracer = 0; tracer < call->world->grid.n; tracer++)
+        if (say_wrong_block(text, call->world, tracer)) {
+            say(text, "; load again, which leaves no emitter standing, and add the emitters anew");
+            return PULDEHO_REFUSAL_INDEX;
+        }
+    return PULDEHO_ACCEPTED;
+}
+
+/* A seventeenth emitter: where one stands in its cell the two could be one, and its units can be given by emission if they may. */
+static void say_instead(struct text *text, const struct call *call)
+{
+    const uint32_t *block = block_of(call->world, call->tracer);
+    for (size_t i = 0; i < block[0]; i++) {
+        unsigned long long both = (unsigned long long)block[entry(i) + 2] + call->units;
+        if (block[entry(i) + 1] == call->cell && both <= UINT32_MAX) {
+            say(text, ", or remove id %lld, which is in cell %lld too, and add it again with the sum of the units, %llu",
+                (long long)block[entry(i)], (long long)call->cell, both);
+            return;
+        }
+    }
+    if (call->units <= PULDEHO_TOTAL_LIMIT)
+        say(text, ", or give the units of the new one by emission");
+}
+
+static enum puldeho_refusal added_place(const struct call *call, struct text *text)
+{
+    const uint32_t *block = block_of(call->world, call->tracer);
+    size_t i = emitter_of(block, call->id, 0);
+    if (i < block[0]) {
+        say(text, "tracer %lld already has the id ", (long long)call->tracer);
+        say_number(text, call->id);
+        say(text, ": emitter %zu, in ", i);
+        say_cell(text, call->world->grid, block[entry(i) + 1]);
+        say(text, ", of ");
+        say_counted(text, block[entry(i) + 2], "unit");
+        say(text, " a tick; to change it, remove it and add it again");
+        return PULDEHO_REFUSAL_EMITTER_ADDED;
+    }
+    if (block[0] < PULDEHO_MOST_EMITTERS)
+        return PULDEHO_ACCEPTED;
+    say(text, "tracer %lld has %d emitters, no more may stand; remove one that has closed", (long long)call->tracer,
+        PULDEHO_MOST_EMITTERS);
+    say_instead(text, call);
+    return PULDEHO_REFUSAL_EMITTER_ADDED;
+}
+
+/* The ids that stand for the tracer, and the other tracers for which this one does. */
+static void say_ids(struct text *text, const struct call *call)
+{
+    const uint32_t *block = block_of(call->world, call->tracer);
+    if (block[0] == 0)
+        say(text, "; it has no emitters, as after a load");
+    for (size_t i = 0; i < block[0]; i++)
+        say(text, "%s%lld", i == 0 ? "; it has the ids " : ", ", (long long)block[entry(i)]);
+    for (size_t tracer = 0; tracer < call->world->grid.n; tracer++) {
+        const uint32_t *other = block_of(call->world, tracer);
+        if (emitter_of(other, call->id, 0) < other[0])
+            say(text, "; tracer %zu has that id", tracer);
+    }
+}
+
+static enum puldeho_refusal absent_place(const struct call *call, struct text *text)
+{
+    const uint32_t *block = block_of(call->world, call->tracer);
+    if (emitter_of(block, call->id, 0) < block[0])
+        return PULDEHO_ACCEPTED;
+    say(text, "tracer %lld has no emitter of the id ", (long long)call->tracer);
+    say_number(text, call->id);
+    say_ids(text, call);
+    return PULDEHO_REFUSAL_EMITTER_ABSENT;
+}
+
+static enum puldeho_refusal tick_place(const struct call *call, struct text *text)
+{
+    const uint32_t *block = block_of(call->world, call->tracer);
+    long long total = total_of(call->world, call->tracer), sum = (long long)kept_sum(block);
+    size_t largest = 0;
+    if (total + sum <= PULDEHO_TOTAL_LIMIT)
+        return PULDEHO_ACCEPTED;
+    for (size_t i = 1; i < block[0]; i++)
+        if (block[entry(i) + 2] > block[entry(largest) + 2])
+            largest = i;
+    say(text, "tracer %lld has the total %lld and a tick gives %lld, the units of ", (long long)call->tracer, total, sum);
+    say_counted(text, block[0], "emitter");
+    say(text, "; the limit is %d, so at most %lld can be emitted, and nothing was; the largest is id %lld, of ",
+        PULDEHO_TOTAL_LIMIT, PULDEHO_TOTAL_LIMIT - total, (long long)block[entry(largest)]);
+    say_number(text, block[entry(largest) + 2]);
+    say(text, block[entry(largest) + 2] == 1 ? " unit a tick" : " units a tick");
+    return PULDEHO_REFUSAL_EMISSION;
 }
 
 /* The cells and faces of a sweep: a row closed round the globe (zonal, long), or a layer with its caps (meridional). */
@@ -788,7 +985,7 @@ struct changes {
 
 /*
  * The changes of b that are sure to give a layer 1 to 65535 in every column, where a changes by so much: a change d gives
- * floor(d*P/65536) or one unit more, so that d*P/65536 must be 1 - a or more, and less than 65535 - a.
+ * floor(d*P/65536) or one unit more, so that d*P/65536 must be 1 - a or more, and less than 65535 - a; 0 gives nothing.
  */
 static struct changes sure_changes(const struct call *call, long long a)
 {
@@ -796,7 +993,7 @@ static struct changes sure_changes(const struct call *call, long long a)
     for (size_t column = 0; column < puldeho_cells_in_layer(call->world->grid); column++) {
         long long p = column_air(call->world, column);
         long long least = ((1 - a) * PULDEHO_TABLE_SCALE + p - 1) / p;
-        long long most = ((PULDEHO_AIR_LIMIT - a) * PULDEHO_TABLE_SCALE - 1) / p;
+        long long most = a > PULDEHO_AIR_LIMIT ? -1 : ((PULDEHO_AIR_LIMIT - a) * PULDEHO_TABLE_SCALE - 1) / p;
         sure.least = least > sure.least ? least : sure.least;
         sure.most = most < sure.most ? most : sure.most;
     }
@@ -843,29 +1040,41 @@ static enum puldeho_refusal remap_place(const struct call *call, struct text *te
 /* The places of each call, in order. */
 
 static place *const load_places[] = {
-    grid_place, air_length_place, tracers_length_place, air_place, totals_place, NULL};
+    grid_place, air_length_place, tracers_length_place, ledger_length_place, air_place, totals_place, NULL};
 static place *const emission_places[] = {
-    grid_place, air_length_place, tracers_length_place, air_place, totals_place,
+    grid_place, air_length_place, tracers_length_place, ledger_length_place, air_place, totals_place,
     tracer_place, cell_place, emission_place, NULL};
 static place *const withdrawal_places[] = {
-    grid_place, air_length_place, tracers_length_place, air_place, totals_place,
+    grid_place, air_length_place, tracers_length_place, ledger_length_place, air_place, totals_place,
     tracer_place, cell_place, withdrawal_place, NULL};
 static place *const zonal_places[] = {
-    grid_place, air_length_place, tracers_length_place, zonal_length_place, air_place, totals_place,
+    grid_place, air_length_place, tracers_length_place, ledger_length_place, zonal_length_place, air_place, totals_place,
     layer_place, row_place, zonal_fluxes_place, zonal_place, NULL};
 static place *const long_zonal_places[] = {
-    grid_place, air_length_place, tracers_length_place, zonal_length_place, air_place, totals_place,
+    grid_place, air_length_place, tracers_length_place, ledger_length_place, zonal_length_place, air_place, totals_place,
     layer_place, row_place, zonal_fluxes_place, long_flux_place, long_air_place, NULL};
 static place *const meridional_places[] = {
-    grid_place, air_length_place, tracers_length_place, meridional_length_place, air_place, totals_place,
+    grid_place, air_length_place, tracers_length_place, ledger_length_place, meridional_length_place, air_place, totals_place,
     layer_place, meridional_fluxes_place, meridional_place, NULL};
 static place *const remap_places[] = {
-    grid_place, air_length_place, tracers_length_place, table_length_place, air_place, totals_place,
+    grid_place, air_length_place, tracers_length_place, ledger_length_place, table_length_place, air_place, totals_place,
     table_place, remap_place, NULL};
 static place *const total_places[] = {
-    grid_place, air_length_place, tracers_length_place, air_place, totals_place, tracer_place, NULL};
+    grid_place, air_length_place, tracers_length_place, ledger_length_place, air_place, totals_place, tracer_place, NULL};
 static place *const cell_places[] = {
-    grid_place, air_length_place, tracers_length_place, air_place, totals_place, tracer_place, cell_place, NULL};
+    grid_place, air_length_place, tracers_length_place, ledger_length_place, air_place, totals_place, tracer_place, cell_place, NULL};
+static place *const add_emitter_places[] = {
+    grid_place, air_length_place, tracers_length_place, ledger_length_place, air_place, totals_place,
+    tracer_place, emitter_cell_place, ledger_place, added_place, NULL};
+static place *const remove_emitter_places[] = {
+    grid_place, air_length_place, tracers_length_place, ledger_length_place, air_place, totals_place,
+    tracer_place, ledger_place, absent_place, NULL};
+static place *const tick_places[] = {
+    grid_place, air_length_place, tracers_length_place, ledger_length_place, air_place, totals_place,
+    tracer_place, ledger_place, tick_place, NULL};
+static place *const units_a_tick_places[] = {
+    grid_place, air_length_place, tracers_length_place, ledger_length_place, air_place, totals_place,
+    tracer_place, ledger_place, NULL};
 
 /* Every text fits in PULDEHO_WHY_SIZE, so that no more is asked of vsnprintf. */
 static enum puldeho_refusal first_refusal(const struct call *call, place *const *places, char *start, size_t size)
@@ -949,4 +1158,30 @@ enum puldeho_refusal puldeho_why_cell(
 {
     struct call call = {.world = world, .tracer = tracer, .cell = cell};
     return first_refusal(&call, cell_places, text, size);
+}
+
+enum puldeho_refusal puldeho_why_add_emitter(
+    const struct puldeho_world *world, uint32_t tracer, uint32_t cell, uint32_t id, uint32_t units, char *text, size_t size)
+{
+    struct call call = {.world = world, .tracer = tracer, .cell = cell, .id = id, .units = units};
+    return first_refusal(&call, add_emitter_places, text, size);
+}
+
+enum puldeho_refusal puldeho_why_remove_emitter(
+    const struct puldeho_world *world, uint32_t tracer, uint32_t id, char *text, size_t size)
+{
+    struct call call = {.world = world, .tracer = tracer, .id = id};
+    return first_refusal(&call, remove_emitter_places, text, size);
+}
+
+enum puldeho_refusal puldeho_why_tick(const struct puldeho_world *world, uint32_t tracer, char *text, size_t size)
+{
+    struct call call = {.world = world, .tracer = tracer};
+    return first_refusal(&call, tick_places, text, size);
+}
+
+enum puldeho_refusal puldeho_why_units_a_tick(const struct puldeho_world *world, uint32_t tracer, char *text, size_t size)
+{
+    struct call call = {.world = world, .tracer = tracer};
+    return first_refusal(&call, units_a_tick_places, text, size);
 }

@@ -10,14 +10,22 @@
 
 #include "puldeho.h"
 
-enum { CALLS = 12000, MOST_LIST = 256, MOST_REFUSAL = PULDEHO_REFUSAL_LONG_AIR };
+enum {
+    CALLS = 16000,
+    MOST_LIST = 256,
+    MOST_LEDGER = 3 * PULDEHO_LEDGER_BLOCK + 1,
+    MOST_REFUSAL = PULDEHO_REFUSAL_EMITTER_ABSENT
+};
 
-enum name { LOAD, EMISSION, WITHDRAWAL, ZONAL, LONG_ZONAL, MERIDIONAL, REMAP, TOTAL, CELL, NAMES };
+enum name {
+    LOAD, EMISSION, WITHDRAWAL, ZONAL, LONG_ZONAL, MERIDIONAL, REMAP, TOTAL, CELL,
+    ADD_EMITTER, REMOVE_EMITTER, TICK, UNITS_A_TICK, NAMES
+};
 
 /* A call with its own arguments. */
 struct request {
     enum name name;
-    uint32_t tracer, cell, amount, layer, row;
+    uint32_t tracer, cell, amount, layer, row, id, units;
     int32_t fluxes[MOST_LIST];
     uint32_t table[MOST_LIST];
     size_t length;
@@ -29,6 +37,9 @@ static unsigned long ends[2], cuts[2], uncut[2]; /* texts of zonal and of meridi
 static unsigned long changes; /* texts of remaps that name changes of b */
 static unsigned long long_ends, turns[2]; /* texts of long sweeps: a cell ends outside; turns taken off, turns added */
 static unsigned long long_instead[2]; /* texts of zonal sweeps that do not name the long one, and that do */
+static unsigned long faults[4]; /* texts of ledgers with too many emitters, an absent cell, an id twice, a false sum */
+static unsigned long full[2], twice; /* texts of 16 emitters, with none in the same cell and with one; of an id again */
+static unsigned long absent[2], ticks; /* texts of an absent id that no other tracer has, and that one has; of a tick */
 
 static void differs(const char *what, const char *text)
 {
@@ -62,7 +73,11 @@ static enum puldeho_refusal why(const struct puldeho_world *world, const struct 
     case MERIDIONAL: refusal = puldeho_why_meridional(world, r->layer, fluxes, r->length, text, size); break;
     case REMAP: refusal = puldeho_why_remap(world, table, r->length, text, size); break;
     case TOTAL: refusal = puldeho_why_total(world, r->tracer, text, size); break;
-    default: refusal = puldeho_why_cell(world, r->tracer, r->cell, text, size); break;
+    case CELL: refusal = puldeho_why_cell(world, r->tracer, r->cell, text, size); break;
+    case ADD_EMITTER: refusal = puldeho_why_add_emitter(world, r->tracer, r->cell, r->id, r->units, text, size); break;
+    case REMOVE_EMITTER: refusal = puldeho_why_remove_emitter(world, r->tracer, r->id, text, size); break;
+    case TICK: refusal = puldeho_why_tick(world, r->tracer, text, size); break;
+    default: refusal = puldeho_why_units_a_tick(world, r->tracer, text, size); break;
     }
     free(fluxes);
     free(table);
@@ -80,7 +95,11 @@ static enum puldeho_refusal library(struct puldeho_world *world, const struct re
     case MERIDIONAL: return puldeho_meridional(world, r->layer, r->fluxes, r->length, NULL);
     case REMAP: return puldeho_remap(world, r->table, r->length, NULL);
     case TOTAL: return puldeho_total(world, r->tracer, NULL);
-    default: return puldeho_cell(world, r->tracer, r->cell, NULL);
+    case CELL: return puldeho_cell(world, r->tracer, r->cell, NULL);
+    case ADD_EMITTER: return puldeho_add_emitter(world, r->tracer, r->cell, r->id, r->units);
+    case REMOVE_EMITTER: return puldeho_remove_emitter(world, r->tracer, r->id);
+    case TICK: return puldeho_tick(world, r->tracer);
+    default: return puldeho_units_a_tick(world, r->tracer, NULL);
     }
 }
 
@@ -89,6 +108,9 @@ static struct puldeho_world copy_of(const struct puldeho_world *world)
     struct puldeho_world copy = *world;
     copy.air = lend(world->air, world->air_length * sizeof *world->air);
     copy.tracers = lend(world->tracers, world->tracers_length * sizeof *world->tracers);
+    /* One that was set is not null, also without a number; else the world's own was copied with the struct. */
+    if (world->ledger != NULL)
+        copy.ledger = lend(world->ledger, world->ledger_length == 0 ? 1 : world->ledger_length * sizeof *world->ledger);
     return copy;
 }
 
@@ -96,13 +118,17 @@ static void drop(struct puldeho_world *world)
 {
     free(world->air);
     free(world->tracers);
+    free(world->ledger);
 }
 
 static bool same(const struct puldeho_world *one, const struct puldeho_world *other)
 {
+    size_t ledger = puldeho_lent_ledger_length(one);
     return (one->air_length == 0 || memcmp(one->air, other->air, one->air_length * sizeof *one->air) == 0)
         && (one->tracers_length == 0
-            || memcmp(one->tracers, other->tracers, one->tracers_length * sizeof *one->tracers) == 0);
+            || memcmp(one->tracers, other->tracers, one->tracers_length * sizeof *one->tracers) == 0)
+        && (ledger == 0
+            || memcmp(puldeho_lent_ledger(one), puldeho_lent_ledger(other), ledger * sizeof *one->ledger) == 0);
 }
 
 /* What the text of a refused sweep says, held to the library. */
@@ -303,6 +329,132 @@ static void check_remap(const struct puldeho_world *world, const struct request 
         differs("columns that are refused", text);
 }
 
+/* What the text of a refused call on emitters says, held to the library and to the ledger, which is read here by sums over
+ * all pairs of emitters. */
+
+static const uint32_t *block_of(const struct puldeho_world *world, size_t tracer)
+{
+    return puldeho_lent_ledger(world) + tracer * PULDEHO_LEDGER_BLOCK;
+}
+
+/* Which fault a tracer's block has, in the order of `faults`; 4 if none. */
+static size_t fault_of(const struct puldeho_world *world, size_t tracer)
+{
+    const uint32_t *block = block_of(world, tracer);
+    uint64_t sum = 0;
+    bool absent_cell = false, same_id = false;
+    if (block[0] > 16)
+        return 0;
+    for (size_t i = 3; i < 3 + 3 * block[0]; i += 3) {
+        sum += block[i + 2];
+        absent_cell = absent_cell || block[i + 1] >= world->air_length;
+        for (size_t j = 3; j < i; j += 3)
+            same_id = same_id || block[i] == block[j];
+    }
+    return absent_cell ? 1 : same_id ? 2 : sum != block[1] + ((uint64_t)block[2] << 32) ? 3 : 4;
+}
+
+/* 5: the first tracer whose block has a fault; after a load no such refusal is left. */
+static void check_ledger(const struct puldeho_world *world, const struct request *r, const char *text)
+{
+    static const char *const words[] = {" emitters (number ", "is in the absent cell ", " both have the id ", " has the sum "};
+    struct puldeho_world copy = copy_of(world);
+    size_t tracer = 0;
+    while (tracer < world->grid.n && fault_of(world, tracer) == 4)
+        tracer++;
+    size_t fault = tracer < world->grid.n ? fault_of(world, tracer) : 4;
+    if (number_after(text, "tracer ") != (long long)tracer)
+        differs("the tracer of a ledger's fault", text);
+    /* A block may have an absent cell and an id twice: the text names the one of the first emitter. */
+    if (fault == 1 && strstr(text, words[1]) == NULL)
+        fault = 2;
+    if (fault == 4 || strstr(text, words[fault]) == NULL)
+        differs("the ledger's fault", text);
+    else
+        faults[fault]++;
+    if (puldeho_load(&copy) != PULDEHO_ACCEPTED || library(&copy, r) == PULDEHO_REFUSAL_INDEX)
+        differs("a load does not mend the ledger", text);
+    drop(&copy);
+}
+
+/* 18: what the text says to remove is removed, and what it says to add instead is then accepted. */
+static void check_added(const struct puldeho_world *world, const struct request *r, const char *text)
+{
+    struct puldeho_world copy = copy_of(world);
+    long long joined = number_after(text, ", or remove id "), emitter = number_after(text, ": emitter ");
+    const uint32_t *block = block_of(world, r->tracer);
+    struct request again = *r;
+    if (strstr(text, " already has the id ") != NULL) {
+        if (emitter < 0 || emitter >= 16 || block[3 + 3 * emitter] != r->id)
+            differs("the emitter that has the id", text);
+        if (puldeho_remove_emitter(&copy, r->tracer, r->id) != PULDEHO_ACCEPTED)
+            differs("the id cannot be removed", text);
+        twice++;
+    } else {
+        again.id = joined >= 0 ? (uint32_t)joined : r->id;
+        again.units = joined >= 0 ? (uint32_t)number_after(text, "sum of the units, ") : r->units;
+        if (puldeho_remove_emitter(&copy, r->tracer, joined >= 0 ? again.id : block[3]) != PULDEHO_ACCEPTED)
+            differs("the emitter cannot be removed", text);
+        if ((joined < 0 && r->units <= PULDEHO_TOTAL_LIMIT) != (strstr(text, "by emission") != NULL))
+            differs("whether an emission would do", text);
+        full[joined >= 0]++;
+    }
+    if (library(&copy, &again) != PULDEHO_ACCEPTED || (joined >= 0 && block_of(&copy, r->tracer)[0] != 16))
+        differs("not accepted after the removal", text);
+    drop(&copy);
+}
+
+/* 19: the ids that stand, and the tracers that have this one. */
+static void check_absent(const struct puldeho_world *world, const struct request *r, const char *text)
+{
+    char wanted[PULDEHO_WHY_SIZE] = "; it has no emitters, as after a load";
+    const uint32_t *block = block_of(world, r->tracer);
+    size_t length = 0, others = 0;
+    for (size_t i = 0; i < block[0]; i++)
+        length += (size_t)sprintf(wanted + length, "%s%u", i == 0 ? "; it has the ids " : ", ", (unsigned)block[3 + 3 * i]);
+    length = strlen(wanted);
+    for (uint32_t tracer = 0; tracer < world->grid.n; tracer++) {
+        struct puldeho_world copy = copy_of(world);
+        if (puldeho_remove_emitter(&copy, tracer, r->id) == PULDEHO_ACCEPTED) {
+            length += (size_t)sprintf(wanted + length, "; tracer %u has that id", (unsigned)tracer);
+            others++;
+        }
+        drop(&copy);
+    }
+    const char *found = strstr(text, "; it has ");
+    if (found == NULL || strcmp(found, wanted) != 0)
+        differs("the ids that stand", text);
+    absent[others > 0]++;
+}
+
+/* 6: as much can be emitted as the text says, and no more. */
+static void check_tick(const struct puldeho_world *world, const struct request *r, const char *text)
+{
+    struct puldeho_world copy = copy_of(world);
+    uint32_t room = (uint32_t)number_after(text, "so at most ");
+    uint64_t units = 0;
+    if (puldeho_units_a_tick(&copy, r->tracer, &units) != PULDEHO_ACCEPTED
+        || number_after(text, " and a tick gives ") != (long long)units || units <= room)
+        differs("the units of a tick", text);
+    if (puldeho_emission(&copy, r->tracer, 0, room) != PULDEHO_ACCEPTED
+        || puldeho_emission(&copy, r->tracer, 0, 1) != PULDEHO_REFUSAL_EMISSION)
+        differs("the room for a tick", text);
+    ticks++;
+    drop(&copy);
+}
+
+static void check_emitters(const struct puldeho_world *world, const struct request *r, enum puldeho_refusal refusal, const char *text)
+{
+    if (refusal == PULDEHO_REFUSAL_INDEX && strstr(text, "there is no ") == NULL)
+        check_ledger(world, r, text);
+    if (refusal == PULDEHO_REFUSAL_EMITTER_ADDED)
+        check_added(world, r, text);
+    if (refusal == PULDEHO_REFUSAL_EMITTER_ABSENT)
+        check_absent(world, r, text);
+    if (refusal == PULDEHO_REFUSAL_EMISSION && r->name == TICK)
+        check_tick(world, r, text);
+}
+
 /* One call: why.c beside the library, and the text in a small size. */
 
 static void check_size(const struct puldeho_world *world, const struct request *r, const char *text, size_t size)
@@ -328,6 +480,8 @@ static void check_call(const struct puldeho_world *world, const struct request *
     reached[refusal]++;
     if (refusal != library(&copy, r))
         differs("another refusal", text);
+    if (refusal != PULDEHO_ACCEPTED && !same(&copy, &before))
+        differs("a refused call changed the world", text);
     if (refusal != why(world, r, NULL, size))
         differs("another refusal without a text", text);
     if ((refusal == PULDEHO_ACCEPTED) != (strcmp(text, "the call would be accepted") == 0))
@@ -338,6 +492,7 @@ static void check_call(const struct puldeho_world *world, const struct request *
         check_long(world, r, text);
     if (refusal == PULDEHO_REFUSAL_REMAP)
         check_remap(world, r, text);
+    check_emitters(world, r, refusal, text);
     check_size(world, r, text, size);
     if (!same(world, &before))
         differs("the world was changed", text);
@@ -421,6 +576,59 @@ static void fill_tracers(struct puldeho_world *world)
         world->tracers[any() % world->tracers_length] = wild();
 }
 
+/* A tracer's emitters, as calls could have left them, and anything past them. */
+static void fill_block(const struct puldeho_world *world, uint32_t *block)
+{
+    uint32_t most = one_in(3) ? 4000000000u : one_in(2) ? 1000 : 30000000;
+    uint64_t sum = 0;
+    for (size_t i = 0; i < PULDEHO_LEDGER_BLOCK; i++)
+        block[i] = one_in(2) ? 0 : wild();
+    block[0] = one_in(2) ? from_to(0, 3) : one_in(2) ? 16 : from_to(0, 16);
+    for (uint32_t i = 0; i < block[0]; i++) {
+        block[3 + 3 * i] = i * 2 + from_to(0, 1) + (one_in(20) ? 4294967200u : 0);
+        block[4 + 3 * i] = any() % (uint32_t)(world->air_length + (world->air_length == 0));
+        block[5 + 3 * i] = from_to(0, most);
+        sum += block[5 + 3 * i];
+    }
+    block[1] = (uint32_t)sum;
+    block[2] = (uint32_t)(sum >> 32);
+}
+
+/* One of the four faults, unless by chance it is none. */
+static void break_block(uint32_t *block)
+{
+    uint32_t one = any() % 16, other = any() % 16, kind = any() % 4;
+    if (kind == 0)
+        block[0] = one_in(2) ? 17 : wild();
+    if (kind == 1)
+        block[4 + 3 * one] = wild();
+    if (kind == 2)
+        block[3 + 3 * one] = block[3 + 3 * other];
+    if (kind == 3)
+        block[1 + any() % 2] += one_in(2) ? 1 : wild();
+}
+
+/* Emitters for every tracer, now and then with a fault; a ledger of another length gets any numbers. */
+static void fill_ledger(struct puldeho_world *world, uint32_t *ledger)
+{
+    size_t length = puldeho_lent_ledger_length(world), blocks = length / PULDEHO_LEDGER_BLOCK;
+    for (size_t i = blocks * PULDEHO_LEDGER_BLOCK; i < length; i++)
+        ledger[i] = wild();
+    for (size_t tracer = 0; tracer < blocks; tracer++)
+        fill_block(world, ledger + tracer * PULDEHO_LEDGER_BLOCK);
+    if (blocks > 0 && one_in(5))
+        break_block(ledger + any() % blocks * PULDEHO_LEDGER_BLOCK);
+}
+
+/* An id that stands for some tracer, or another. */
+static uint32_t any_id(const struct puldeho_world *world)
+{
+    size_t blocks = puldeho_lent_ledger_length(world) / PULDEHO_LEDGER_BLOCK;
+    if (blocks == 0 || one_in(3))
+        return one_in(3) ? wild() : from_to(0, 40);
+    return puldeho_lent_ledger(world)[any() % blocks * PULDEHO_LEDGER_BLOCK + 3 + 3 * (any() % 16)];
+}
+
 /* An index below the count, now and then another. */
 static uint32_t any_index(uint32_t count)
 {
@@ -490,6 +698,8 @@ static void any_request(const struct puldeho_world *world, uint32_t scale, struc
     r->layer = any_index(grid.k);
     r->row = any_index(grid.r);
     r->amount = any_amount(world, r);
+    r->id = any_id(world);
+    r->units = one_in(2) ? from_to(0, 1000) : wild();
     if (r->name == REMAP)
         fill_table(r, grid.k, scale);
     else
@@ -498,14 +708,19 @@ static void any_request(const struct puldeho_world *world, uint32_t scale, struc
 
 static void seeded_call(void)
 {
-    uint32_t air[MOST_LIST], tracers[3 * MOST_LIST], scale;
+    uint32_t air[MOST_LIST], tracers[3 * MOST_LIST], ledger[MOST_LEDGER], scale;
     struct puldeho_grid grid = any_grid();
     size_t air_length = any_length(puldeho_air_length(grid), MOST_LIST);
     size_t tracers_length = any_length(puldeho_tracers_length(grid), 3 * MOST_LIST);
     struct puldeho_world world = puldeho_world_over(grid, air, air_length, tracers, tracers_length);
     static struct request r;
+    if (one_in(2)) {
+        world.ledger = ledger;
+        world.ledger_length = any_length(puldeho_ledger_length(grid), MOST_LEDGER);
+    }
     fill_air(&world, &scale);
     fill_tracers(&world);
+    fill_ledger(&world, world.ledger != NULL ? world.ledger : world.own_ledger);
     any_request(&world, scale, &r);
     struct puldeho_world lent = copy_of(&world);
     check_call(&lent, &r, one_in(2) ? from_to(0, 60) : from_to(0, PULDEHO_WHY_SIZE));
@@ -516,8 +731,8 @@ static void seeded_call(void)
 
 struct fixed {
     struct puldeho_grid grid;
-    uint32_t air[16], tracers[16];
-    size_t air_length, tracers_length;
+    uint32_t air[16], tracers[16], ledger[2 * PULDEHO_LEDGER_BLOCK];
+    size_t air_length, tracers_length, ledger_length;
     struct request r;
     enum puldeho_refusal refusal;
     const char *text;
@@ -533,6 +748,15 @@ struct fixed {
 #define SWEEP_ROW(...) .r = {.name = ZONAL, .length = 4, .fluxes = LISTED(__VA_ARGS__)}
 #define LONG_ROW(...) .r = {.name = LONG_ZONAL, .length = 4, .fluxes = LISTED(__VA_ARGS__)}
 #define SWEEP_LAYER(...) .r = {.name = MERIDIONAL, .length = 8, .fluxes = LISTED(__VA_ARGS__)}
+#define TWO_GASES .grid = {4, 1, 1, 2}, AIR_100
+#define OTHER PULDEHO_LEDGER_BLOCK /* where tracer 1's block starts */
+#define ADD(TRACER, CELL, ID, UNITS) .r = {.name = ADD_EMITTER, .tracer = TRACER, .cell = CELL, .id = ID, .units = UNITS}
+#define REMOVE(TRACER, ID) .r = {.name = REMOVE_EMITTER, .tracer = TRACER, .id = ID}
+#define TICK_OF(TRACER) .r = {.name = TICK, .tracer = TRACER}
+/* Emitters of ids 1 to 16 in cell 2, of 10 units each. */
+#define SIXTEEN .ledger = {16, 160, 0, 1, 2, 10, 2, 2, 10, 3, 2, 10, 4, 2, 10, 5, 2, 10, 6, 2, 10, 7, 2, 10, 8, 2, 10, \
+    9, 2, 10, 10, 2, 10, 11, 2, 10, 12, 2, 10, 13, 2, 10, 14, 2, 10, 15, 2, 10, 16, 2, 10}
+#define ANEW "; load again, which leaves no emitter standing, and add the emitters anew"
 #define REMAP_TWO(...) .r = {.name = REMAP, .length = 6, .table = LISTED(__VA_ARGS__)}
 
 static const struct fixed fixed[] = {
@@ -579,6 +803,73 @@ static const struct fixed fixed[] = {
              "268435455, so at most 268435055 can be emitted"},
     {CASE_P, .r = {.name = WITHDRAWAL, .cell = 3, .amount = 201}, .refusal = PULDEHO_REFUSAL_WITHDRAWAL,
      .text = "cell 3 (layer 0, row 0, column 2) has 200 of tracer 0, the amount is 201"},
+    {CASE_P, .ledger_length = 50, .r = {.name = LOAD}, .refusal = PULDEHO_REFUSAL_LENGTHS,
+     .text = "ledger has length 50, the grid wants 51 (N*51; here W = 4, R = 1, K = 1, N = 1)"},
+    {CASE_P, .ledger_length = 52, .r = {.name = EMISSION}, .refusal = PULDEHO_REFUSAL_LENGTHS,
+     .text = "ledger has length 52, the grid wants 51 (N*51; here W = 4, R = 1, K = 1, N = 1)"},
+    {CASE_P, .ledger = {17}, .r = {.name = LOAD}, .refusal = PULDEHO_ACCEPTED, .text = "the call would be accepted"},
+    {CASE_P, .ledger = {17}, .r = {.name = EMISSION, .amount = 1}, .refusal = PULDEHO_ACCEPTED,
+     .text = "the call would be accepted"},
+    {TWO_GASES, .ledger = {[OTHER] = 17}, ADD(0, 3, 7, 50), .refusal = PULDEHO_REFUSAL_INDEX,
+     .text = "tracer 1 has 17 emitters (number 51 of the ledger), at most 16 may stand" ANEW},
+    {TWO_GASES, .ledger = {1, 5, 0, 8, 0, 5, [OTHER] = 2, 80, 0, 7, 3, 50, 9, 6, 30}, REMOVE(0, 8), .refusal = PULDEHO_REFUSAL_INDEX,
+     .text = "emitter 1 of tracer 1, id 9, is in the absent cell 6 (number 58 of the ledger), cells are 0 to 5" ANEW},
+    {CASE_P, .ledger = {3, 90, 0, 7, 3, 50, 9, 4, 30, 7, 5, 10}, TICK_OF(0), .refusal = PULDEHO_REFUSAL_INDEX,
+     .text = "emitters 0 and 2 of tracer 0 both have the id 7 (numbers 3 and 9 of the ledger)" ANEW},
+    {CASE_P, .ledger = {2, 80, 1, 7, 3, 50, 9, 4, 30}, .r = {.name = UNITS_A_TICK}, .refusal = PULDEHO_REFUSAL_INDEX,
+     .text = "tracer 0 has the sum 4294967376 (numbers 1 and 2 of the ledger), and the units of its 2 emitters sum to 80" ANEW},
+    {CASE_P, .ledger = {1, 41, 0, 7, 3, 40}, TICK_OF(0), .refusal = PULDEHO_REFUSAL_INDEX,
+     .text = "tracer 0 has the sum 41 (numbers 1 and 2 of the ledger), and the units of its 1 emitter sum to 40" ANEW},
+    {CASE_P, .ledger = {2, 4294967294u, 1, 7, 3, 4294967295u, 9, 3, 4294967295u, 9, 9, 9}, .r = {.name = UNITS_A_TICK},
+     .refusal = PULDEHO_ACCEPTED, .text = "the call would be accepted"},
+    {CASE_P, .ledger = {17}, ADD(1, 6, 7, 50), .refusal = PULDEHO_REFUSAL_INDEX,
+     .text = "there is no tracer 1, it may only be 0"},
+    {CASE_P, .ledger = {1, 50, 0, 7, 3, 50}, ADD(0, PULDEHO_NO_CELL, 7, 50), .refusal = PULDEHO_REFUSAL_INDEX,
+     .text = "there is no cell 4294967295 (-1, if the number was signed), it may be 0 to 5 over all layers; this "
+             "number stands for an absent layer, row or column (PULDEHO_NO_CELL)"},
+    {CASE_P, ADD(0, 101, 3, 50), .refusal = PULDEHO_REFUSAL_INDEX,
+     .text = "there is no cell 101, it may be 0 to 5 over all layers; the order is tracer, cell, id, units, and 3 was given "
+             "as the id"},
+    {CASE_P, ADD(0, 6, 101, 50), .refusal = PULDEHO_REFUSAL_INDEX,
+     .text = "there is no cell 6, it may be 0 to 5 over all layers"},
+    {TWO_GASES, .ledger = {1, 50, 0, 7, 3, 50}, ADD(1, 3, 7, 4294967295u), .refusal = PULDEHO_ACCEPTED,
+     .text = "the call would be accepted"},
+    {CASE_P, .ledger = {2, 80, 0, 9, 4, 30, 7, 3, 50}, ADD(0, 1, 7, 0), .refusal = PULDEHO_REFUSAL_EMITTER_ADDED,
+     .text = "tracer 0 already has the id 7: emitter 1, in cell 3 (layer 0, row 0, column 2), of 50 units a tick; to change "
+             "it, remove it and add it again"},
+    {CASE_P, .ledger = {1, 1, 0, 7, 3, 1}, ADD(0, 1, 7, 0), .refusal = PULDEHO_REFUSAL_EMITTER_ADDED,
+     .text = "tracer 0 already has the id 7: emitter 0, in cell 3 (layer 0, row 0, column 2), of 1 unit a tick; to change "
+             "it, remove it and add it again"},
+    {CASE_P, SIXTEEN, ADD(0, 1, 17, 268435455), .refusal = PULDEHO_REFUSAL_EMITTER_ADDED,
+     .text = "tracer 0 has 16 emitters, no more may stand; remove one that has closed, or give the units of the new one by "
+             "emission"},
+    {CASE_P, SIXTEEN, ADD(0, 1, 17, 268435456), .refusal = PULDEHO_REFUSAL_EMITTER_ADDED,
+     .text = "tracer 0 has 16 emitters, no more may stand; remove one that has closed"},
+    {CASE_P, SIXTEEN, ADD(0, 2, 17, 5), .refusal = PULDEHO_REFUSAL_EMITTER_ADDED,
+     .text = "tracer 0 has 16 emitters, no more may stand; remove one that has closed, or remove id 1, which is in cell 2 "
+             "too, and add it again with the sum of the units, 15"},
+    {CASE_P, SIXTEEN, ADD(0, 2, 17, 4294967295u), .refusal = PULDEHO_REFUSAL_EMITTER_ADDED,
+     .text = "tracer 0 has 16 emitters, no more may stand; remove one that has closed"},
+    {CASE_P, REMOVE(0, 7), .refusal = PULDEHO_REFUSAL_EMITTER_ABSENT,
+     .text = "tracer 0 has no emitter of the id 7; it has no emitters, as after a load"},
+    {TWO_GASES, .ledger = {2, 80, 0, 9, 4, 30, 8, 3, 50, [OTHER] = 1, 0, 0, 4294967295u, 5, 0}, REMOVE(0, 4294967295u),
+     .refusal = PULDEHO_REFUSAL_EMITTER_ABSENT,
+     .text = "tracer 0 has no emitter of the id 4294967295 (-1, if the number was signed); it has the ids 9, 8; tracer 1 has "
+             "that id"},
+    {CASE_P, .ledger = {2, 268435056, 0, 9, 4, 56, 8, 3, 268435000}, TICK_OF(0), .refusal = PULDEHO_REFUSAL_EMISSION,
+     .text = "tracer 0 has the total 400 and a tick gives 268435056, the units of 2 emitters; the limit is 268435455, so at "
+             "most 268435055 can be emitted, and nothing was; the largest is id 8, of 268435000 units a tick"},
+    {CASE_P, .ledger = {1, 4294967295u, 0, 9, 4, 4294967295u}, TICK_OF(0), .refusal = PULDEHO_REFUSAL_EMISSION,
+     .text = "tracer 0 has the total 400 and a tick gives 4294967295, the units of 1 emitter; the limit is 268435455, so at "
+             "most 268435055 can be emitted, and nothing was; the largest is id 9, of 4294967295 (-1, if the number was "
+             "signed) units a tick"},
+    {SMALL, AIR_100, .tracers = {268435455}, .ledger = {1, 1, 0, 9, 4, 1}, TICK_OF(0), .refusal = PULDEHO_REFUSAL_EMISSION,
+     .text = "tracer 0 has the total 268435455 and a tick gives 1, the units of 1 emitter; the limit is 268435455, so at "
+             "most 0 can be emitted, and nothing was; the largest is id 9, of 1 unit a tick"},
+    {CASE_P, .ledger = {2, 268435055, 0, 9, 4, 55, 8, 3, 268435000}, TICK_OF(0), .refusal = PULDEHO_ACCEPTED,
+     .text = "the call would be accepted"},
+    {SMALL, AIR_100, .tracers = {268435455}, .ledger = {1, 0, 0, 9}, TICK_OF(0), .refusal = PULDEHO_ACCEPTED,
+     .text = "the call would be accepted"},
     {CASE_P, SWEEP_ROW(0, 0, 1048561, -2147483647 - 1), .refusal = PULDEHO_REFUSAL_FLUXES,
      .text = "flux 2 (between columns 2 and 3) is 1048561, its size must be at most 1048560; fluxes above: 2 of 4"},
     {CASE_P, SWEEP_ROW(0, 0, 0, -2147483647 - 1), .refusal = PULDEHO_REFUSAL_FLUXES,
@@ -736,6 +1027,12 @@ static const struct fixed fixed[] = {
              "have air -20, it must be 1 to 65535; columns refused: 1 of 6; from pair 1 to pair 2 a changes by -100 "
              "and b by 65536: no change of b serves every column with this change of a, which is an amount of air and "
              "the same in every column"},
+    {TWO_LAYERS, .air = {65000, 65000, 65000, 65000, 65000, 65000, 65000, 65000, 65000, 65000, 65000, 65000},
+     REMAP_TWO(0, 0, 65536, 16384, 0, 65536), .refusal = PULDEHO_REFUSAL_REMAP,
+     .text = "in the column of the south cap (air sum P = 130000) edge 0 is 0 and edge 1 is 98036, so new layer 0 would have "
+             "air 98036, it must be 1 to 65535; columns refused: 6 of 6; from pair 0 to pair 1 a changes by 65536 and b by "
+             "16384: no change of b serves every column with this change of a, which is an amount of air and the same in "
+             "every column"},
 };
 
 static void check_fixed(const struct fixed *f)
@@ -747,6 +1044,8 @@ static void check_fixed(const struct fixed *f)
     struct puldeho_world world = puldeho_world_over(
         f->grid, own.air, f->air_length == 0 ? air : f->air_length,
         own.tracers, f->tracers_length == 0 ? tracers : f->tracers_length);
+    world.ledger = own.ledger;
+    world.ledger_length = f->ledger_length != 0 ? f->ledger_length : in_range ? puldeho_ledger_length(f->grid) : 0;
     struct puldeho_world lent = copy_of(&world);
     if (why(&lent, &f->r, text, sizeof text) != f->refusal || strcmp(text, f->text) != 0)
         differs("another text than in the table", text);
@@ -794,6 +1093,8 @@ static bool all_reached(void)
 {
     bool all = changes > 0 && ends[0] && cuts[0] && uncut[0] && ends[1] && cuts[1] && uncut[1];
     all = all && long_ends && turns[0] && turns[1] && long_instead[0] && long_instead[1];
+    all = all && faults[0] && faults[1] && faults[2] && faults[3] && full[0] && full[1] && twice;
+    all = all && absent[0] && absent[1] && ticks;
     for (size_t i = 0; i <= MOST_REFUSAL; i++)
         all = all && (reached[i] > 0 || is_program(i));
     return all;
@@ -810,8 +1111,10 @@ int main(void)
     if (!all_reached())
         differs("some refusal or kind of text was not reached", "");
     printf("why: %zu texts and %d seeded calls, %lu refused; sweeps of which a cell ends outside %lu, that serve as "
-           "parts %lu, that do not %lu; long sweeps of which a cell ends outside %lu, of more than a turn %lu; "
-           "%d differences\n", texts, CALLS, CALLS + texts - reached[0], ends[0] + ends[1], cuts[0] + cuts[1],
-           uncut[0] + uncut[1], long_ends, turns[0] + turns[1], differences);
+           "parts %lu, that do not %lu; long sweeps of which a cell ends outside %lu, of more than a turn %lu; ledgers with a "
+           "fault %lu, emitters added twice or above 16 %lu, absent %lu, ticks above the limit %lu; %d differences\n", texts,
+           CALLS, CALLS + texts - reached[0], ends[0] + ends[1], cuts[0] + cuts[1], uncut[0] + uncut[1], long_ends,
+           turns[0] + turns[1], faults[0] + faults[1] + faults[2] + faults[3], full[0] + full[1] + twice,
+           absent[0] + absent[1], ticks, differences);
     return differences == 0 ? 0 : 1;
 }

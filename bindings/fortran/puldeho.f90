@@ -1,4 +1,4 @@
-! Puldeho, the transport core of the tracer console, for Fortran 2003 and later: version 0.2.0.
+! Puldeho, the transport core of the tracer console, for Fortran 2003 and later: version 0.3.0.
 ! Made by tools/bindings from the tables of bindings/: not to be edited.
 !
 ! To compile and link: gfortran $(pkg-config --variable=fortran puldeho) program.f90 $(pkg-config --libs puldeho)
@@ -13,14 +13,16 @@
 ! Layers, rows, columns, tracers and cells are counted from 0, and world%air(0) is the first cell's air.
 ! Each call sets refusal: 0 (puldeho_accepted) or the number of the first refusal that applies. A refused call
 ! changes nothing. Numbers are 32-bit without a sign in the library, so a negative one is far above every limit
-! and is refused. After a refused call NAME, call world%why_NAME(.., text) with the same arguments says which cell
-! or column was in the way, and what would help. docs/GUIDE.md explains grid, units, fluxes and refusals.
+! and is refused. (Only an emitter has two numbers without a limit: any id is taken, and one of negative units
+! stands, with 2**31 or more, and refuses every tick with 6.) After a refused call NAME, call
+! world%why_NAME(.., text) with the same arguments says which cell or column was in the way, and what would help.
+! docs/GUIDE.md explains grid, units, fluxes and refusals.
 module puldeho
   use, intrinsic :: iso_c_binding, only: c_char, c_int, c_int32_t, c_int64_t, c_loc, c_null_char, c_null_ptr, c_ptr, c_size_t
   implicit none
   private
 
-  character(len=*), parameter, public :: puldeho_version = "0.2.0"
+  character(len=*), parameter, public :: puldeho_version = "0.3.0"
 
   ! the most air of a cell; the least is 1
   integer(c_int32_t), parameter, public :: puldeho_air_limit = 65535
@@ -44,6 +46,11 @@ module puldeho
   integer(c_int32_t), parameter, public :: puldeho_most_layers = 32
   ! the largest N
   integer(c_int32_t), parameter, public :: puldeho_most_tracers = 8
+  ! the most emitters of a tracer that stand at once
+  integer(c_int32_t), parameter, public :: puldeho_most_emitters = 16
+  ! how many numbers of the ledger each tracer has; tracer t's block starts at t times this number. Later
+  ! versions have more
+  integer(c_int32_t), parameter, public :: puldeho_ledger_block = 51
 
   integer(c_int32_t), parameter, public :: puldeho_accepted = 0
   ! W, R, K or N is outside its range
@@ -54,7 +61,8 @@ module puldeho
   integer(c_int32_t), parameter, public :: puldeho_refusal_air_range = 3
   ! a tracer's total is above 268,435,455
   integer(c_int32_t), parameter, public :: puldeho_refusal_totals = 4
-  ! the tracer, cell, layer or row is absent
+  ! the tracer, cell, layer or row is absent; in add_emitter, remove_emitter, tick and units_a_tick also: in
+  ! the ledger some tracer has more than 16 emitters, an emitter in an absent cell, an id twice or a false sum
   integer(c_int32_t), parameter, public :: puldeho_refusal_index = 5
   ! the total would pass 268,435,455
   integer(c_int32_t), parameter, public :: puldeho_refusal_emission = 6
@@ -74,6 +82,10 @@ module puldeho
   integer(c_int32_t), parameter, public :: puldeho_refusal_long_flux = 16
   ! air afterwards leaves 1 to 65,535
   integer(c_int32_t), parameter, public :: puldeho_refusal_long_air = 17
+  ! the tracer has 16 emitters or already has that id
+  integer(c_int32_t), parameter, public :: puldeho_refusal_emitter_added = 18
+  ! the tracer has no emitter of that id
+  integer(c_int32_t), parameter, public :: puldeho_refusal_emitter_absent = 19
 
   ! What cell numbers are for a place that the grid has not; every call refuses it, with 5.
   integer(c_int32_t), parameter, public :: puldeho_no_cell = -1
@@ -82,6 +94,7 @@ module puldeho
   public :: puldeho_refusal_text, puldeho_refusal_remedy, puldeho_why_load
   public :: puldeho_air_length
   public :: puldeho_tracers_length
+  public :: puldeho_ledger_length
   public :: puldeho_zonal_fluxes_length
   public :: puldeho_long_zonal_fluxes_length
   public :: puldeho_meridional_fluxes_length
@@ -93,8 +106,10 @@ module puldeho
     integer(c_int32_t) :: w = 0, r = 0, k = 0, n = 0
   end type puldeho_grid
 
-  ! The world. It owns its lists; an accepted load makes it, and before that every call is refused, with 1. Later versions have
-  ! further components. So there is no structure constructor (the private component sees to that), and do not extend the type.
+  ! The world. It owns its lists; an accepted load makes it, and before that every call is refused, with 1. The
+  ! ledger is written by calls alone; tracer t's block starts at t*puldeho_ledger_block. Later versions have longer
+  ! blocks, and further components. So there is no structure constructor (the private component sees to that), and
+  ! do not extend the type.
   type, public :: puldeho_world
     integer(c_int32_t), private :: made_by_load_only
     type(puldeho_grid) :: grid
@@ -102,6 +117,9 @@ module puldeho
     integer(c_int32_t), allocatable :: air(:)
     ! the amounts of every tracer; tracer t starts at t*K*C: N*K*C numbers, the first has the index 0
     integer(c_int32_t), allocatable :: tracers(:)
+    ! the emitters, a block for each tracer: at its place 0 how many stand, at 1 and 2 the sum of their units,
+    ! low and high 32 bits, from 3 on id, cell and units of each: N*51 numbers, the first has the index 0
+    integer(c_int32_t), allocatable :: ledger(:)
   contains
     procedure :: load => world_load
     procedure :: emission => world_emission
@@ -112,6 +130,10 @@ module puldeho
     procedure :: remap => world_remap
     procedure :: total => world_total
     procedure :: cell => world_cell
+    procedure :: add_emitter => world_add_emitter
+    procedure :: remove_emitter => world_remove_emitter
+    procedure :: tick => world_tick
+    procedure :: units_a_tick => world_units_a_tick
     procedure :: why_emission => world_why_emission
     procedure :: why_withdrawal => world_why_withdrawal
     procedure :: why_zonal => world_why_zonal
@@ -120,6 +142,10 @@ module puldeho
     procedure :: why_remap => world_why_remap
     procedure :: why_total => world_why_total
     procedure :: why_cell => world_why_cell
+    procedure :: why_add_emitter => world_why_add_emitter
+    procedure :: why_remove_emitter => world_why_remove_emitter
+    procedure :: why_tick => world_why_tick
+    procedure :: why_units_a_tick => world_why_units_a_tick
   end type puldeho_world
 
   ! struct puldeho_world of the C header.
@@ -129,6 +155,9 @@ module puldeho
     integer(c_size_t) :: air_length = 0
     type(c_ptr) :: tracers = c_null_ptr
     integer(c_size_t) :: tracers_length = 0
+    type(c_ptr) :: ledger = c_null_ptr
+    integer(c_size_t) :: ledger_length = 0
+    integer(c_int32_t) :: own_ledger(408) = 0
   end type c_world
 
   ! PULDEHO_WHY_SIZE of the C header.
@@ -136,14 +165,14 @@ module puldeho
 
   ! Does nothing. A library of another version, whose functions may take other arguments, has no such name.
   interface
-    subroutine puldeho_abi_0_2() bind(c)
-    end subroutine puldeho_abi_0_2
+    subroutine puldeho_abi_0_3() bind(c)
+    end subroutine puldeho_abi_0_3
   end interface
 
   ! The proved functions. Each returns refusal * 2**32 + count.
   interface
     function puldeho_raw_load( &
-        w, r, k, n, air, air_length, tracers, tracers_length) &
+        w, r, k, n, air, air_length, tracers, tracers_length, ledger, ledger_length) &
         bind(c) result(returned)
       import :: c_int32_t, c_int64_t, c_size_t
       integer(c_int32_t), value :: w, r, k, n
@@ -151,11 +180,13 @@ module puldeho
       integer(c_size_t), value :: air_length
       integer(c_int32_t), intent(in) :: tracers(*)
       integer(c_size_t), value :: tracers_length
+      integer(c_int32_t), intent(inout) :: ledger(*)
+      integer(c_size_t), value :: ledger_length
       integer(c_int64_t) :: returned
     end function puldeho_raw_load
 
     function puldeho_raw_emission( &
-        w, r, k, n, air, air_length, tracers, tracers_length, tracer, cell, amount) &
+        w, r, k, n, air, air_length, tracers, tracers_length, ledger, ledger_length, tracer, cell, amount) &
         bind(c) result(returned)
       import :: c_int32_t, c_int64_t, c_size_t
       integer(c_int32_t), value :: w, r, k, n
@@ -163,6 +194,8 @@ module puldeho
       integer(c_size_t), value :: air_length
       integer(c_int32_t), intent(inout) :: tracers(*)
       integer(c_size_t), value :: tracers_length
+      integer(c_int32_t), intent(in) :: ledger(*)
+      integer(c_size_t), value :: ledger_length
       integer(c_int32_t), value :: tracer
       integer(c_int32_t), value :: cell
       integer(c_int32_t), value :: amount
@@ -170,7 +203,7 @@ module puldeho
     end function puldeho_raw_emission
 
     function puldeho_raw_withdrawal( &
-        w, r, k, n, air, air_length, tracers, tracers_length, tracer, cell, amount) &
+        w, r, k, n, air, air_length, tracers, tracers_length, ledger, ledger_length, tracer, cell, amount) &
         bind(c) result(returned)
       import :: c_int32_t, c_int64_t, c_size_t
       integer(c_int32_t), value :: w, r, k, n
@@ -178,6 +211,8 @@ module puldeho
       integer(c_size_t), value :: air_length
       integer(c_int32_t), intent(inout) :: tracers(*)
       integer(c_size_t), value :: tracers_length
+      integer(c_int32_t), intent(in) :: ledger(*)
+      integer(c_size_t), value :: ledger_length
       integer(c_int32_t), value :: tracer
       integer(c_int32_t), value :: cell
       integer(c_int32_t), value :: amount
@@ -185,7 +220,8 @@ module puldeho
     end function puldeho_raw_withdrawal
 
     function puldeho_raw_zonal( &
-        w, r, k, n, air, air_length, tracers, tracers_length, layer, row, fluxes, fluxes_length) &
+        w, r, k, n, air, air_length, tracers, tracers_length, ledger, ledger_length, layer, row, fluxes, &
+        fluxes_length) &
         bind(c) result(returned)
       import :: c_int32_t, c_int64_t, c_size_t
       integer(c_int32_t), value :: w, r, k, n
@@ -193,6 +229,8 @@ module puldeho
       integer(c_size_t), value :: air_length
       integer(c_int32_t), intent(inout) :: tracers(*)
       integer(c_size_t), value :: tracers_length
+      integer(c_int32_t), intent(in) :: ledger(*)
+      integer(c_size_t), value :: ledger_length
       integer(c_int32_t), value :: layer
       integer(c_int32_t), value :: row
       integer(c_int32_t), intent(in) :: fluxes(*)
@@ -201,7 +239,8 @@ module puldeho
     end function puldeho_raw_zonal
 
     function puldeho_raw_long_zonal( &
-        w, r, k, n, air, air_length, tracers, tracers_length, layer, row, fluxes, fluxes_length) &
+        w, r, k, n, air, air_length, tracers, tracers_length, ledger, ledger_length, layer, row, fluxes, &
+        fluxes_length) &
         bind(c) result(returned)
       import :: c_int32_t, c_int64_t, c_size_t
       integer(c_int32_t), value :: w, r, k, n
@@ -209,6 +248,8 @@ module puldeho
       integer(c_size_t), value :: air_length
       integer(c_int32_t), intent(inout) :: tracers(*)
       integer(c_size_t), value :: tracers_length
+      integer(c_int32_t), intent(in) :: ledger(*)
+      integer(c_size_t), value :: ledger_length
       integer(c_int32_t), value :: layer
       integer(c_int32_t), value :: row
       integer(c_int32_t), intent(in) :: fluxes(*)
@@ -217,7 +258,8 @@ module puldeho
     end function puldeho_raw_long_zonal
 
     function puldeho_raw_meridional( &
-        w, r, k, n, air, air_length, tracers, tracers_length, layer, fluxes, fluxes_length) &
+        w, r, k, n, air, air_length, tracers, tracers_length, ledger, ledger_length, layer, fluxes, &
+        fluxes_length) &
         bind(c) result(returned)
       import :: c_int32_t, c_int64_t, c_size_t
       integer(c_int32_t), value :: w, r, k, n
@@ -225,6 +267,8 @@ module puldeho
       integer(c_size_t), value :: air_length
       integer(c_int32_t), intent(inout) :: tracers(*)
       integer(c_size_t), value :: tracers_length
+      integer(c_int32_t), intent(in) :: ledger(*)
+      integer(c_size_t), value :: ledger_length
       integer(c_int32_t), value :: layer
       integer(c_int32_t), intent(in) :: fluxes(*)
       integer(c_size_t), value :: fluxes_length
@@ -232,7 +276,7 @@ module puldeho
     end function puldeho_raw_meridional
 
     function puldeho_raw_remap( &
-        w, r, k, n, air, air_length, tracers, tracers_length, table, table_length) &
+        w, r, k, n, air, air_length, tracers, tracers_length, ledger, ledger_length, table, table_length) &
         bind(c) result(returned)
       import :: c_int32_t, c_int64_t, c_size_t
       integer(c_int32_t), value :: w, r, k, n
@@ -240,13 +284,15 @@ module puldeho
       integer(c_size_t), value :: air_length
       integer(c_int32_t), intent(inout) :: tracers(*)
       integer(c_size_t), value :: tracers_length
+      integer(c_int32_t), intent(in) :: ledger(*)
+      integer(c_size_t), value :: ledger_length
       integer(c_int32_t), intent(in) :: table(*)
       integer(c_size_t), value :: table_length
       integer(c_int64_t) :: returned
     end function puldeho_raw_remap
 
     function puldeho_raw_total( &
-        w, r, k, n, air, air_length, tracers, tracers_length, tracer) &
+        w, r, k, n, air, air_length, tracers, tracers_length, ledger, ledger_length, tracer) &
         bind(c) result(returned)
       import :: c_int32_t, c_int64_t, c_size_t
       integer(c_int32_t), value :: w, r, k, n
@@ -254,12 +300,14 @@ module puldeho
       integer(c_size_t), value :: air_length
       integer(c_int32_t), intent(in) :: tracers(*)
       integer(c_size_t), value :: tracers_length
+      integer(c_int32_t), intent(in) :: ledger(*)
+      integer(c_size_t), value :: ledger_length
       integer(c_int32_t), value :: tracer
       integer(c_int64_t) :: returned
     end function puldeho_raw_total
 
     function puldeho_raw_cell( &
-        w, r, k, n, air, air_length, tracers, tracers_length, tracer, cell) &
+        w, r, k, n, air, air_length, tracers, tracers_length, ledger, ledger_length, tracer, cell) &
         bind(c) result(returned)
       import :: c_int32_t, c_int64_t, c_size_t
       integer(c_int32_t), value :: w, r, k, n
@@ -267,10 +315,91 @@ module puldeho
       integer(c_size_t), value :: air_length
       integer(c_int32_t), intent(in) :: tracers(*)
       integer(c_size_t), value :: tracers_length
+      integer(c_int32_t), intent(in) :: ledger(*)
+      integer(c_size_t), value :: ledger_length
       integer(c_int32_t), value :: tracer
       integer(c_int32_t), value :: cell
       integer(c_int64_t) :: returned
     end function puldeho_raw_cell
+
+    function puldeho_raw_add_emitter( &
+        w, r, k, n, air, air_length, tracers, tracers_length, ledger, ledger_length, tracer, cell, id, units) &
+        bind(c) result(returned)
+      import :: c_int32_t, c_int64_t, c_size_t
+      integer(c_int32_t), value :: w, r, k, n
+      integer(c_int32_t), intent(in) :: air(*)
+      integer(c_size_t), value :: air_length
+      integer(c_int32_t), intent(in) :: tracers(*)
+      integer(c_size_t), value :: tracers_length
+      integer(c_int32_t), intent(inout) :: ledger(*)
+      integer(c_size_t), value :: ledger_length
+      integer(c_int32_t), value :: tracer
+      integer(c_int32_t), value :: cell
+      integer(c_int32_t), value :: id
+      integer(c_int32_t), value :: units
+      integer(c_int64_t) :: returned
+    end function puldeho_raw_add_emitter
+
+    function puldeho_raw_remove_emitter( &
+        w, r, k, n, air, air_length, tracers, tracers_length, ledger, ledger_length, tracer, id) &
+        bind(c) result(returned)
+      import :: c_int32_t, c_int64_t, c_size_t
+      integer(c_int32_t), value :: w, r, k, n
+      integer(c_int32_t), intent(in) :: air(*)
+      integer(c_size_t), value :: air_length
+      integer(c_int32_t), intent(in) :: tracers(*)
+      integer(c_size_t), value :: tracers_length
+      integer(c_int32_t), intent(inout) :: ledger(*)
+      integer(c_size_t), value :: ledger_length
+      integer(c_int32_t), value :: tracer
+      integer(c_int32_t), value :: id
+      integer(c_int64_t) :: returned
+    end function puldeho_raw_remove_emitter
+
+    function puldeho_raw_tick( &
+        w, r, k, n, air, air_length, tracers, tracers_length, ledger, ledger_length, tracer) &
+        bind(c) result(returned)
+      import :: c_int32_t, c_int64_t, c_size_t
+      integer(c_int32_t), value :: w, r, k, n
+      integer(c_int32_t), intent(in) :: air(*)
+      integer(c_size_t), value :: air_length
+      integer(c_int32_t), intent(inout) :: tracers(*)
+      integer(c_size_t), value :: tracers_length
+      integer(c_int32_t), intent(in) :: ledger(*)
+      integer(c_size_t), value :: ledger_length
+      integer(c_int32_t), value :: tracer
+      integer(c_int64_t) :: returned
+    end function puldeho_raw_tick
+
+    function puldeho_raw_units_a_tick( &
+        w, r, k, n, air, air_length, tracers, tracers_length, ledger, ledger_length, tracer) &
+        bind(c) result(returned)
+      import :: c_int32_t, c_int64_t, c_size_t
+      integer(c_int32_t), value :: w, r, k, n
+      integer(c_int32_t), intent(in) :: air(*)
+      integer(c_size_t), value :: air_length
+      integer(c_int32_t), intent(in) :: tracers(*)
+      integer(c_size_t), value :: tracers_length
+      integer(c_int32_t), intent(in) :: ledger(*)
+      integer(c_size_t), value :: ledger_length
+      integer(c_int32_t), value :: tracer
+      integer(c_int32_t) :: returned
+    end function puldeho_raw_units_a_tick
+
+    function puldeho_raw_units_a_tick_number( &
+        w, r, k, n, air, air_length, tracers, tracers_length, ledger, ledger_length, tracer) &
+        bind(c) result(returned)
+      import :: c_int32_t, c_int64_t, c_size_t
+      integer(c_int32_t), value :: w, r, k, n
+      integer(c_int32_t), intent(in) :: air(*)
+      integer(c_size_t), value :: air_length
+      integer(c_int32_t), intent(in) :: tracers(*)
+      integer(c_size_t), value :: tracers_length
+      integer(c_int32_t), intent(in) :: ledger(*)
+      integer(c_size_t), value :: ledger_length
+      integer(c_int32_t), value :: tracer
+      integer(c_int64_t) :: returned
+    end function puldeho_raw_units_a_tick_number
   end interface
 
   ! The functions that say why a call is refused, which are plain C and only read.
@@ -386,6 +515,54 @@ module puldeho
       integer(c_size_t), value :: words_size
       integer(c_int) :: refusal
     end function c_why_cell
+
+    function c_why_add_emitter( &
+        world, tracer, cell, id, units, words, words_size) &
+        bind(c, name="puldeho_why_add_emitter") result(refusal)
+      import :: c_char, c_int, c_int32_t, c_size_t, c_world
+      type(c_world), intent(in) :: world
+      integer(c_int32_t), value :: tracer
+      integer(c_int32_t), value :: cell
+      integer(c_int32_t), value :: id
+      integer(c_int32_t), value :: units
+      character(kind=c_char), intent(out) :: words(*)
+      integer(c_size_t), value :: words_size
+      integer(c_int) :: refusal
+    end function c_why_add_emitter
+
+    function c_why_remove_emitter( &
+        world, tracer, id, words, words_size) &
+        bind(c, name="puldeho_why_remove_emitter") result(refusal)
+      import :: c_char, c_int, c_int32_t, c_size_t, c_world
+      type(c_world), intent(in) :: world
+      integer(c_int32_t), value :: tracer
+      integer(c_int32_t), value :: id
+      character(kind=c_char), intent(out) :: words(*)
+      integer(c_size_t), value :: words_size
+      integer(c_int) :: refusal
+    end function c_why_remove_emitter
+
+    function c_why_tick( &
+        world, tracer, words, words_size) &
+        bind(c, name="puldeho_why_tick") result(refusal)
+      import :: c_char, c_int, c_int32_t, c_size_t, c_world
+      type(c_world), intent(in) :: world
+      integer(c_int32_t), value :: tracer
+      character(kind=c_char), intent(out) :: words(*)
+      integer(c_size_t), value :: words_size
+      integer(c_int) :: refusal
+    end function c_why_tick
+
+    function c_why_units_a_tick( &
+        world, tracer, words, words_size) &
+        bind(c, name="puldeho_why_units_a_tick") result(refusal)
+      import :: c_char, c_int, c_int32_t, c_size_t, c_world
+      type(c_world), intent(in) :: world
+      integer(c_int32_t), value :: tracer
+      character(kind=c_char), intent(out) :: words(*)
+      integer(c_size_t), value :: words_size
+      integer(c_int) :: refusal
+    end function c_why_units_a_tick
   end interface
 
 contains
@@ -401,16 +578,18 @@ contains
     integer(c_int32_t), intent(out) :: refusal
     type(puldeho_world) :: loaded
 
-    call puldeho_abi_0_2()
+    call puldeho_abi_0_3()
     call copy_lists(loaded, grid, air, tracers)
     refusal = refusal_of(puldeho_raw_load( &
         loaded%grid%w, loaded%grid%r, loaded%grid%k, loaded%grid%n, loaded%air, size(loaded%air, &
-        kind=c_size_t), loaded%tracers, size(loaded%tracers, kind=c_size_t)))
+        kind=c_size_t), loaded%tracers, size(loaded%tracers, kind=c_size_t), loaded%ledger, &
+        size(loaded%ledger, kind=c_size_t)))
     if (refusal /= puldeho_accepted) return
     world%made_by_load_only = 1
     world%grid = loaded%grid
     call move_alloc(loaded%air, world%air)
     call move_alloc(loaded%tracers, world%tracers)
+    call move_alloc(loaded%ledger, world%ledger)
   end subroutine world_load
 
   ! An empty world gets the grid and copies of the lists, untested.
@@ -423,6 +602,7 @@ contains
     world%grid = grid
     allocate (world%air(0:size(air) - 1), source=air)
     allocate (world%tracers(0:size(tracers) - 1), source=tracers)
+    allocate (world%ledger(0:min(puldeho_ledger_length(grid), 408) - 1), source=0)
   end subroutine copy_lists
 
   ! Adds amount to one cell of one tracer. Cells are numbered over all layers. Refusals, in order: 1 2 3 4 5
@@ -439,7 +619,8 @@ contains
     if (.not. has_lists(world)) return
     returned = puldeho_raw_emission( &
         world%grid%w, world%grid%r, world%grid%k, world%grid%n, world%air, size(world%air, kind=c_size_t), &
-        world%tracers, size(world%tracers, kind=c_size_t), tracer, cell, amount)
+        world%tracers, size(world%tracers, kind=c_size_t), world%ledger, size(world%ledger, kind=c_size_t), &
+        tracer, cell, amount)
     refusal = refusal_of(returned)
   end subroutine world_emission
 
@@ -457,7 +638,8 @@ contains
     if (.not. has_lists(world)) return
     returned = puldeho_raw_withdrawal( &
         world%grid%w, world%grid%r, world%grid%k, world%grid%n, world%air, size(world%air, kind=c_size_t), &
-        world%tracers, size(world%tracers, kind=c_size_t), tracer, cell, amount)
+        world%tracers, size(world%tracers, kind=c_size_t), world%ledger, size(world%ledger, kind=c_size_t), &
+        tracer, cell, amount)
     refusal = refusal_of(returned)
   end subroutine world_withdrawal
 
@@ -477,7 +659,8 @@ contains
     if (.not. has_lists(world)) return
     returned = puldeho_raw_zonal( &
         world%grid%w, world%grid%r, world%grid%k, world%grid%n, world%air, size(world%air, kind=c_size_t), &
-        world%tracers, size(world%tracers, kind=c_size_t), layer, row, fluxes, size(fluxes, kind=c_size_t))
+        world%tracers, size(world%tracers, kind=c_size_t), world%ledger, size(world%ledger, kind=c_size_t), &
+        layer, row, fluxes, size(fluxes, kind=c_size_t))
     refusal = refusal_of(returned)
     if (present(substeps)) substeps = count_of(returned)
   end subroutine world_zonal
@@ -496,7 +679,8 @@ contains
     if (.not. has_lists(world)) return
     returned = puldeho_raw_long_zonal( &
         world%grid%w, world%grid%r, world%grid%k, world%grid%n, world%air, size(world%air, kind=c_size_t), &
-        world%tracers, size(world%tracers, kind=c_size_t), layer, row, fluxes, size(fluxes, kind=c_size_t))
+        world%tracers, size(world%tracers, kind=c_size_t), world%ledger, size(world%ledger, kind=c_size_t), &
+        layer, row, fluxes, size(fluxes, kind=c_size_t))
     refusal = refusal_of(returned)
   end subroutine world_long_zonal
 
@@ -515,7 +699,8 @@ contains
     if (.not. has_lists(world)) return
     returned = puldeho_raw_meridional( &
         world%grid%w, world%grid%r, world%grid%k, world%grid%n, world%air, size(world%air, kind=c_size_t), &
-        world%tracers, size(world%tracers, kind=c_size_t), layer, fluxes, size(fluxes, kind=c_size_t))
+        world%tracers, size(world%tracers, kind=c_size_t), world%ledger, size(world%ledger, kind=c_size_t), &
+        layer, fluxes, size(fluxes, kind=c_size_t))
     refusal = refusal_of(returned)
     if (present(substeps)) substeps = count_of(returned)
   end subroutine world_meridional
@@ -535,7 +720,8 @@ contains
     if (.not. has_lists(world)) return
     returned = puldeho_raw_remap( &
         world%grid%w, world%grid%r, world%grid%k, world%grid%n, world%air, size(world%air, kind=c_size_t), &
-        world%tracers, size(world%tracers, kind=c_size_t), table, size(table, kind=c_size_t))
+        world%tracers, size(world%tracers, kind=c_size_t), world%ledger, size(world%ledger, kind=c_size_t), &
+        table, size(table, kind=c_size_t))
     refusal = refusal_of(returned)
     if (present(overlaps)) overlaps = count_of(returned)
   end subroutine world_remap
@@ -554,7 +740,8 @@ contains
     if (.not. has_lists(world)) return
     returned = puldeho_raw_total( &
         world%grid%w, world%grid%r, world%grid%k, world%grid%n, world%air, size(world%air, kind=c_size_t), &
-        world%tracers, size(world%tracers, kind=c_size_t), tracer)
+        world%tracers, size(world%tracers, kind=c_size_t), world%ledger, size(world%ledger, kind=c_size_t), &
+        tracer)
     refusal = refusal_of(returned)
     if (present(units)) units = count_of(returned)
   end subroutine world_total
@@ -574,12 +761,89 @@ contains
     if (.not. has_lists(world)) return
     returned = puldeho_raw_cell( &
         world%grid%w, world%grid%r, world%grid%k, world%grid%n, world%air, size(world%air, kind=c_size_t), &
-        world%tracers, size(world%tracers, kind=c_size_t), tracer, cell)
+        world%tracers, size(world%tracers, kind=c_size_t), world%ledger, size(world%ledger, kind=c_size_t), &
+        tracer, cell)
     refusal = refusal_of(returned)
     if (present(units)) units = count_of(returned)
   end subroutine world_cell
 
-  ! Why a emission is refused in this world, in words; ask after the refusal, before the world changes.
+  ! Lets an emitter stand for one tracer: in each tick it gives so many units to the cell. Any number is an
+  ! id, and each tracer has its own. Cells are numbered over all layers. Refusals, in order: 1 2 3 4 5 18.
+  subroutine world_add_emitter(world, tracer, cell, id, units, refusal)
+    class(puldeho_world), intent(inout) :: world
+    integer(c_int32_t), intent(out) :: refusal
+    integer(c_int32_t), intent(in) :: tracer
+    integer(c_int32_t), intent(in) :: cell
+    integer(c_int32_t), intent(in) :: id
+    integer(c_int32_t), intent(in) :: units
+    integer(c_int64_t) :: returned
+
+    refusal = puldeho_refusal_grid_range
+    if (.not. has_lists(world)) return
+    returned = puldeho_raw_add_emitter( &
+        world%grid%w, world%grid%r, world%grid%k, world%grid%n, world%air, size(world%air, kind=c_size_t), &
+        world%tracers, size(world%tracers, kind=c_size_t), world%ledger, size(world%ledger, kind=c_size_t), &
+        tracer, cell, id, units)
+    refusal = refusal_of(returned)
+  end subroutine world_add_emitter
+
+  ! Removes the emitter that one tracer has under the id. The tracer's last emitter takes its place in the
+  ! ledger. Refusals, in order: 1 2 3 4 5 19.
+  subroutine world_remove_emitter(world, tracer, id, refusal)
+    class(puldeho_world), intent(inout) :: world
+    integer(c_int32_t), intent(out) :: refusal
+    integer(c_int32_t), intent(in) :: tracer
+    integer(c_int32_t), intent(in) :: id
+    integer(c_int64_t) :: returned
+
+    refusal = puldeho_refusal_grid_range
+    if (.not. has_lists(world)) return
+    returned = puldeho_raw_remove_emitter( &
+        world%grid%w, world%grid%r, world%grid%k, world%grid%n, world%air, size(world%air, kind=c_size_t), &
+        world%tracers, size(world%tracers, kind=c_size_t), world%ledger, size(world%ledger, kind=c_size_t), &
+        tracer, id)
+    refusal = refusal_of(returned)
+  end subroutine world_remove_emitter
+
+  ! Adds the units of every emitter of one tracer to its cell, or, if it is refused, of none. Refusals, in
+  ! order: 1 2 3 4 5 6.
+  subroutine world_tick(world, tracer, refusal)
+    class(puldeho_world), intent(inout) :: world
+    integer(c_int32_t), intent(out) :: refusal
+    integer(c_int32_t), intent(in) :: tracer
+    integer(c_int64_t) :: returned
+
+    refusal = puldeho_refusal_grid_range
+    if (.not. has_lists(world)) return
+    returned = puldeho_raw_tick( &
+        world%grid%w, world%grid%r, world%grid%k, world%grid%n, world%air, size(world%air, kind=c_size_t), &
+        world%tracers, size(world%tracers, kind=c_size_t), world%ledger, size(world%ledger, kind=c_size_t), &
+        tracer)
+    refusal = refusal_of(returned)
+  end subroutine world_tick
+
+  ! Reads how much a tick of one tracer emits. Refusals, in order: 1 2 3 4 5.
+  ! units: the units that the tracer's emitters give in a tick.
+  subroutine world_units_a_tick(world, tracer, refusal, units)
+    class(puldeho_world), intent(in) :: world
+    integer(c_int32_t), intent(out) :: refusal
+    integer(c_int32_t), intent(in) :: tracer
+    integer(c_int64_t), intent(out), optional :: units
+
+    refusal = puldeho_refusal_grid_range
+    if (present(units)) units = 0
+    if (.not. has_lists(world)) return
+    refusal = puldeho_raw_units_a_tick( &
+        world%grid%w, world%grid%r, world%grid%k, world%grid%n, world%air, size(world%air, kind=c_size_t), &
+        world%tracers, size(world%tracers, kind=c_size_t), world%ledger, size(world%ledger, kind=c_size_t), &
+        tracer)
+    if (present(units)) units = puldeho_raw_units_a_tick_number( &
+        world%grid%w, world%grid%r, world%grid%k, world%grid%n, world%air, size(world%air, kind=c_size_t), &
+        world%tracers, size(world%tracers, kind=c_size_t), world%ledger, size(world%ledger, kind=c_size_t), &
+        tracer)
+  end subroutine world_units_a_tick
+
+  ! Why the call emission is refused in this world, in words; ask after the refusal, before the world changes.
   subroutine world_why_emission(world, tracer, cell, amount, text)
     class(puldeho_world), intent(in), target :: world
     integer(c_int32_t), intent(in) :: tracer
@@ -594,7 +858,7 @@ contains
     text = text_of(words)
   end subroutine world_why_emission
 
-  ! Why a withdrawal is refused in this world, in words; ask after the refusal, before the world changes.
+  ! Why the call withdrawal is refused in this world, in words; ask after the refusal, before the world changes.
   subroutine world_why_withdrawal(world, tracer, cell, amount, text)
     class(puldeho_world), intent(in), target :: world
     integer(c_int32_t), intent(in) :: tracer
@@ -609,7 +873,7 @@ contains
     text = text_of(words)
   end subroutine world_why_withdrawal
 
-  ! Why a zonal is refused in this world, in words; ask after the refusal, before the world changes.
+  ! Why the call zonal is refused in this world, in words; ask after the refusal, before the world changes.
   subroutine world_why_zonal(world, layer, row, fluxes, text)
     class(puldeho_world), intent(in), target :: world
     integer(c_int32_t), intent(in) :: layer
@@ -624,7 +888,7 @@ contains
     text = text_of(words)
   end subroutine world_why_zonal
 
-  ! Why a long_zonal is refused in this world, in words; ask after the refusal, before the world changes.
+  ! Why the call long_zonal is refused in this world, in words; ask after the refusal, before the world changes.
   subroutine world_why_long_zonal(world, layer, row, fluxes, text)
     class(puldeho_world), intent(in), target :: world
     integer(c_int32_t), intent(in) :: layer
@@ -639,7 +903,7 @@ contains
     text = text_of(words)
   end subroutine world_why_long_zonal
 
-  ! Why a meridional is refused in this world, in words; ask after the refusal, before the world changes.
+  ! Why the call meridional is refused in this world, in words; ask after the refusal, before the world changes.
   subroutine world_why_meridional(world, layer, fluxes, text)
     class(puldeho_world), intent(in), target :: world
     integer(c_int32_t), intent(in) :: layer
@@ -653,7 +917,7 @@ contains
     text = text_of(words)
   end subroutine world_why_meridional
 
-  ! Why a remap is refused in this world, in words; ask after the refusal, before the world changes.
+  ! Why the call remap is refused in this world, in words; ask after the refusal, before the world changes.
   subroutine world_why_remap(world, table, text)
     class(puldeho_world), intent(in), target :: world
     integer(c_int32_t), intent(in) :: table(:)
@@ -666,7 +930,7 @@ contains
     text = text_of(words)
   end subroutine world_why_remap
 
-  ! Why a total is refused in this world, in words; ask after the refusal, before the world changes.
+  ! Why the call total is refused in this world, in words; ask after the refusal, before the world changes.
   subroutine world_why_total(world, tracer, text)
     class(puldeho_world), intent(in), target :: world
     integer(c_int32_t), intent(in) :: tracer
@@ -679,7 +943,7 @@ contains
     text = text_of(words)
   end subroutine world_why_total
 
-  ! Why a cell is refused in this world, in words; ask after the refusal, before the world changes.
+  ! Why the call cell is refused in this world, in words; ask after the refusal, before the world changes.
   subroutine world_why_cell(world, tracer, cell, text)
     class(puldeho_world), intent(in), target :: world
     integer(c_int32_t), intent(in) :: tracer
@@ -692,6 +956,62 @@ contains
         world_of(world), tracer, cell, words, int(why_size, c_size_t))
     text = text_of(words)
   end subroutine world_why_cell
+
+  ! Why the call add_emitter is refused in this world, in words; ask after the refusal, before the world changes.
+  subroutine world_why_add_emitter(world, tracer, cell, id, units, text)
+    class(puldeho_world), intent(in), target :: world
+    integer(c_int32_t), intent(in) :: tracer
+    integer(c_int32_t), intent(in) :: cell
+    integer(c_int32_t), intent(in) :: id
+    integer(c_int32_t), intent(in) :: units
+    character(len=:), allocatable, intent(out) :: text
+    character(kind=c_char) :: words(why_size)
+    integer(c_int) :: refusal
+
+    refusal = c_why_add_emitter( &
+        world_of(world), tracer, cell, id, units, words, int(why_size, c_size_t))
+    text = text_of(words)
+  end subroutine world_why_add_emitter
+
+  ! Why the call remove_emitter is refused in this world, in words; ask after the refusal, before the world changes.
+  subroutine world_why_remove_emitter(world, tracer, id, text)
+    class(puldeho_world), intent(in), target :: world
+    integer(c_int32_t), intent(in) :: tracer
+    integer(c_int32_t), intent(in) :: id
+    character(len=:), allocatable, intent(out) :: text
+    character(kind=c_char) :: words(why_size)
+    integer(c_int) :: refusal
+
+    refusal = c_why_remove_emitter( &
+        world_of(world), tracer, id, words, int(why_size, c_size_t))
+    text = text_of(words)
+  end subroutine world_why_remove_emitter
+
+  ! Why the call tick is refused in this world, in words; ask after the refusal, before the world changes.
+  subroutine world_why_tick(world, tracer, text)
+    class(puldeho_world), intent(in), target :: world
+    integer(c_int32_t), intent(in) :: tracer
+    character(len=:), allocatable, intent(out) :: text
+    character(kind=c_char) :: words(why_size)
+    integer(c_int) :: refusal
+
+    refusal = c_why_tick( &
+        world_of(world), tracer, words, int(why_size, c_size_t))
+    text = text_of(words)
+  end subroutine world_why_tick
+
+  ! Why the call units_a_tick is refused in this world, in words; ask after the refusal, before the world changes.
+  subroutine world_why_units_a_tick(world, tracer, text)
+    class(puldeho_world), intent(in), target :: world
+    integer(c_int32_t), intent(in) :: tracer
+    character(len=:), allocatable, intent(out) :: text
+    character(kind=c_char) :: words(why_size)
+    integer(c_int) :: refusal
+
+    refusal = c_why_units_a_tick( &
+        world_of(world), tracer, words, int(why_size, c_size_t))
+    text = text_of(words)
+  end subroutine world_why_units_a_tick
 
   ! Why a load of these lists is refused, in words.
   subroutine puldeho_why_load(grid, air, tracers, text)
@@ -722,6 +1042,8 @@ contains
     lent%air_length = size(world%air, kind=c_size_t)
     lent%tracers = c_loc(world%tracers)
     lent%tracers_length = size(world%tracers, kind=c_size_t)
+    lent%ledger = c_loc(world%ledger)
+    lent%ledger_length = size(world%ledger, kind=c_size_t)
   end function world_of
 
   ! A text of C, which ends with a null character.
@@ -745,7 +1067,7 @@ contains
     class(puldeho_world), intent(in) :: world
     logical :: has
 
-    has = allocated(world%air) .and. allocated(world%tracers)
+    has = allocated(world%air) .and. allocated(world%tracers) .and. allocated(world%ledger)
   end function has_lists
 
   pure function refusal_of(returned) result(refusal)
@@ -817,6 +1139,15 @@ contains
     length = grid%n*grid%k*puldeho_cells_in_layer(grid)
   end function puldeho_tracers_length
 
+  ! The length of ledger: N*51. In it: the emitters, a block for each tracer: at its place 0 how many stand,
+  ! at 1 and 2 the sum of their units, low and high 32 bits, from 3 on id, cell and units of each.
+  pure function puldeho_ledger_length(grid) result(length)
+    type(puldeho_grid), intent(in) :: grid
+    integer(c_int32_t) :: length
+
+    length = grid%n*51
+  end function puldeho_ledger_length
+
   ! The length of fluxes of a zonal call: W. In it: flux i crosses the face from column i to column i + 1, the
   ! last to column 0; positive eastward.
   pure function puldeho_zonal_fluxes_length(grid) result(length)
@@ -870,7 +1201,9 @@ contains
     case (puldeho_refusal_totals)
       text = "a tracer's total is above 268,435,455"
     case (puldeho_refusal_index)
-      text = "the tracer, cell, layer or row is absent"
+      text = "the tracer, cell, layer or row is absent; in add_emitter, remove_emitter, tick and " // &
+          "units_a_tick also: in the ledger some tracer has more than 16 emitters, an emitter in an " // &
+          "absent cell, an id twice or a false sum"
     case (puldeho_refusal_emission)
       text = "the total would pass 268,435,455"
     case (puldeho_refusal_withdrawal)
@@ -890,6 +1223,10 @@ contains
       text = "a flux's size exceeds the row's air"
     case (puldeho_refusal_long_air)
       text = "air afterwards leaves 1 to 65,535"
+    case (puldeho_refusal_emitter_added)
+      text = "the tracer has 16 emitters or already has that id"
+    case (puldeho_refusal_emitter_absent)
+      text = "the tracer has no emitter of that id"
     case default
       text = "no refusal of this version"
     end select
@@ -914,9 +1251,13 @@ contains
       text = "choose a larger unit for that gas, so that its total with all later emissions stays below " // &
           "the limit"
     case (puldeho_refusal_index)
-      text = "count from 0, and take cell numbers from the grid's functions for cells and caps"
+      text = "count from 0, and take cell numbers from the grid's functions for cells and caps; if the " // &
+          "ledger is at fault, load the world again, which leaves no emitter standing, and add the " // &
+          "emitters anew"
     case (puldeho_refusal_emission)
-      text = "load the gas in a larger unit, with room for all emissions of the run"
+      text = "correct an amount that is wrong, and remove an emitter whose units are wrong; else load " // &
+          "the gas in a larger unit, with room for all emissions and ticks of the run, and add its " // &
+          "emitters anew, with their units in the larger unit"
     case (puldeho_refusal_withdrawal)
       text = "read the cell first, and withdraw at most what it has"
     case (puldeho_refusal_fluxes)
@@ -944,6 +1285,13 @@ contains
       text = "give fluxes that leave every cell 1 to 65,535; if the other sweeps of the step would bring" // &
           " the air back, make the whole step (zonal, meridional, remap) in parts, or make the " // &
           "meridional sweep or a remap first"
+    case (puldeho_refusal_emitter_added)
+      text = "remove a stack before you add it again with another cell or other units; add stacks of one" // &
+          " cell as one emitter, with the sum of their units (to close one of them, remove the " // &
+          "emitter and add it again with the rest); what does not fit 16 emitters give by emission"
+    case (puldeho_refusal_emitter_absent)
+      text = "remove each stack once, from the tracer that it was added to, and add the emitters anew " // &
+          "after a load"
     case default
       text = "compile the program anew, with the module of the library that it is linked with"
     end select

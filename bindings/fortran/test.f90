@@ -1,7 +1,8 @@
 ! The Fortran module: words that say why a call is refused, a world that is kept and brought back, a load that is refused,
-! long sweeps, readings of a world that is only read, lengths and cell numbers.
+! long sweeps, emitters, readings of a world that is only read, lengths and cell numbers.
 ! The exit status is not 0 if anything differs.
 program test
+  use, intrinsic :: iso_fortran_env, only: int64
   use puldeho
   implicit none
   type(puldeho_grid), parameter :: grid = puldeho_grid(4, 1, 1, 1)
@@ -42,6 +43,8 @@ program test
   world = kept
   call long_sweeps(world)
   world = kept
+  call emitters(world)
+  world = kept
   world%tracers(3) = 150
   call world%load(world%grid, world%air, world%tracers, refusal)
   call gives(puldeho_accepted)
@@ -75,6 +78,53 @@ contains
     if (any(one%tracers /= [0, 0, 37, 263, 100, 0])) error stop "a long sweep differs"
   end subroutine long_sweeps
 
+  ! The units a tick are of 64 bits; negative units stand, and no tick gives them.
+  subroutine emitters(one)
+    type(puldeho_world), intent(inout) :: one
+    type(puldeho_world) :: before
+    integer(int64) :: units
+
+    call one%tick(0, refusal)
+    call gives(puldeho_accepted)
+    call one%add_emitter(0, 3, 7, 40, refusal)
+    call gives(puldeho_accepted)
+    call one%add_emitter(0, 4, -1, 30, refusal)
+    call gives(puldeho_accepted)
+    call one%tick(0, refusal)
+    call gives(puldeho_accepted)
+    call one%units_a_tick(0, refusal, units)
+    if (units /= 70 .or. any(one%tracers /= [0, 0, 100, 240, 130, 0])) error stop "a tick differs"
+    call one%add_emitter(0, 1, -1, 1, refusal)
+    call gives(puldeho_refusal_emitter_added)
+    call one%why_add_emitter(0, 1, -1, 1, text)
+    call says("tracer 0 already has the id 4294967295 (-1, if the number was signed): emitter 1, in cell 4")
+    before = one
+    call one%remove_emitter(0, 7, refusal)
+    call gives(puldeho_accepted)
+    if (any(one%ledger(0:8) /= [1, 30, 0, -1, 4, 30, 0, 0, 0])) error stop "the ledger differs"
+    call one%remove_emitter(0, 7, refusal)
+    call gives(puldeho_refusal_emitter_absent)
+    call one%why_remove_emitter(0, 7, text)
+    call says("tracer 0 has no emitter of the id 7; it has the ids 4294967295")
+    one = before
+    call one%add_emitter(0, 0, 9, -1, refusal)
+    call gives(puldeho_accepted)
+    call one%units_a_tick(0, refusal, units)
+    if (units /= 4294967365_int64) error stop "the units a tick differ"
+    call one%tick(0, refusal)
+    call gives(puldeho_refusal_emission)
+    call one%why_tick(0, text)
+    call says("tracer 0 has the total 470 and a tick gives 4294967365")
+    call one%units_a_tick(1, refusal, units)
+    call gives(puldeho_refusal_index)
+    if (units /= 0) error stop "a refused reading has a count"
+    call one%why_units_a_tick(1, text)
+    call says("there is no tracer 1")
+    call one%load(one%grid, one%air, one%tracers, refusal)
+    call gives(puldeho_accepted)
+    if (any(one%ledger /= 0) .or. size(one%ledger) /= puldeho_ledger_length(one%grid)) error stop "emitters after a load"
+  end subroutine emitters
+
   ! Readings and words take a world that may not be written. A count may be above 65,535.
   subroutine read_only(one)
     type(puldeho_world), intent(in) :: one
@@ -84,6 +134,8 @@ contains
     if (refusal /= puldeho_accepted .or. units /= 1000400) error stop "the total differs"
     call one%cell(0, 0, refusal, units)
     if (refusal /= puldeho_accepted .or. units /= 1000000) error stop "the cell differs"
+    call one%units_a_tick(0, refusal)
+    if (refusal /= puldeho_accepted) error stop "the units a tick are refused"
     call one%why_zonal(0, 0, [0, 100, 0, 0], text)
     if (index(text, "the fluxes themselves must diverge less at this cell") /= len(text) - 51) error stop "the words are cut"
   end subroutine read_only

@@ -35,6 +35,8 @@ OWN = {@OWN@}
 # The parameters of each proved function after the grid's four numbers, with their types in the library.
 SIGNATURES = {
 @SIGNATURES@}
+# The calls whose count has 64 bits: one function gives the refusal, a second, NAME_number, the count.
+WIDE = {@WIDE@}
 
 # Which property of a grid has the shape of a list, by its owner (the world, or a call) and name.
 SHAPES = {

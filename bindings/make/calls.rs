@@ -1,6 +1,6 @@
 // @MADE@
 
-use crate::{outcome, words, Grid};
+use crate::{outcome, wide_outcome, words, Grid};
 use std::ffi::{c_char, c_int};
 
 /// Bytes that are room enough for any text that says why a call is refused.
@@ -71,7 +71,7 @@ impl World {
 /// The calls over lists that the caller keeps and lends, each with the grid: any numbers and lengths are answered.
 /// A later version may lend further lists; programs over [`World`] do not change then.
 pub mod raw {
-    use super::{outcome, Grid, Refusal};
+    use super::{outcome, wide_outcome, Grid, Refusal};
 
     extern "C" {
     @EXTERNS@}

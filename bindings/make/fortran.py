@@ -1,8 +1,12 @@
 """The Fortran module, bindings/fortran/puldeho.f90."""
+import sys
 import textwrap
 
-from tables import GRID, MADE, RAW, WHY_SIZE, WORLD, abi, constant, filled, in_terms, is_list, is_written, largest, length_name, length_text, own, world_lists
-from tables import wrapped
+from tables import GRID, MADE, RAW, WHY_SIZE, WORLD, abi, constant, exports, filled, in_terms, is_list, is_wide, is_written, largest, length_name
+from tables import length_text, own, world_lists, wrapped
+
+TYPES = {"u32": "integer(c_int32_t)", "u64": "integer(c_int64_t)"}
+WIDTH = 120  # of a comment
 
 
 def listed(names, indent):
@@ -30,13 +34,15 @@ def arguments(parameters):
 
 
 def raw(call):
-    """The interface of a proved function."""
+    """The interfaces of the proved functions."""
     names, declared = arguments(call.parameters)
-    return (
-        "    function {0}{1}( &\n        {2}) &\n        bind(c) result(returned)\n"
-        "      import :: c_int32_t, c_int64_t, c_size_t\n      integer(c_int32_t), value :: {3}\n{4}"
-        "      integer(c_int64_t) :: returned\n    end function {0}{1}\n"
-    ).format(RAW, call.name, listed(list(GRID) + names, "        "), ", ".join(GRID), declared)
+    one = (
+        "    function {0}( &\n        {1}) &\n        bind(c) result(returned)\n"
+        "      import :: c_int32_t, c_int64_t, c_size_t\n      integer(c_int32_t), value :: {2}\n{3}"
+        "      {4} :: returned\n    end function {0}\n"
+    )
+    given = listed(list(GRID) + names, "        "), ", ".join(GRID), declared
+    return "\n".join(one.format(export.name, *given, TYPES[export.returns]) for export in exports(call))
 
 
 def why_interface(call):
@@ -61,7 +67,7 @@ def why_method(call):
     for p in mine:
         arguments += [p.name, "size(%s, kind=c_size_t)" % p.name] if is_list(p) else [p.name]
     return (
-        "\n  ! Why a {0} is refused in this world, in words; ask after the refusal, before the world changes.\n"
+        "\n  ! Why the call {0} is refused in this world, in words; ask after the refusal, before the world changes.\n"
         "  subroutine world_why_{0}({1})\n    class(puldeho_world), intent(in), target :: world\n{2}"
         "    character(len=:), allocatable, intent(out) :: text\n"
         "    character(kind=c_char) :: words(why_size)\n    integer(c_int) :: refusal\n\n"
@@ -78,28 +84,45 @@ def given(call, world):
     return listed(found, "        ")
 
 
+def made(call):
+    """The lines that make a call on a loaded world and set refusal and count."""
+    lent = given(call, "world")
+    present = "    if (present({0})) {0} = ".format(call.count.name) if call.count else ""
+    if is_wide(call):
+        refusal, number = exports(call)
+        return "    refusal = {0}( &\n        {1})\n{2}{3}( &\n        {1})\n".format(refusal.name, lent, present, number.name)
+    lines = "    returned = %s%s( &\n        %s)\n    refusal = refusal_of(returned)\n" % (RAW, call.name, lent)
+    return lines + (present + "count_of(returned)\n" if call.count else "")
+
+
 def method(call):
     """The call as a procedure of the world."""
     mine = own(call)
     names = ["world"] + [p.name for p in mine] + ["refusal"] + ([call.count.name] if call.count else [])
-    count = "  ! %s: %s.\n" % call.count if call.count else ""
+    count = "  ! %s: %s.\n" % (call.count.name, call.count.text) if call.count else ""
     declared = "".join(
         "    integer(c_int32_t), intent(in) :: %s%s\n" % (p.name, "(:)" if is_list(p) else "") for p in mine
     )
     if call.count:
-        declared += "    integer(c_int32_t), intent(out), optional :: %s\n" % call.count.name
+        declared += "    %s, intent(out), optional :: %s\n" % (TYPES[call.count.type], call.count.name)
+    if not is_wide(call):
+        declared += "    integer(c_int64_t) :: returned\n"
     intent = "in" if call.world == "read" else "inout"
     comment = wrapped("%s Refusals, in order: %s." % (call.does, call.refusals), 110, "  ! ")
     return (
         "\n{0}\n{1}  subroutine world_{2}({3})\n    class(puldeho_world), intent({4}) :: world\n"
-        "    integer(c_int32_t), intent(out) :: refusal\n{5}    integer(c_int64_t) :: returned\n\n"
-        "    refusal = puldeho_refusal_grid_range\n{8}    if (.not. has_lists(world)) return\n"
-        "    returned = {6}{2}( &\n        {7})\n    refusal = refusal_of(returned)\n{9}  end subroutine world_{2}\n"
+        "    integer(c_int32_t), intent(out) :: refusal\n{5}\n"
+        "    refusal = puldeho_refusal_grid_range\n{6}    if (.not. has_lists(world)) return\n{7}  end subroutine world_{2}\n"
     ).format(
-        comment, count, call.name, ", ".join(names), intent, declared, RAW, given(call, "world"),
-        "    if (present({0})) {0} = 0\n".format(call.count.name) if call.count else "",
-        "    if (present({0})) {0} = count_of(returned)\n".format(call.count.name) if call.count else "",
+        comment, count, call.name, ", ".join(names), intent, declared,
+        "    if (present({0})) {0} = 0\n".format(call.count.name) if call.count else "", made(call),
     )
+
+
+def field(lent):
+    """A list as a component of the world."""
+    text = "%s: %s numbers, the first has the index 0" % (lent.what, lent.length.upper())
+    return "%s\n    integer(c_int32_t), allocatable :: %s(:)\n" % (wrapped(text, 110, "    ! "), lent.name)
 
 
 def length(lent):
@@ -120,26 +143,34 @@ def texts(tables, field):
     )
 
 
+def narrow(text):
+    """The text, if each of its comments is within the width; those of the template are wrapped by hand."""
+    for line in text.splitlines():
+        if line.lstrip().startswith("!") and len(line) > WIDTH:
+            sys.exit("bindings/fortran/puldeho.f90: a comment of more than %d characters: %s" % (WIDTH, line.strip()))
+    return text
+
+
 def module(tables):
     """bindings/fortran/puldeho.f90."""
     lists, asked, owned = world_lists(tables)
     load = next(call for call in tables.calls if call.name == "load")
     later = [call for call in tables.calls if call.name != "load"]
-    return filled("puldeho.f90", {
+    return narrow(filled("puldeho.f90", {
         "MADE": MADE,
         "VERSION": tables.version,
         "ABI": abi(tables),
         "LIMITS": "".join(
-            "  ! %s\n  integer(c_int32_t), parameter, public :: puldeho_%s = %d\n" % (l.what, l.name.lower(), l.number)
+            "%s\n  integer(c_int32_t), parameter, public :: puldeho_%s = %d\n" % (wrapped(l.what, 110, "  ! "), l.name.lower(), l.number)
             for l in tables.limits
         ),
         "NAMES": "".join("  public :: puldeho_%s\n" % length_name(lent) for lent in tables.lists),
         "REFUSALS": "".join(
-            "  ! %s\n  integer(c_int32_t), parameter, public :: puldeho_refusal_%s = %d\n" % (
-                r.condition, constant(r.name).lower(), r.number)
+            "%s\n  integer(c_int32_t), parameter, public :: puldeho_refusal_%s = %d\n" % (
+                wrapped(r.condition, 110, "  ! "), constant(r.name).lower(), r.number)
             for r in tables.refusals
         ),
-        "FIELDS": "".join("    ! %s: %s numbers, the first has the index 0\n    integer(c_int32_t), allocatable :: %s(:)\n" % (l.what, l.length.upper(), l.name) for l in lists),
+        "FIELDS": "".join(map(field, lists)),
         "METHODS": "".join("    procedure :: %s => world_%s\n" % (call.name, call.name) for call in tables.calls)
         + "".join("    procedure :: why_%s => world_why_%s\n" % (call.name, call.name) for call in later),
         "CFIELDS": "".join("    type(c_ptr) :: {0} = c_null_ptr\n    integer(c_size_t) :: {0}_length = 0\n".format(l.name) for l in lists)
@@ -164,4 +195,4 @@ def module(tables):
         "LENGTHS": "".join(map(length, tables.lists)),
         "CONDITIONS": texts(tables, "condition"),
         "REMEDIES": texts(tables, "remedy"),
-    })
+    }))

@@ -35,10 +35,15 @@ def arguments(call, lengths):
     return ", ".join(words) or "–"
 
 
+def count(call):
+    """A call's count with its name."""
+    return "%s: %s" % (call.count.name, call.count.text) if call.count else "–"
+
+
 def readme(tables):
     """README.md."""
     lengths = {(lent.owner, lent.name): lent.length.upper().replace("*", "·") for lent in tables.lists}
     rows = [
-        ["`%s`" % call.name, arguments(call, lengths), call.refusals, "%s: %s" % call.count if call.count else "–"] for call in tables.calls
+        ["`%s`" % call.name, arguments(call, lengths), call.refusals, count(call)] for call in tables.calls
     ]
     return between(README, "calls", table(["Call", "Arguments beside the world", "Refusals, in order", "Count"], rows))

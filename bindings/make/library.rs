@@ -5,8 +5,8 @@ use puldeho::{raw, Grid, Refusal};
 use reference::{Call, World};
 
 /// Makes the call in the library.
-pub fn call(world: &mut World, call: &Call) -> Result<u32, Refusal> {
-    let World { grid, air, tracers } = world;
+pub fn call(world: &mut World, call: &Call) -> Result<u64, Refusal> {
+    let World { grid, @LISTS@ } = world;
     let grid = Grid { w: grid.w, r: grid.r, k: grid.k, n: grid.n };
     match call {
 @CALLS@    }

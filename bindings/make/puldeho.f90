@@ -13,8 +13,10 @@
 ! Layers, rows, columns, tracers and cells are counted from 0, and world%air(0) is the first cell's air.
 ! Each call sets refusal: 0 (puldeho_accepted) or the number of the first refusal that applies. A refused call
 ! changes nothing. Numbers are 32-bit without a sign in the library, so a negative one is far above every limit
-! and is refused. After a refused call NAME, call world%why_NAME(.., text) with the same arguments says which cell
-! or column was in the way, and what would help. docs/GUIDE.md explains grid, units, fluxes and refusals.
+! and is refused. (Only an emitter has two numbers without a limit: any id is taken, and one of negative units
+! stands, with 2**31 or more, and refuses every tick with 6.) After a refused call NAME, call
+! world%why_NAME(.., text) with the same arguments says which cell or column was in the way, and what would help.
+! docs/GUIDE.md explains grid, units, fluxes and refusals.
 module puldeho
   use, intrinsic :: iso_c_binding, only: c_char, c_int, c_int32_t, c_int64_t, c_loc, c_null_char, c_null_ptr, c_ptr, c_size_t
   implicit none
@@ -37,8 +39,10 @@ module puldeho
     integer(c_int32_t) :: w = 0, r = 0, k = 0, n = 0
   end type puldeho_grid
 
-  ! The world. It owns its lists; an accepted load makes it, and before that every call is refused, with 1. Later versions have
-  ! further components. So there is no structure constructor (the private component sees to that), and do not extend the type.
+  ! The world. It owns its lists; an accepted load makes it, and before that every call is refused, with 1. The
+  ! ledger is written by calls alone; tracer t's block starts at t*puldeho_ledger_block. Later versions have longer
+  ! blocks, and further components. So there is no structure constructor (the private component sees to that), and
+  ! do not extend the type.
   type, public :: puldeho_world
     integer(c_int32_t), private :: made_by_load_only
     type(puldeho_grid) :: grid

@@ -17,8 +17,8 @@
  *
  * What a call gives: PULDEHO_ACCEPTED, which is 0, or the first refusal that applies. (So a true value
  * is a refusal: do not keep it in a bool called ok.) A refused call changes nothing: neither air nor
- * tracers. A count, where a call has one, is written to the last argument, 0 if the call is refused;
- * that pointer may be null.
+ * tracers nor emitters. A count, where a call has one, is written to the last argument, 0 if the call
+ * is refused; that pointer may be null.
  *
  * What is assumed of pointers:
  * - each goes with the length after it, in numbers, not bytes: so many can be read there, or written. A
@@ -27,10 +27,11 @@
  * - a list that is written shares no memory with another list of the same call;
  * - nobody else writes a lent list during the call, or reads one that is written.
  * Nothing is assumed of the numbers: any are answered. The library keeps nothing
- * between calls, and each call tests the whole world before it does anything. Several threads may call
- * it at once, each with a world of its own; a list that is only read may be shared. Between calls you
- * may read the lists. If you write into them, load again: what is promised of a run counts from there,
- * and later versions, which keep books of each gas, refuse other calls until then.
+ * between calls, and each call tests the whole world before it does anything (the numbers of the ledger
+ * only if it is one of the four calls on emitters). Several threads may call it at once, each with a
+ * world of its own; a list that is only read may be shared. Between calls you may read the lists. If
+ * you write into them, load again: what is promised of a run counts from there, no emitter stands
+ * then, and later versions, which keep books of each gas, refuse other calls until then.
  * Names that begin with puldeho or PULDEHO are the library's. Take sizes and limits by their names: they may grow.
  *
  * What is assumed of the stack: that it has room for the call, PULDEHO_STACK bytes or, of the proved
@@ -151,7 +152,23 @@ static inline uint32_t puldeho_north_cap(struct puldeho_grid grid, uint32_t laye
  * - load each world, once it is made, before any other call;
  * - load again when you have written into its lists or set its fields, before the next call;
  * - make all calls on the one struct, by its address: a copy of the struct is neither the same world nor
- *   a second one. It may be moved, as by a function that returns it. puldeho_copy copies a state. */
+ *   a second one. It may be moved, as by a function that returns it. puldeho_copy copies a state.
+ *
+ * The ledger holds the emitters that stand. A program need not know of it: where `ledger` is null, the world has
+ * one of its own, in the struct. To keep it elsewhere, set `ledger` to puldeho_ledger_length(grid) numbers and
+ * `ledger_length` to that length before the load; the load clears it. Tracer t's block of numbers starts at
+ * t*PULDEHO_LEDGER_BLOCK. In it stand at
+ *   0                          how many emitters stand, 0 to PULDEHO_MOST_EMITTERS
+ *   1 and 2                    the sum of their units a tick, its low and its high 32 bits
+ *   3 + 3*i, 4 + 3*i, 5 + 3*i  id, cell and units a tick of emitter i, counted from 0
+ * A new emitter comes after the last. In place of a removed one comes the last one, whose place becomes 0, 0, 0. A load
+ * leaves 0 everywhere. So two programs that make the same calls have the same ledger, number for number.
+ * Read it with puldeho_lent_ledger. Only calls may write it: the four calls on emitters refuse with 5 a ledger in which
+ * some tracer has more emitters than that, one in an absent cell, an id twice or a false sum; no other call looks into
+ * it. To keep the emitters in a file, keep what stands in each block; to bring them back, load, and then add them again
+ * in the same order: the ledger is then the same.
+ * Later versions have further numbers at the end of each block and after all blocks: take lengths and starts of
+ * blocks from the functions and names above, and do not count on those of this version. */
 struct puldeho_world {
     struct puldeho_grid grid;
 @FIELDS@
@@ -171,8 +188,9 @@ static inline struct puldeho_world puldeho_world_over(
     return world;
 }
 @OWNLISTS@
-/* Copies a world's state, all its lists with whatever a later version adds, into another world over lists of the same
- * lengths: to keep the state before a step, and to go back to it. Gives refusal 2 and copies nothing if a length differs. */
+/* Copies a world's state, all its lists, the ledger and whatever a later version adds, into another world over lists of
+ * the same lengths: to keep the state before a step, and to go back to it. Gives refusal 2 and copies nothing if a
+ * length differs. */
 PULDEHO_MUST_USE PULDEHO_NOT_NULL(1) PULDEHO_NOT_NULL(2)
 static inline enum puldeho_refusal puldeho_copy(struct puldeho_world *to, const struct puldeho_world *from)
 {
@@ -186,8 +204,8 @@ static inline enum puldeho_refusal puldeho_copy(struct puldeho_world *to, const 
 @CALLS@
 /*
  * Why a call is refused: for each call a function that takes the same arguments, writes into `text`
- * which cell, row or column is in the way, how much air it has and how much would leave, and whether
- * a smaller time step can help, and returns the refusal, 0 if the call would be accepted. Ask after the
+ * which cell, row, column or emitter is in the way, how much air it has and how much would leave, and
+ * whether a smaller time step can help, and returns the refusal, 0 if the call would be accepted. Ask after the
  * refusal, before the world changes. `text` gets at most `size` bytes with the final 0;
  * PULDEHO_WHY_SIZE are enough for any. These functions are plain C and not proved; they only read.
  */
@@ -196,7 +214,8 @@ static inline enum puldeho_refusal puldeho_copy(struct puldeho_world *to, const 
 @WHYS@
 /*
  * From here on: how the calls are made. The proved functions return one number, refusal * 2^32 + count,
- * which kept in an int is 0 for many a refused call; the calls above take it apart.
+ * which kept in an int is 0 for many a refused call; the calls above take it apart. Where the count has
+ * 64 bits, puldeho_raw_NAME returns the refusal alone, and puldeho_raw_NAME_number the count.
  */
 @RAWS@
 /* Does nothing. Its name has the version: the proved functions may take other arguments in another, and a program that is

@@ -1,5 +1,6 @@
 """The Python package's made part, bindings/python/puldeho/calls.py."""
-from tables import MADE, WHY_SIZE, WORLD, abi, constant, filled, full_name, in_terms, largest, length_name, length_text, own, world_lists, wrapped
+from tables import MADE, WHY_SIZE, WORLD, abi, constant, filled, full_name, in_terms, is_wide, largest, length_name, length_text, own, world_lists
+from tables import wrapped
 
 
 def table(tables, field):
@@ -39,9 +40,10 @@ def method(call):
 
 
 def reading(lent):
-    """The property that shows a list which the world has of its own."""
-    return '\n    @property\n    def %s(self):\n%s\n        return self._kept["%s"]\n' % (
-        lent.name, wrapped('"""The world\'s own: %s. Read it only."""' % lent.what, 110, "        "), lent.name)
+    """The property that shows a list which the world has of its own, to be read: a wrong number in it refuses calls."""
+    text = "The world's own, which only calls write: %s." % lent.what
+    return '\n    @property\n    def %s(self):\n%s\n        return memoryview(self._kept["%s"]).toreadonly()\n' % (
+        lent.name, wrapped('"""%s"""' % text, 110, "        "), lent.name)
 
 
 def calls(tables):
@@ -63,6 +65,7 @@ def calls(tables):
         "OWN": ", ".join('"%s": %d' % (l.name, largest(l, tables)) for l in owned),
         "READS": "".join(map(reading, owned)),
         "SIGNATURES": "".join(map(signature, tables.calls)),
+        "WIDE": ", ".join('"%s"' % call.name for call in tables.calls if is_wide(call)),
         "LENGTHS": "".join(length(lent) + shape(lent) for lent in tables.lists),
         "SHAPES": "".join('    ("%s", "%s"): "%s_shape",\n' % (l.owner, l.name, full_name(l)) for l in tables.lists),
         "METHODS": "".join(method(call) for call in tables.calls if call.name != "load"),

@@ -1,6 +1,6 @@
 """The Rust wrapper's made part, bindings/rust/src/calls.rs, and the comparison's calls, compare/src/library.rs."""
-from tables import GRID, MADE, RAW, WHY_SIZE, WORLD, abi, filled, in_terms, is_list, is_written, largest, length_name, length_text, own
-from tables import world_lists
+from tables import GRID, MADE, RAW, WHY_SIZE, WORLD, abi, exports, filled, in_terms, is_list, is_wide, is_written, largest, length_name, length_text
+from tables import own, world_lists
 
 POINTERS = {"&[u32]": ("*const u32", "as_ptr"), "&mut [u32]": ("*mut u32", "as_mut_ptr"), "&[i32]": ("*const i32", "as_ptr")}
 
@@ -32,11 +32,12 @@ def length(lent):
 
 
 def extern(call):
-    """The proved function as C has it."""
+    """The proved functions as C has them."""
     lines = [", ".join(letter + ": u32" for letter in GRID)]
     for p in call.parameters:
         lines.append("%s: %s, %s_length: usize" % (p.name, POINTERS[p.type][0], p.name) if is_list(p) else p.name + ": u32")
-    return "    fn %s%s(\n        %s,\n    ) -> u64;\n" % (RAW, call.name, ",\n        ".join(lines))
+    one = "    fn %s(\n        %s,\n    ) -> %s;\n"
+    return "".join(one % (export.name, ",\n        ".join(lines), export.returns) for export in exports(call))
 
 
 def raw(call):
@@ -45,14 +46,16 @@ def raw(call):
     for p in call.parameters:
         lines.append("%s.%s(), %s.len()" % (p.name, POINTERS[p.type][1], p.name) if is_list(p) else p.name)
     signature = "".join("        %s: %s,\n" % p for p in call.parameters)
+    lent = ",\n                ".join(lines)
+    made = ["unsafe {\n            %s(\n                %s,\n            )\n        }" % (export.name, lent) for export in exports(call)]
     return (
         "\n    /// %s\n    ///\n    /// Count: %s. Refusals, in order: %s.\n"
-        "    pub fn %s(\n        grid: Grid,\n%s    ) -> Result<u32, Refusal> {\n"
+        "    pub fn %s(\n        grid: Grid,\n%s    ) -> Result<%s, Refusal> {\n"
         "        // SAFETY: each pointer goes with its slice's length, and the borrows keep all others from what is written.\n"
-        "        outcome(unsafe {\n            %s%s(\n                %s,\n            )\n        })\n    }\n"
+        "        %s(%s)\n    }\n"
     ) % (
-        call.does, call.count.text if call.count else "0", call.refusals, call.name, signature,
-        RAW, call.name, ",\n                ".join(lines),
+        call.does, call.count.text if call.count else "0", call.refusals, call.name, signature, call.count.type if call.count else "u32",
+        "wide_outcome" if is_wide(call) else "outcome", ", ".join(made),
     )
 
 
@@ -67,7 +70,7 @@ def method(call):
         "    pub fn %s(&%sself%s) -> Result<%s, Refusal> {\n        %s\n    }\n"
     ) % (
         call.does, count, call.refusals, call.name, "mut " if call.world == "changed" else "", signature,
-        "u32" if call.count else "()", given if call.count else given + "?;\n        Ok(())",
+        call.count.type if call.count else "()", given if call.count else given + "?;\n        Ok(())",
     )
 
 
@@ -144,11 +147,13 @@ def compared(tables):
     made, names, named, rows, lines = "", "", "", "", ""
     for call in tables.calls:
         given = [p.name if is_list(p) else "*" + p.name for p in call.parameters]
-        made += "        %s => {\n            raw::%s(grid, %s)\n        }\n" % (pattern(call), call.name, ", ".join(given))
+        widened = "" if is_wide(call) else ".map(u64::from)"
+        made += "        %s => {\n            raw::%s(grid, %s)%s\n        }\n" % (pattern(call), call.name, ", ".join(given), widened)
         names += '        %s { .. } => "%s",\n' % (case(call), call.name)
         named += "        %s { .. } => &[%s],\n" % (case(call), ", ".join(call.refusals.split()))
         rows += '    ("%s", &[%s]),\n' % (call.name, ", ".join(call.refusals.split()))
         words = "".join("{}" if is_list(p) else " {%s}" % p.name for p in own(call))
         lists = "".join(", numbers(%s)" % p.name for p in own(call) if is_list(p))
         lines += '        %s => format!("%s%s"%s),\n' % (pattern(call), call.name, words, lists)
-    return filled("library.rs", {"MADE": MADE, "CALLS": made, "NAMES": names, "NAMED": named, "TABLE": rows, "LINES": lines})
+    lists = ", ".join(l.name for l in world_lists(tables)[0])
+    return filled("library.rs", {"MADE": MADE, "LISTS": lists, "CALLS": made, "NAMES": names, "NAMED": named, "TABLE": rows, "LINES": lines})

@@ -5,7 +5,8 @@ import textwrap
 from collections import namedtuple
 
 Parameter = namedtuple("Parameter", "name type")
-Count = namedtuple("Count", "name text")
+Count = namedtuple("Count", "name type text")
+Export = namedtuple("Export", "name returns")
 Call = namedtuple("Call", "name parameters world refusals count does")
 Lent = namedtuple("Lent", "owner kind name shape length what")
 Refusal = namedtuple("Refusal", "number name condition cause remedy")
@@ -59,12 +60,31 @@ def own(call):
     return [p for p in call.parameters if p.name not in WORLD]
 
 
+def read_count(text):
+    """The count of a call such as `units: the total`, or `units (u64): ..` for one of 64 bits; None for -."""
+    if text == "-":
+        return None
+    name, words = text.split(": ", 1)
+    wide = name.endswith(" (u64)")
+    return Count(name[: -len(" (u64)")] if wide else name, "u64" if wide else "u32", words)
+
+
+def is_wide(call):
+    """Whether the call's count has 64 bits, so that its refusal and its count are two exports."""
+    return call.count is not None and call.count.type == "u64"
+
+
+def exports(call):
+    """The exported functions of a call, with what each returns."""
+    name = RAW + call.name
+    return [Export(name, "u32"), Export(name + "_number", "u64")] if is_wide(call) else [Export(name, "u64")]
+
+
 def read_calls():
     """The table of the calls."""
     calls = []
     for name, listed, world, refusals, count, does in rows("bindings/calls.txt", 6):
-        given = None if count == "-" else Count(*count.split(": ", 1))
-        call = Call(name, parameters(listed), world, refusals, given, does)
+        call = Call(name, parameters(listed), world, refusals, read_count(count), does)
         mine = own(call)
         if any(is_written(p) for p in mine) or any(is_list(p) for p in mine[:-1]):
             sys.exit("bindings/calls.txt: %s: only the world's lists are written, and a list of its own stands last" % name)
@@ -91,12 +111,12 @@ def check_names(calls):
             sys.exit("bindings/calls.txt: %s: a name is reserved, is taken, or stands twice" % call.name)
 
 
-def read_lists(calls):
-    """The table of the lists: the world's, and each call's own."""
-    lists = []
+def read_lists(calls, limits):
+    """The table of the lists: the world's, and each call's own. A limit's name in a shape stands for its number."""
+    lists, numbered = [], {limit.name: str(limit.number) for limit in limits}
     for whose, name, shape, what in rows("bindings/lists.txt", 4):
         owner, _, kind = whose.partition(" ")
-        numbers = shape.split(", ")
+        numbers = [numbered.get(number, number) for number in shape.split(", ")]
         length = "*".join("(%s)" % number if " " in number and len(numbers) > 1 else number for number in numbers)
         lists.append(Lent(owner, kind, name, numbers, length, what))
     wanted = [("world", name) for name in WORLD]
@@ -145,7 +165,7 @@ def read_stack(calls):
         name, number = line.split()[:2]
         if name.startswith(RAW):
             stack[name] = int(number)
-    if set(stack) != {RAW + call.name for call in calls}:
+    if set(stack) != {export.name for call in calls for export in exports(call)}:
         sys.exit("bindings/stack.txt: not the calls of bindings/calls.txt; tools/stack --write writes it")
     return stack
 
@@ -153,15 +173,15 @@ def read_stack(calls):
 def check_boundary(calls):
     """Fails unless the table and the exported functions of crates/boundary have the same names and parameters."""
     source = open("crates/boundary/src/lib.rt", encoding="utf-8").read()
-    shape = r'#\[no_mangle\]\s*pub extern "C" fn puldeho_raw_(\w+)\((.*?)\) -> u64\n'
-    exported = {name: parameters(text) for name, text in re.findall(shape, source, re.S)}
+    shape = r'#\[no_mangle\]\s*pub extern "C" fn (puldeho_raw_\w+)\((.*?)\) -> (u32|u64)\n'
+    exported = {name: (parameters(text), returns) for name, text, returns in re.findall(shape, source, re.S)}
     if len(exported) != source.count("#[no_mangle]"):
         sys.exit("crates/boundary/src/lib.rt: an exported function does not have the form that tools/bindings reads")
     grid = [Parameter(letter, "u32") for letter in GRID]
-    table = {call.name: grid + call.parameters for call in calls}
+    table = {export.name: (grid + call.parameters, export.returns) for call in calls for export in exports(call)}
     for name in sorted(exported.keys() | table.keys()):
         if exported.get(name) != table.get(name):
-            sys.exit("bindings/calls.txt: %s%s is not as in crates/boundary/src/lib.rt" % (RAW, name))
+            sys.exit("bindings/calls.txt: %s is not as in crates/boundary/src/lib.rt" % name)
 
 
 def check_refusals(calls, refusals):
@@ -183,7 +203,8 @@ def read_tables():
     check_boundary(calls)
     check_refusals(calls, refusals)
     version = open("bindings/version.txt", encoding="utf-8").read().strip()
-    return Tables(calls, read_lists(calls), list(read_limits()), refusals, programs, read_stack(calls), version)
+    limits = list(read_limits())
+    return Tables(calls, read_lists(calls, limits), limits, refusals, programs, read_stack(calls), version)
 
 
 # What the makers of the languages share.
@@ -202,7 +223,7 @@ def constant(name):
 def described(call):
     """What a call does, for its comment: the work, what it writes, refusals, count."""
     written = [p.name for p in call.parameters if is_written(p)]
-    count = "" if call.count is None else " %s: %s." % call.count
+    count = "" if call.count is None else " %s: %s." % (call.count.name, call.count.text)
     return "%s Writes %s. Refusals, in order: %s.%s" % (call.does, " and ".join(written) or "nothing", call.refusals, count)
 
 

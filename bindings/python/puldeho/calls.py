@@ -2,12 +2,12 @@
 """Refusals, lengths and calls, as the tables have them."""
 import enum
 
-__all__ = ["Refusal", "AIR_LIMIT", "TOTAL_LIMIT", "ZONAL_LIMIT", "MERIDIONAL_LIMIT", "MOST_SUBSTEPS", "TABLE_LIMIT", "TABLE_SCALE", "MOST_COLUMNS", "MOST_ROWS", "MOST_LAYERS", "MOST_TRACERS"]
+__all__ = ["Refusal", "AIR_LIMIT", "TOTAL_LIMIT", "ZONAL_LIMIT", "MERIDIONAL_LIMIT", "MOST_SUBSTEPS", "TABLE_LIMIT", "TABLE_SCALE", "MOST_COLUMNS", "MOST_ROWS", "MOST_LAYERS", "MOST_TRACERS", "MOST_EMITTERS", "LEDGER_BLOCK"]
 
-VERSION = "0.2.0"
+VERSION = "0.3.0"
 # The shared library of this version. Another version's functions may take other arguments.
-SONAME = "libpuldeho.so.0.2"
-ABI = "puldeho_abi_0_2"
+SONAME = "libpuldeho.so.0.3"
+ABI = "puldeho_abi_0_3"
 
 # The most air of a cell; the least is 1
 AIR_LIMIT = 65535
@@ -31,6 +31,10 @@ MOST_ROWS = 44
 MOST_LAYERS = 32
 # The largest N
 MOST_TRACERS = 8
+# The most emitters of a tracer that stand at once
+MOST_EMITTERS = 16
+# How many numbers of the ledger each tracer has; tracer t's block starts at t times this number. Later versions have more
+LEDGER_BLOCK = 51
 
 
 class Refusal(enum.IntEnum):
@@ -50,6 +54,8 @@ class Refusal(enum.IntEnum):
     REMAP = 12
     LONG_FLUX = 16
     LONG_AIR = 17
+    EMITTER_ADDED = 18
+    EMITTER_ABSENT = 19
 
 
 # Bytes that are room enough for any text that says why a call is refused.
@@ -61,7 +67,7 @@ CONDITIONS = {
     Refusal.LENGTHS: "a lent length is not the grid's",
     Refusal.AIR_RANGE: "a cell's air is 0 or above 65,535",
     Refusal.TOTALS: "a tracer's total is above 268,435,455",
-    Refusal.INDEX: "the tracer, cell, layer or row is absent",
+    Refusal.INDEX: "the tracer, cell, layer or row is absent; in add_emitter, remove_emitter, tick and units_a_tick also: in the ledger some tracer has more than 16 emitters, an emitter in an absent cell, an id twice or a false sum",
     Refusal.EMISSION: "the total would pass 268,435,455",
     Refusal.WITHDRAWAL: "the cell has less than the amount",
     Refusal.FLUXES: "a flux's size is above 1,048,560 (zonal) or 65,535 (meridional)",
@@ -71,6 +77,8 @@ CONDITIONS = {
     Refusal.REMAP: "in some column the edges do not rise strictly, or a new layer exceeds 65,535",
     Refusal.LONG_FLUX: "a flux's size exceeds the row's air",
     Refusal.LONG_AIR: "air afterwards leaves 1 to 65,535",
+    Refusal.EMITTER_ADDED: "the tracer has 16 emitters or already has that id",
+    Refusal.EMITTER_ABSENT: "the tracer has no emitter of that id",
 }
 
 # What to do about each refusal.
@@ -79,8 +87,8 @@ REMEDIES = {
     Refusal.LENGTHS: "take every length from the grid's length functions, and give lengths in numbers",
     Refusal.AIR_RANGE: "choose the unit of air so that every cell has 1 to 65,535, with room for the changes within a step",
     Refusal.TOTALS: "choose a larger unit for that gas, so that its total with all later emissions stays below the limit",
-    Refusal.INDEX: "count from 0, and take cell numbers from the grid's functions for cells and caps",
-    Refusal.EMISSION: "load the gas in a larger unit, with room for all emissions of the run",
+    Refusal.INDEX: "count from 0, and take cell numbers from the grid's functions for cells and caps; if the ledger is at fault, load the world again, which leaves no emitter standing, and add the emitters anew",
+    Refusal.EMISSION: "correct an amount that is wrong, and remove an emitter whose units are wrong; else load the gas in a larger unit, with room for all emissions and ticks of the run, and add its emitters anew, with their units in the larger unit",
     Refusal.WITHDRAWAL: "read the cell first, and withdraw at most what it has",
     Refusal.FLUXES: "give fluxes in units of air for this step, and divide the step if they are still too large",
     Refusal.ZONAL: "make the sweep as two or more, each with a part of the fluxes, or as a long zonal sweep (in the library only), which gives other amounts of tracer; if a cell would end with no air or too much, make the whole step (zonal, meridional, remap) in parts, or make the meridional sweep or a remap first",
@@ -89,30 +97,39 @@ REMEDIES = {
     Refusal.REMAP: "use a = 0, and choose the b so that every layer gets 1 to 65,535 units in the column with the least air and in the one with the most",
     Refusal.LONG_FLUX: "take whole turns, each the sum of the row's air, off every flux (add them if the fluxes are negative): a whole turn brings every cell back, so nothing else changes; or divide the step",
     Refusal.LONG_AIR: "give fluxes that leave every cell 1 to 65,535; if the other sweeps of the step would bring the air back, make the whole step (zonal, meridional, remap) in parts, or make the meridional sweep or a remap first",
+    Refusal.EMITTER_ADDED: "remove a stack before you add it again with another cell or other units; add stacks of one cell as one emitter, with the sum of their units (to close one of them, remove the emitter and add it again with the rest); what does not fit 16 emitters give by emission",
+    Refusal.EMITTER_ABSENT: "remove each stack once, from the tracer that it was added to, and add the emitters anew after a load",
 }
 
 # The world's lists, in the order of the C struct.
-WORLD = ("air", "tracers")
+WORLD = ("air", "tracers", "ledger")
 # Those among them that each world has of its own, with their lengths on the largest grid.
-OWN = {}
+OWN = {"ledger": 408}
 
 # The parameters of each proved function after the grid's four numbers, with their types in the library.
 SIGNATURES = {
-    "load": (("air", "&[u32]"), ("tracers", "&[u32]")),
-    "emission": (("air", "&[u32]"), ("tracers", "&mut [u32]"), ("tracer", "u32"), ("cell", "u32"), ("amount", "u32")),
-    "withdrawal": (("air", "&[u32]"), ("tracers", "&mut [u32]"), ("tracer", "u32"), ("cell", "u32"), ("amount", "u32")),
-    "zonal": (("air", "&mut [u32]"), ("tracers", "&mut [u32]"), ("layer", "u32"), ("row", "u32"), ("fluxes", "&[i32]")),
-    "long_zonal": (("air", "&mut [u32]"), ("tracers", "&mut [u32]"), ("layer", "u32"), ("row", "u32"), ("fluxes", "&[i32]")),
-    "meridional": (("air", "&mut [u32]"), ("tracers", "&mut [u32]"), ("layer", "u32"), ("fluxes", "&[i32]")),
-    "remap": (("air", "&mut [u32]"), ("tracers", "&mut [u32]"), ("table", "&[u32]")),
-    "total": (("air", "&[u32]"), ("tracers", "&[u32]"), ("tracer", "u32")),
-    "cell": (("air", "&[u32]"), ("tracers", "&[u32]"), ("tracer", "u32"), ("cell", "u32")),
+    "load": (("air", "&[u32]"), ("tracers", "&[u32]"), ("ledger", "&mut [u32]")),
+    "emission": (("air", "&[u32]"), ("tracers", "&mut [u32]"), ("ledger", "&[u32]"), ("tracer", "u32"), ("cell", "u32"), ("amount", "u32")),
+    "withdrawal": (("air", "&[u32]"), ("tracers", "&mut [u32]"), ("ledger", "&[u32]"), ("tracer", "u32"), ("cell", "u32"), ("amount", "u32")),
+    "zonal": (("air", "&mut [u32]"), ("tracers", "&mut [u32]"), ("ledger", "&[u32]"), ("layer", "u32"), ("row", "u32"), ("fluxes", "&[i32]")),
+    "long_zonal": (("air", "&mut [u32]"), ("tracers", "&mut [u32]"), ("ledger", "&[u32]"), ("layer", "u32"), ("row", "u32"), ("fluxes", "&[i32]")),
+    "meridional": (("air", "&mut [u32]"), ("tracers", "&mut [u32]"), ("ledger", "&[u32]"), ("layer", "u32"), ("fluxes", "&[i32]")),
+    "remap": (("air", "&mut [u32]"), ("tracers", "&mut [u32]"), ("ledger", "&[u32]"), ("table", "&[u32]")),
+    "total": (("air", "&[u32]"), ("tracers", "&[u32]"), ("ledger", "&[u32]"), ("tracer", "u32")),
+    "cell": (("air", "&[u32]"), ("tracers", "&[u32]"), ("ledger", "&[u32]"), ("tracer", "u32"), ("cell", "u32")),
+    "add_emitter": (("air", "&[u32]"), ("tracers", "&[u32]"), ("ledger", "&mut [u32]"), ("tracer", "u32"), ("cell", "u32"), ("id", "u32"), ("units", "u32")),
+    "remove_emitter": (("air", "&[u32]"), ("tracers", "&[u32]"), ("ledger", "&mut [u32]"), ("tracer", "u32"), ("id", "u32")),
+    "tick": (("air", "&[u32]"), ("tracers", "&mut [u32]"), ("ledger", "&[u32]"), ("tracer", "u32")),
+    "units_a_tick": (("air", "&[u32]"), ("tracers", "&[u32]"), ("ledger", "&[u32]"), ("tracer", "u32")),
 }
+# The calls whose count has 64 bits: one function gives the refusal, a second, NAME_number, the count.
+WIDE = {"units_a_tick"}
 
 # Which property of a grid has the shape of a list, by its owner (the world, or a call) and name.
 SHAPES = {
     ("world", "air"): "air_shape",
     ("world", "tracers"): "tracers_shape",
+    ("world", "ledger"): "ledger_shape",
     ("zonal", "fluxes"): "zonal_fluxes_shape",
     ("long_zonal", "fluxes"): "long_zonal_fluxes_shape",
     ("meridional", "fluxes"): "meridional_fluxes_shape",
@@ -149,6 +166,18 @@ class Lengths:
     def tracers_shape(self):
         """The shape of such an array of numpy; one of one dimension serves too."""
         return (self.n, self.k, self.cells_in_layer,)
+
+    @property
+    def ledger_length(self):
+        """The length of ledger: N*51. In it: the emitters, a block for each tracer: at its place 0 how many
+        stand, at 1 and 2 the sum of their units, low and high 32 bits, from 3 on id, cell and units of
+        each."""
+        return self.n * 51
+
+    @property
+    def ledger_shape(self):
+        """The shape of such an array of numpy; one of one dimension serves too."""
+        return (self.n, 51,)
 
     @property
     def zonal_fluxes_length(self):
@@ -200,6 +229,13 @@ class Calls:
 
     __slots__ = ()
 
+    @property
+    def ledger(self):
+        """The world's own, which only calls write: the emitters, a block for each tracer: at its place 0 how
+        many stand, at 1 and 2 the sum of their units, low and high 32 bits, from 3 on id, cell and units of
+        each."""
+        return memoryview(self._kept["ledger"]).toreadonly()
+
     def emission(self, tracer, cell, amount):
         """Adds amount to one cell of one tracer. Cells are numbered over all layers. Refusals, in order: 1 2
         3 4 5 6."""
@@ -240,4 +276,25 @@ class Calls:
         """Reads one cell of one tracer. Cells are numbered over all layers. Returns the amount in the cell.
         Refusals, in order: 1 2 3 4 5."""
         return self._make("cell", tracer, cell)
+
+    def add_emitter(self, tracer, cell, id, units):
+        """Lets an emitter stand for one tracer: in each tick it gives so many units to the cell. Any number
+        is an id, and each tracer has its own. Cells are numbered over all layers. Refusals, in order: 1 2 3 4
+        5 18."""
+        self._make("add_emitter", tracer, cell, id, units)
+
+    def remove_emitter(self, tracer, id):
+        """Removes the emitter that one tracer has under the id. The tracer's last emitter takes its place in
+        the ledger. Refusals, in order: 1 2 3 4 5 19."""
+        self._make("remove_emitter", tracer, id)
+
+    def tick(self, tracer):
+        """Adds the units of every emitter of one tracer to its cell, or, if it is refused, of none. Refusals,
+        in order: 1 2 3 4 5 6."""
+        self._make("tick", tracer)
+
+    def units_a_tick(self, tracer):
+        """Reads how much a tick of one tracer emits. Returns the units that the tracer's emitters give in a
+        tick. Refusals, in order: 1 2 3 4 5."""
+        return self._make("units_a_tick", tracer)
 

@@ -3,7 +3,7 @@ import ctypes
 import functools
 import os
 
-from .calls import ABI, OWN, SIGNATURES, SONAME, WORLD
+from .calls import ABI, OWN, SIGNATURES, SONAME, WIDE, WORLD
 
 HERE = os.path.dirname(os.path.abspath(__file__))
 
@@ -43,12 +43,20 @@ def types(parameters):
 
 
 @functools.lru_cache(maxsize=None)
-def raw(call):
-    """The proved function of a call, which returns refusal * 2^32 + count."""
-    function = getattr(library(), "puldeho_raw_" + call)
-    function.restype = ctypes.c_uint64
+def raw(call, ending, returned):
+    """A proved function of a call, by the ending of its name and the type that it returns."""
+    function = getattr(library(), "puldeho_raw_" + call + ending)
+    function.restype = returned
     function.argtypes = [ctypes.c_uint32] * 4 + list(types(SIGNATURES[call]))
     return function
+
+
+def outcome(call, *arguments):
+    """The refusal's number, 0 if the call was accepted, and the count."""
+    if call in WIDE:
+        refusal = raw(call, "", ctypes.c_uint32)(*arguments)
+        return refusal, raw(call, "_number", ctypes.c_uint64)(*arguments)
+    return divmod(raw(call, "", ctypes.c_uint64)(*arguments), 1 << 32)
 
 
 @functools.lru_cache(maxsize=None)

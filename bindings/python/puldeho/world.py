@@ -7,7 +7,7 @@ from . import lists, shared
 from .calls import CONDITIONS, OWN, REMEDIES, SHAPES, SIGNATURES, WHY_SIZE, WORLD, Calls, Lengths, Refusal
 
 # Where `why` says for the world at hand what would help, the general remedy is left out.
-CURED = (Refusal.ZONAL, Refusal.MERIDIONAL, Refusal.REMAP, Refusal.LONG_FLUX, Refusal.LONG_AIR)
+CURED = (Refusal.ZONAL, Refusal.MERIDIONAL, Refusal.REMAP, Refusal.LONG_FLUX, Refusal.LONG_AIR, Refusal.EMITTER_ADDED)
 
 
 class Grid(Lengths, collections.namedtuple("Grid", "w r k n")):
@@ -56,8 +56,13 @@ class Refused(Exception):
         self.number = int(refusal)
 
     def __str__(self):
-        text = "%s refused with %d (%s): %s." % (self.call, self.number, CONDITIONS[self.refusal], self.why)
-        return text if self.refusal in CURED else text + " What to do: %s." % REMEDIES[self.refusal]
+        condition, remedy = CONDITIONS[self.refusal], REMEDIES[self.refusal]
+        ledger = self.refusal == Refusal.INDEX and "of the ledger" in self.why
+        if self.refusal == Refusal.INDEX and not ledger:
+            # What stands after a semicolon is for a ledger at fault.
+            condition, remedy = condition.split("; ")[0], remedy.split("; ")[0]
+        text = "%s refused with %d (%s): %s." % (self.call, self.number, condition, self.why)
+        return text if ledger or self.refusal in CURED else text + " What to do: %s." % remedy
 
 
 class World(Calls):
@@ -66,8 +71,9 @@ class World(Calls):
     Each list is anything with the buffer protocol that holds 32-bit unsigned numbers side by side and may be
     written, such as a numpy array of uint32, and is used without a copy: the calls change it in place. Arrays have
     one dimension or the shape grid.air_shape, grid.tracers_shape. A plain list of numbers is copied; the copy is
-    world.air or world.tracers. Do not write the lists while a call runs. A world takes no attributes of yours: a later version
-    may give a name to something of its own.
+    world.air or world.tracers. Do not write the lists while a call runs. The emitters that stand are in a list that the
+    world has of its own, world.ledger: none after a load, copied, restored and pickled with the world, and written by the
+    calls alone. A world takes no attributes of yours: a later version may give a name to something of its own.
     """
 
     __slots__ = ("_grid", "_kept", "_lists", "__weakref__")
@@ -153,10 +159,10 @@ class World(Calls):
         named = dict(self._lists, **{name: one for name, one in given.items() if isinstance(one, lists.Lent)})
         self._apart(named)
         arguments = [part for name, _ in parameters for part in lists.parts(named.get(name, given.get(name)))]
-        returned = shared.raw(call)(*self.grid, *arguments)
-        if returned >> 32:
-            raise Refused(call, Refusal(returned >> 32), self._why(call, given))
-        return returned & 0xFFFFFFFF
+        refusal, count = shared.outcome(call, *self.grid, *arguments)
+        if refusal:
+            raise Refused(call, Refusal(refusal), self._why(call, given))
+        return count
 
     def _why(self, call, given):
         """Why the library refuses the call in this world, in words."""

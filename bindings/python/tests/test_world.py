@@ -50,6 +50,46 @@ class CaseP(unittest.TestCase):
         one.long_zonal(0, 0, array.array("i", [400] * 4))
         self.assertEqual((one.air, one.tracers), (kept.air, kept.tracers))
 
+    def test_emitters(self):
+        one = world()
+        self.assertIsNone(one.tick(0))
+        self.assertIsNone(one.add_emitter(0, 3, 7, 40))
+        one.add_emitter(0, 3, 8, 60)
+        one.add_emitter(0, 4, 0, 30)
+        self.assertEqual(one.units_a_tick(0), 130)
+        self.assertIsNone(one.tick(0))
+        self.assertEqual(one.tracers.tolist(), [0, 0, 100, 300, 130, 0])
+        self.assertIsNone(one.remove_emitter(0, 7))
+        self.assertEqual(one.ledger.tolist(), [2, 90, 0, 0, 4, 30, 8, 3, 60] + [0] * (puldeho.LEDGER_BLOCK - 9))
+        self.assertEqual(len(one.ledger), GRID.ledger_length)
+        one.add_emitter(0, 0, 2**32 - 1, 2**32 - 1)
+        self.assertEqual(one.units_a_tick(0), 2**32 + 89)
+
+    def test_a_load_leaves_no_emitter(self):
+        one = world()
+        one.add_emitter(0, 3, 7, 40)
+        again = puldeho.World(GRID, one.air, one.tracers)
+        self.assertEqual((one.units_a_tick(0), again.units_a_tick(0)), (40, 0))
+
+    def test_emitters_added_again_after_a_load(self):
+        """As the guide does it, after chemistry."""
+        grid = GRID._replace(n=2)
+        one = puldeho.World(grid, AIR, TRACERS + TRACERS)
+        for tracer, stack, cell, units in ((0, 101, 3, 40), (1, 101, 3, 7), (0, 102, 3, 25), (0, 103, 5, 10)):
+            one.add_emitter(tracer, cell, stack, units)
+        one.remove_emitter(0, 101)
+        kept = one.ledger.tolist()
+        one = puldeho.World(grid, one.air, one.tracers)
+        for t in range(grid.n):
+            block = kept[t * puldeho.LEDGER_BLOCK:]
+            for i in range(block[0]):
+                one.add_emitter(tracer=t, id=block[3 + 3 * i], cell=block[4 + 3 * i], units=block[5 + 3 * i])
+        self.assertEqual((one.ledger.tolist(), one.units_a_tick(0), one.units_a_tick(1)), (kept, 35, 7))
+
+    def test_the_ledger_is_read_only(self):
+        with self.assertRaisesRegex(TypeError, "read-only"):
+            world().ledger[0] = 1
+
     def test_pairs(self):
         self.assertEqual(world().remap([(0, 0), (0, 65536)]), 6)
 
@@ -84,6 +124,20 @@ class Copies(unittest.TestCase):
         self.assertEqual((one.total(0), second.total(0)), (200, 400))
 
 
+    def test_emitters_are_copied(self):
+        one = world()
+        one.add_emitter(0, 3, 7, 40)
+        for second in (one.copy(), copy.copy(one), copy.deepcopy(one), pickle.loads(pickle.dumps(one))):
+            second.add_emitter(0, 3, 8, 60)
+            second.tick(0)
+            self.assertEqual((second.units_a_tick(0), second.total(0)), (100, 500))
+            self.assertEqual((one.units_a_tick(0), one.total(0)), (40, 400))
+        kept = one.copy()
+        one.remove_emitter(0, 7)
+        one.restore(kept)
+        self.assertEqual((one.units_a_tick(0), one.ledger), (40, kept.ledger))
+
+
 class NotTaken(unittest.TestCase):
     def test_other_numbers(self):
         with self.assertRaisesRegex(TypeError, "air: wants 32-bit unsigned numbers.*'Q'"):
@@ -99,6 +153,9 @@ class NotTaken(unittest.TestCase):
                 world().emission(0, cell, amount)
         with self.assertRaisesRegex(TypeError, "amount: 1.5 is not a whole number"):
             world().emission(0, 3, 1.5)
+        for id, units in ((-1, 1), (2**32, 1), (1, -1), (1, 2**32)):
+            with self.assertRaisesRegex(ValueError, "is (below 0|above 4294967295)"):
+                world().add_emitter(0, 3, id, units)
         with self.assertRaisesRegex(OverflowError, "fluxes: "):
             world().zonal(0, 0, [0, 2**31, 0, 0])
         with self.assertRaisesRegex(OverflowError, "air: "):
@@ -153,6 +210,37 @@ class Refusals(unittest.TestCase):
         self.refused(8, "long_zonal", 0, 0, [0, 1048561, 0, 0])
         self.refused(16, "long_zonal", 0, 0, [401, 400, 400, 400])
         self.refused(17, "long_zonal", 0, 0, [100, 0, 0, 0])
+        self.refused(5, "add_emitter", 0, 6, 7, 40)
+        self.refused(5, "units_a_tick", 1)
+        self.refused(19, "remove_emitter", 0, 7)
+
+    def test_of_emitters(self):
+        one = world()
+        for number in range(16):
+            one.add_emitter(0, 3, number, 2**32 - 1)
+        for wanted, call, arguments, words in (
+            (18, "add_emitter", (0, 4, 3, 1), "tracer 0 already has the id 3: emitter 3, in cell 3"),
+            (18, "add_emitter", (0, 4, 16, 1), "tracer 0 has 16 emitters, no more may stand"),
+            (19, "remove_emitter", (0, 16), "it has the ids 0, 1, 2, 3"),
+            (6, "tick", (0,), "a tick gives 68719476720, the units of 16 emitters"),
+        ):
+            kept = one.copy()
+            with self.assertRaises(puldeho.Refused) as caught:
+                getattr(one, call)(*arguments)
+            self.assertEqual(caught.exception.number, wanted)
+            self.assertIn(words, caught.exception.why)
+            self.assertEqual("What to do" in str(caught.exception), wanted != 18)
+            self.assertEqual((one.tracers, one.ledger), (kept.tracers, kept.ledger))
+
+    def test_of_a_broken_ledger(self):
+        one = world()
+        one.add_emitter(0, 3, 7, 40)
+        one._kept["ledger"][1] = 41
+        with self.assertRaisesRegex(puldeho.Refused, "tracer 0 has the sum 41 .*its 1 emitter sum to 40.*load again") as caught:
+            one.tick(0)
+        self.assertIn("in the ledger some tracer has", str(caught.exception))
+        self.assertNotIn("What to do", str(caught.exception))
+        self.assertEqual(one.total(0), 400)
 
     def test_words(self):
         refused = self.refused(9, "zonal", 0, 0, [0, 100, 0, 0])
@@ -160,7 +248,10 @@ class Refusals(unittest.TestCase):
         self.assertNotIn("What to do", str(refused))
         self.assertTrue(refused.why.endswith("must diverge less at this cell"))
         self.assertNotIn("What to do", str(self.refused(10, "meridional", 0, [100, 0, 0, 0, 0, 0, 0, 0])))
-        self.assertIn("What to do: count from 0", str(self.refused(5, "total", 1)))
+        absent = str(self.refused(5, "total", 1))
+        self.assertIn("total refused with 5 (the tracer, cell, layer or row is absent): there is no tracer 1", absent)
+        self.assertIn("What to do: count from 0", absent)
+        self.assertNotIn("ledger", absent)
         for fluxes, number in ([401] * 4, 16), ([100, 0, 0, 0], 17):
             self.assertNotIn("What to do", str(self.refused(number, "long_zonal", 0, 0, fluxes)))
         self.assertIn("with 400 taken off every flux", self.refused(16, "long_zonal", 0, 0, [401] * 4).why)
@@ -196,6 +287,7 @@ class Grids(unittest.TestCase):
         grid = puldeho.Grid(w=6, r=3, k=2, n=5)
         lengths = (grid.cells_in_layer, grid.air_length, grid.tracers_length)
         self.assertEqual(lengths, (20, 40, 200))
+        self.assertEqual(grid.ledger_shape, (5, puldeho.LEDGER_BLOCK))
         self.assertEqual((grid.zonal_fluxes_length, grid.meridional_fluxes_length, grid.remap_table_length), (6, 24, 6))
         self.assertEqual((grid.long_zonal_fluxes_length, grid.long_zonal_fluxes_shape), (6, (6,)))
         self.assertEqual((grid.air_shape, grid.tracers_shape), ((2, 20), (5, 2, 20)))

@@ -1,6 +1,6 @@
 // Made by tools/bindings from the tables of bindings/: not to be edited.
 
-use crate::{outcome, words, Grid};
+use crate::{outcome, wide_outcome, words, Grid};
 use std::ffi::{c_char, c_int};
 
 /// Bytes that are room enough for any text that says why a call is refused.
@@ -14,6 +14,9 @@ struct CWorld {
     air_length: usize,
     tracers: *const u32,
     tracers_length: usize,
+    ledger: *const u32,
+    ledger_length: usize,
+    own_ledger: [u32; 408],
 }
 
 extern "C" {
@@ -26,19 +29,23 @@ extern "C" {
     fn puldeho_why_remap(world: *const CWorld, table: *const u32, table_length: usize, text: *mut c_char, size: usize) -> c_int;
     fn puldeho_why_total(world: *const CWorld, tracer: u32, text: *mut c_char, size: usize) -> c_int;
     fn puldeho_why_cell(world: *const CWorld, tracer: u32, cell: u32, text: *mut c_char, size: usize) -> c_int;
+    fn puldeho_why_add_emitter(world: *const CWorld, tracer: u32, cell: u32, id: u32, units: u32, text: *mut c_char, size: usize) -> c_int;
+    fn puldeho_why_remove_emitter(world: *const CWorld, tracer: u32, id: u32, text: *mut c_char, size: usize) -> c_int;
+    fn puldeho_why_tick(world: *const CWorld, tracer: u32, text: *mut c_char, size: usize) -> c_int;
+    fn puldeho_why_units_a_tick(world: *const CWorld, tracer: u32, text: *mut c_char, size: usize) -> c_int;
 }
 
 /// Does nothing, and is linked with the library of this version only: another one's functions may take other arguments.
 pub(crate) fn same_version() {
     extern "C" {
-        fn puldeho_abi_0_2();
+        fn puldeho_abi_0_3();
     }
     // SAFETY: it takes nothing and does nothing.
-    unsafe { puldeho_abi_0_2() }
+    unsafe { puldeho_abi_0_3() }
 }
 
 /// The version of the library that this wrapper was made for.
-pub const VERSION: &str = "0.2.0";
+pub const VERSION: &str = "0.3.0";
 
 /// The most air of a cell; the least is 1
 pub const AIR_LIMIT: u32 = 65535;
@@ -62,6 +69,10 @@ pub const MOST_ROWS: u32 = 44;
 pub const MOST_LAYERS: u32 = 32;
 /// The largest N
 pub const MOST_TRACERS: u32 = 8;
+/// The most emitters of a tracer that stand at once
+pub const MOST_EMITTERS: u32 = 16;
+/// How many numbers of the ledger each tracer has; tracer t's block starts at t times this number. Later versions have more
+pub const LEDGER_BLOCK: u32 = 51;
 
 /// Why a call was refused. It then changed nothing. `refusal as u32` is its number.
 #[derive(Clone, Copy, Debug, PartialEq, Eq)]
@@ -75,7 +86,7 @@ pub enum Refusal {
     AirRange = 3,
     /// a tracer's total is above 268,435,455
     Totals = 4,
-    /// the tracer, cell, layer or row is absent
+    /// the tracer, cell, layer or row is absent; in add_emitter, remove_emitter, tick and units_a_tick also: in the ledger some tracer has more than 16 emitters, an emitter in an absent cell, an id twice or a false sum
     Index = 5,
     /// the total would pass 268,435,455
     Emission = 6,
@@ -95,6 +106,10 @@ pub enum Refusal {
     LongFlux = 16,
     /// air afterwards leaves 1 to 65,535
     LongAir = 17,
+    /// the tracer has 16 emitters or already has that id
+    EmitterAdded = 18,
+    /// the tracer has no emitter of that id
+    EmitterAbsent = 19,
 }
 
 impl Refusal {
@@ -114,6 +129,8 @@ impl Refusal {
         Refusal::Remap,
         Refusal::LongFlux,
         Refusal::LongAir,
+        Refusal::EmitterAdded,
+        Refusal::EmitterAbsent,
     ];
 
     /// The refusal's condition, in words.
@@ -123,7 +140,7 @@ impl Refusal {
             Refusal::Lengths => "a lent length is not the grid's",
             Refusal::AirRange => "a cell's air is 0 or above 65,535",
             Refusal::Totals => "a tracer's total is above 268,435,455",
-            Refusal::Index => "the tracer, cell, layer or row is absent",
+            Refusal::Index => "the tracer, cell, layer or row is absent; in add_emitter, remove_emitter, tick and units_a_tick also: in the ledger some tracer has more than 16 emitters, an emitter in an absent cell, an id twice or a false sum",
             Refusal::Emission => "the total would pass 268,435,455",
             Refusal::Withdrawal => "the cell has less than the amount",
             Refusal::Fluxes => "a flux's size is above 1,048,560 (zonal) or 65,535 (meridional)",
@@ -133,6 +150,8 @@ impl Refusal {
             Refusal::Remap => "in some column the edges do not rise strictly, or a new layer exceeds 65,535",
             Refusal::LongFlux => "a flux's size exceeds the row's air",
             Refusal::LongAir => "air afterwards leaves 1 to 65,535",
+            Refusal::EmitterAdded => "the tracer has 16 emitters or already has that id",
+            Refusal::EmitterAbsent => "the tracer has no emitter of that id",
         }
     }
 
@@ -143,8 +162,8 @@ impl Refusal {
             Refusal::Lengths => "take every length from the grid's length functions, and give lengths in numbers",
             Refusal::AirRange => "choose the unit of air so that every cell has 1 to 65,535, with room for the changes within a step",
             Refusal::Totals => "choose a larger unit for that gas, so that its total with all later emissions stays below the limit",
-            Refusal::Index => "count from 0, and take cell numbers from the grid's functions for cells and caps",
-            Refusal::Emission => "load the gas in a larger unit, with room for all emissions of the run",
+            Refusal::Index => "count from 0, and take cell numbers from the grid's functions for cells and caps; if the ledger is at fault, load the world again, which leaves no emitter standing, and add the emitters anew",
+            Refusal::Emission => "correct an amount that is wrong, and remove an emitter whose units are wrong; else load the gas in a larger unit, with room for all emissions and ticks of the run, and add its emitters anew, with their units in the larger unit",
             Refusal::Withdrawal => "read the cell first, and withdraw at most what it has",
             Refusal::Fluxes => "give fluxes in units of air for this step, and divide the step if they are still too large",
             Refusal::Zonal => "make the sweep as two or more, each with a part of the fluxes, or as a long zonal sweep (in the library only), which gives other amounts of tracer; if a cell would end with no air or too much, make the whole step (zonal, meridional, remap) in parts, or make the meridional sweep or a remap first",
@@ -153,6 +172,8 @@ impl Refusal {
             Refusal::Remap => "use a = 0, and choose the b so that every layer gets 1 to 65,535 units in the column with the least air and in the one with the most",
             Refusal::LongFlux => "take whole turns, each the sum of the row's air, off every flux (add them if the fluxes are negative): a whole turn brings every cell back, so nothing else changes; or divide the step",
             Refusal::LongAir => "give fluxes that leave every cell 1 to 65,535; if the other sweeps of the step would bring the air back, make the whole step (zonal, meridional, remap) in parts, or make the meridional sweep or a remap first",
+            Refusal::EmitterAdded => "remove a stack before you add it again with another cell or other units; add stacks of one cell as one emitter, with the sum of their units (to close one of them, remove the emitter and add it again with the rest); what does not fit 16 emitters give by emission",
+            Refusal::EmitterAbsent => "remove each stack once, from the tracer that it was added to, and add the emitters anew after a load",
         }
     }
 }
@@ -167,6 +188,11 @@ impl Grid {
     /// The length of tracers: N*K*C. In it: the amounts of every tracer; tracer t starts at t*K*C.
     pub fn tracers_length(self) -> usize {
         self.n as usize * self.k as usize * self.cells_in_layer()
+    }
+
+    /// The length of ledger: N*51. In it: the emitters, a block for each tracer: at its place 0 how many stand, at 1 and 2 the sum of their units, low and high 32 bits, from 3 on id, cell and units of each.
+    pub fn ledger_length(self) -> usize {
+        self.n as usize * 51
     }
 
     /// The length of fluxes of a zonal call: W. In it: flux i crosses the face from column i to column i + 1, the last to column 0; positive eastward.
@@ -197,19 +223,20 @@ pub struct World {
     grid: Grid,
     air: Vec<u32>,
     tracers: Vec<u32>,
+    ledger: Vec<u32>,
 }
 
 impl World {
     /// Takes the lists as the world from now on, if the load is accepted.
     pub fn load(grid: Grid, air: impl Into<Vec<u32>>, tracers: impl Into<Vec<u32>>) -> Result<World, Refusal> {
-        let world = World { grid, air: air.into(), tracers: tracers.into() };
-        raw::load(grid, &world.air, &world.tracers)?;
+        let mut world = World { grid, air: air.into(), tracers: tracers.into(), ledger: vec![0; grid.ledger_length().min(408)] };
+        raw::load(grid, &world.air, &world.tracers, &mut world.ledger)?;
         Ok(world)
     }
 
     /// Why a load of these lists is refused, in words.
     pub fn why_load(grid: Grid, air: impl Into<Vec<u32>>, tracers: impl Into<Vec<u32>>) -> String {
-        let given = World { grid, air: air.into(), tracers: tracers.into() };
+        let given = World { grid, air: air.into(), tracers: tracers.into(), ledger: vec![0; grid.ledger_length().min(408)] };
         let world = given.lent();
         // SAFETY: each pointer goes with its list's length, and nothing but the text is written.
         words(|text, size| unsafe { puldeho_why_load(&world, text, size) })
@@ -223,6 +250,9 @@ impl World {
             air_length: self.air.len(),
             tracers: self.tracers.as_ptr(),
             tracers_length: self.tracers.len(),
+            ledger: self.ledger.as_ptr(),
+            ledger_length: self.ledger.len(),
+            own_ledger: [0; 408],
         }
     }
 
@@ -241,11 +271,16 @@ impl World {
         &self.tracers
     }
 
+    /// The emitters, a block for each tracer: at its place 0 how many stand, at 1 and 2 the sum of their units, low and high 32 bits, from 3 on id, cell and units of each.
+    pub fn ledger(&self) -> &[u32] {
+        &self.ledger
+    }
+
     /// Adds amount to one cell of one tracer. Cells are numbered over all layers.
     ///
     /// Refusals, in order: 1 2 3 4 5 6.
     pub fn emission(&mut self, tracer: u32, cell: u32, amount: u32) -> Result<(), Refusal> {
-        raw::emission(self.grid, &self.air, &mut self.tracers, tracer, cell, amount)?;
+        raw::emission(self.grid, &self.air, &mut self.tracers, &self.ledger, tracer, cell, amount)?;
         Ok(())
     }
 
@@ -253,7 +288,7 @@ impl World {
     ///
     /// Refusals, in order: 1 2 3 4 5 7.
     pub fn withdrawal(&mut self, tracer: u32, cell: u32, amount: u32) -> Result<(), Refusal> {
-        raw::withdrawal(self.grid, &self.air, &mut self.tracers, tracer, cell, amount)?;
+        raw::withdrawal(self.grid, &self.air, &mut self.tracers, &self.ledger, tracer, cell, amount)?;
         Ok(())
     }
 
@@ -263,14 +298,14 @@ impl World {
     ///
     /// Refusals, in order: 1 2 3 4 5 8 9.
     pub fn zonal(&mut self, layer: u32, row: u32, fluxes: &[i32]) -> Result<u32, Refusal> {
-        raw::zonal(self.grid, &mut self.air, &mut self.tracers, layer, row, fluxes)
+        raw::zonal(self.grid, &mut self.air, &mut self.tracers, &self.ledger, layer, row, fluxes)
     }
 
     /// Sweeps one row of one layer by W fluxes, positive eastward, without substeps: a face takes whole cells and then a part of the next. Its amounts are not those of zonal.
     ///
     /// Refusals, in order: 1 2 3 4 5 8 16 17.
     pub fn long_zonal(&mut self, layer: u32, row: u32, fluxes: &[i32]) -> Result<(), Refusal> {
-        raw::long_zonal(self.grid, &mut self.air, &mut self.tracers, layer, row, fluxes)?;
+        raw::long_zonal(self.grid, &mut self.air, &mut self.tracers, &self.ledger, layer, row, fluxes)?;
         Ok(())
     }
 
@@ -280,7 +315,7 @@ impl World {
     ///
     /// Refusals, in order: 1 2 3 4 5 8 10.
     pub fn meridional(&mut self, layer: u32, fluxes: &[i32]) -> Result<u32, Refusal> {
-        raw::meridional(self.grid, &mut self.air, &mut self.tracers, layer, fluxes)
+        raw::meridional(self.grid, &mut self.air, &mut self.tracers, &self.ledger, layer, fluxes)
     }
 
     /// Remaps all columns to the edges of a table of K + 1 pairs a, b, lent as 2*(K + 1) numbers.
@@ -289,7 +324,7 @@ impl World {
     ///
     /// Refusals, in order: 1 2 3 4 11 12.
     pub fn remap(&mut self, table: &[u32]) -> Result<u32, Refusal> {
-        raw::remap(self.grid, &mut self.air, &mut self.tracers, table)
+        raw::remap(self.grid, &mut self.air, &mut self.tracers, &self.ledger, table)
     }
 
     /// Reads the total of one tracer.
@@ -298,7 +333,7 @@ impl World {
     ///
     /// Refusals, in order: 1 2 3 4 5.
     pub fn total(&self, tracer: u32) -> Result<u32, Refusal> {
-        raw::total(self.grid, &self.air, &self.tracers, tracer)
+        raw::total(self.grid, &self.air, &self.tracers, &self.ledger, tracer)
     }
 
     /// Reads one cell of one tracer. Cells are numbered over all layers.
@@ -307,7 +342,40 @@ impl World {
     ///
     /// Refusals, in order: 1 2 3 4 5.
     pub fn cell(&self, tracer: u32, cell: u32) -> Result<u32, Refusal> {
-        raw::cell(self.grid, &self.air, &self.tracers, tracer, cell)
+        raw::cell(self.grid, &self.air, &self.tracers, &self.ledger, tracer, cell)
+    }
+
+    /// Lets an emitter stand for one tracer: in each tick it gives so many units to the cell. Any number is an id, and each tracer has its own. Cells are numbered over all layers.
+    ///
+    /// Refusals, in order: 1 2 3 4 5 18.
+    pub fn add_emitter(&mut self, tracer: u32, cell: u32, id: u32, units: u32) -> Result<(), Refusal> {
+        raw::add_emitter(self.grid, &self.air, &self.tracers, &mut self.ledger, tracer, cell, id, units)?;
+        Ok(())
+    }
+
+    /// Removes the emitter that one tracer has under the id. The tracer's last emitter takes its place in the ledger.
+    ///
+    /// Refusals, in order: 1 2 3 4 5 19.
+    pub fn remove_emitter(&mut self, tracer: u32, id: u32) -> Result<(), Refusal> {
+        raw::remove_emitter(self.grid, &self.air, &self.tracers, &mut self.ledger, tracer, id)?;
+        Ok(())
+    }
+
+    /// Adds the units of every emitter of one tracer to its cell, or, if it is refused, of none.
+    ///
+    /// Refusals, in order: 1 2 3 4 5 6.
+    pub fn tick(&mut self, tracer: u32) -> Result<(), Refusal> {
+        raw::tick(self.grid, &self.air, &mut self.tracers, &self.ledger, tracer)?;
+        Ok(())
+    }
+
+    /// Reads how much a tick of one tracer emits.
+    ///
+    /// It gives the units that the tracer's emitters give in a tick.
+    ///
+    /// Refusals, in order: 1 2 3 4 5.
+    pub fn units_a_tick(&self, tracer: u32) -> Result<u64, Refusal> {
+        raw::units_a_tick(self.grid, &self.air, &self.tracers, &self.ledger, tracer)
     }
 
     /// Why the call is refused in this world, in words; ask after the refusal, before the world changes.
@@ -365,23 +433,53 @@ impl World {
         // SAFETY: each pointer goes with its list's length, and nothing but the text is written.
         words(|text, size| unsafe { puldeho_why_cell(&world, tracer, cell, text, size) })
     }
+
+    /// Why the call is refused in this world, in words; ask after the refusal, before the world changes.
+    pub fn why_add_emitter(&self, tracer: u32, cell: u32, id: u32, units: u32) -> String {
+        let world = self.lent();
+        // SAFETY: each pointer goes with its list's length, and nothing but the text is written.
+        words(|text, size| unsafe { puldeho_why_add_emitter(&world, tracer, cell, id, units, text, size) })
+    }
+
+    /// Why the call is refused in this world, in words; ask after the refusal, before the world changes.
+    pub fn why_remove_emitter(&self, tracer: u32, id: u32) -> String {
+        let world = self.lent();
+        // SAFETY: each pointer goes with its list's length, and nothing but the text is written.
+        words(|text, size| unsafe { puldeho_why_remove_emitter(&world, tracer, id, text, size) })
+    }
+
+    /// Why the call is refused in this world, in words; ask after the refusal, before the world changes.
+    pub fn why_tick(&self, tracer: u32) -> String {
+        let world = self.lent();
+        // SAFETY: each pointer goes with its list's length, and nothing but the text is written.
+        words(|text, size| unsafe { puldeho_why_tick(&world, tracer, text, size) })
+    }
+
+    /// Why the call is refused in this world, in words; ask after the refusal, before the world changes.
+    pub fn why_units_a_tick(&self, tracer: u32) -> String {
+        let world = self.lent();
+        // SAFETY: each pointer goes with its list's length, and nothing but the text is written.
+        words(|text, size| unsafe { puldeho_why_units_a_tick(&world, tracer, text, size) })
+    }
 }
 
 /// The calls over lists that the caller keeps and lends, each with the grid: any numbers and lengths are answered.
 /// A later version may lend further lists; programs over [`World`] do not change then.
 pub mod raw {
-    use super::{outcome, Grid, Refusal};
+    use super::{outcome, wide_outcome, Grid, Refusal};
 
     extern "C" {
         fn puldeho_raw_load(
             w: u32, r: u32, k: u32, n: u32,
             air: *const u32, air_length: usize,
             tracers: *const u32, tracers_length: usize,
+            ledger: *mut u32, ledger_length: usize,
         ) -> u64;
         fn puldeho_raw_emission(
             w: u32, r: u32, k: u32, n: u32,
             air: *const u32, air_length: usize,
             tracers: *mut u32, tracers_length: usize,
+            ledger: *const u32, ledger_length: usize,
             tracer: u32,
             cell: u32,
             amount: u32,
@@ -390,6 +488,7 @@ pub mod raw {
             w: u32, r: u32, k: u32, n: u32,
             air: *const u32, air_length: usize,
             tracers: *mut u32, tracers_length: usize,
+            ledger: *const u32, ledger_length: usize,
             tracer: u32,
             cell: u32,
             amount: u32,
@@ -398,6 +497,7 @@ pub mod raw {
             w: u32, r: u32, k: u32, n: u32,
             air: *mut u32, air_length: usize,
             tracers: *mut u32, tracers_length: usize,
+            ledger: *const u32, ledger_length: usize,
             layer: u32,
             row: u32,
             fluxes: *const i32, fluxes_length: usize,
@@ -406,6 +506,7 @@ pub mod raw {
             w: u32, r: u32, k: u32, n: u32,
             air: *mut u32, air_length: usize,
             tracers: *mut u32, tracers_length: usize,
+            ledger: *const u32, ledger_length: usize,
             layer: u32,
             row: u32,
             fluxes: *const i32, fluxes_length: usize,
@@ -414,6 +515,7 @@ pub mod raw {
             w: u32, r: u32, k: u32, n: u32,
             air: *mut u32, air_length: usize,
             tracers: *mut u32, tracers_length: usize,
+            ledger: *const u32, ledger_length: usize,
             layer: u32,
             fluxes: *const i32, fluxes_length: usize,
         ) -> u64;
@@ -421,30 +523,73 @@ pub mod raw {
             w: u32, r: u32, k: u32, n: u32,
             air: *mut u32, air_length: usize,
             tracers: *mut u32, tracers_length: usize,
+            ledger: *const u32, ledger_length: usize,
             table: *const u32, table_length: usize,
         ) -> u64;
         fn puldeho_raw_total(
             w: u32, r: u32, k: u32, n: u32,
             air: *const u32, air_length: usize,
             tracers: *const u32, tracers_length: usize,
+            ledger: *const u32, ledger_length: usize,
             tracer: u32,
         ) -> u64;
         fn puldeho_raw_cell(
             w: u32, r: u32, k: u32, n: u32,
             air: *const u32, air_length: usize,
             tracers: *const u32, tracers_length: usize,
+            ledger: *const u32, ledger_length: usize,
             tracer: u32,
             cell: u32,
         ) -> u64;
+        fn puldeho_raw_add_emitter(
+            w: u32, r: u32, k: u32, n: u32,
+            air: *const u32, air_length: usize,
+            tracers: *const u32, tracers_length: usize,
+            ledger: *mut u32, ledger_length: usize,
+            tracer: u32,
+            cell: u32,
+            id: u32,
+            units: u32,
+        ) -> u64;
+        fn puldeho_raw_remove_emitter(
+            w: u32, r: u32, k: u32, n: u32,
+            air: *const u32, air_length: usize,
+            tracers: *const u32, tracers_length: usize,
+            ledger: *mut u32, ledger_length: usize,
+            tracer: u32,
+            id: u32,
+        ) -> u64;
+        fn puldeho_raw_tick(
+            w: u32, r: u32, k: u32, n: u32,
+            air: *const u32, air_length: usize,
+            tracers: *mut u32, tracers_length: usize,
+            ledger: *const u32, ledger_length: usize,
+            tracer: u32,
+        ) -> u64;
+        fn puldeho_raw_units_a_tick(
+            w: u32, r: u32, k: u32, n: u32,
+            air: *const u32, air_length: usize,
+            tracers: *const u32, tracers_length: usize,
+            ledger: *const u32, ledger_length: usize,
+            tracer: u32,
+        ) -> u32;
+        fn puldeho_raw_units_a_tick_number(
+            w: u32, r: u32, k: u32, n: u32,
+            air: *const u32, air_length: usize,
+            tracers: *const u32, tracers_length: usize,
+            ledger: *const u32, ledger_length: usize,
+            tracer: u32,
+        ) -> u64;
 }
 
-    /// Tests the lent lists, which are the world from then on, and changes no number in them.
+    /// Tests the grid and the lists air and tracers, which are the world from then on, and changes no number in them. Leaves no emitter standing: it writes 0 over the whole ledger and does not look at what stood there.
     ///
     /// Count: 0. Refusals, in order: 1 2 3 4.
     pub fn load(
         grid: Grid,
         air: &[u32],
         tracers: &[u32],
+        ledger: &mut [u32],
     ) -> Result<u32, Refusal> {
         // SAFETY: each pointer goes with its slice's length, and the borrows keep all others from what is written.
         outcome(unsafe {
@@ -452,6 +597,7 @@ pub mod raw {
                 grid.w, grid.r, grid.k, grid.n,
                 air.as_ptr(), air.len(),
                 tracers.as_ptr(), tracers.len(),
+                ledger.as_mut_ptr(), ledger.len(),
             )
         })
     }
@@ -463,6 +609,7 @@ pub mod raw {
         grid: Grid,
         air: &[u32],
         tracers: &mut [u32],
+        ledger: &[u32],
         tracer: u32,
         cell: u32,
         amount: u32,
@@ -473,6 +620,7 @@ pub mod raw {
                 grid.w, grid.r, grid.k, grid.n,
                 air.as_ptr(), air.len(),
                 tracers.as_mut_ptr(), tracers.len(),
+                ledger.as_ptr(), ledger.len(),
                 tracer,
                 cell,
                 amount,
@@ -487,6 +635,7 @@ pub mod raw {
         grid: Grid,
         air: &[u32],
         tracers: &mut [u32],
+        ledger: &[u32],
         tracer: u32,
         cell: u32,
         amount: u32,
@@ -497,6 +646,7 @@ pub mod raw {
                 grid.w, grid.r, grid.k, grid.n,
                 air.as_ptr(), air.len(),
                 tracers.as_mut_ptr(), tracers.len(),
+                ledger.as_ptr(), ledger.len(),
                 tracer,
                 cell,
                 amount,
@@ -511,6 +661,7 @@ pub mod raw {
         grid: Grid,
         air: &mut [u32],
         tracers: &mut [u32],
+        ledger: &[u32],
         layer: u32,
         row: u32,
         fluxes: &[i32],
@@ -521,6 +672,7 @@ pub mod raw {
                 grid.w, grid.r, grid.k, grid.n,
                 air.as_mut_ptr(), air.len(),
                 tracers.as_mut_ptr(), tracers.len(),
+                ledger.as_ptr(), ledger.len(),
                 layer,
                 row,
                 fluxes.as_ptr(), fluxes.len(),
@@ -535,6 +687,7 @@ pub mod raw {
         grid: Grid,
         air: &mut [u32],
         tracers: &mut [u32],
+        ledger: &[u32],
         layer: u32,
         row: u32,
         fluxes: &[i32],
@@ -545,6 +698,7 @@ pub mod raw {
                 grid.w, grid.r, grid.k, grid.n,
                 air.as_mut_ptr(), air.len(),
                 tracers.as_mut_ptr(), tracers.len(),
+                ledger.as_ptr(), ledger.len(),
                 layer,
                 row,
                 fluxes.as_ptr(), fluxes.len(),
@@ -559,6 +713,7 @@ pub mod raw {
         grid: Grid,
         air: &mut [u32],
         tracers: &mut [u32],
+        ledger: &[u32],
         layer: u32,
         fluxes: &[i32],
     ) -> Result<u32, Refusal> {
@@ -568,6 +723,7 @@ pub mod raw {
                 grid.w, grid.r, grid.k, grid.n,
                 air.as_mut_ptr(), air.len(),
                 tracers.as_mut_ptr(), tracers.len(),
+                ledger.as_ptr(), ledger.len(),
                 layer,
                 fluxes.as_ptr(), fluxes.len(),
             )
@@ -581,6 +737,7 @@ pub mod raw {
         grid: Grid,
         air: &mut [u32],
         tracers: &mut [u32],
+        ledger: &[u32],
         table: &[u32],
     ) -> Result<u32, Refusal> {
         // SAFETY: each pointer goes with its slice's length, and the borrows keep all others from what is written.
@@ -589,6 +746,7 @@ pub mod raw {
                 grid.w, grid.r, grid.k, grid.n,
                 air.as_mut_ptr(), air.len(),
                 tracers.as_mut_ptr(), tracers.len(),
+                ledger.as_ptr(), ledger.len(),
                 table.as_ptr(), table.len(),
             )
         })
@@ -601,6 +759,7 @@ pub mod raw {
         grid: Grid,
         air: &[u32],
         tracers: &[u32],
+        ledger: &[u32],
         tracer: u32,
     ) -> Result<u32, Refusal> {
         // SAFETY: each pointer goes with its slice's length, and the borrows keep all others from what is written.
@@ -609,6 +768,7 @@ pub mod raw {
                 grid.w, grid.r, grid.k, grid.n,
                 air.as_ptr(), air.len(),
                 tracers.as_ptr(), tracers.len(),
+                ledger.as_ptr(), ledger.len(),
                 tracer,
             )
         })
@@ -621,6 +781,7 @@ pub mod raw {
         grid: Grid,
         air: &[u32],
         tracers: &[u32],
+        ledger: &[u32],
         tracer: u32,
         cell: u32,
     ) -> Result<u32, Refusal> {
@@ -630,8 +791,113 @@ pub mod raw {
                 grid.w, grid.r, grid.k, grid.n,
                 air.as_ptr(), air.len(),
                 tracers.as_ptr(), tracers.len(),
+                ledger.as_ptr(), ledger.len(),
                 tracer,
                 cell,
+            )
+        })
+    }
+
+    /// Lets an emitter stand for one tracer: in each tick it gives so many units to the cell. Any number is an id, and each tracer has its own. Cells are numbered over all layers.
+    ///
+    /// Count: 0. Refusals, in order: 1 2 3 4 5 18.
+    pub fn add_emitter(
+        grid: Grid,
+        air: &[u32],
+        tracers: &[u32],
+        ledger: &mut [u32],
+        tracer: u32,
+        cell: u32,
+        id: u32,
+        units: u32,
+    ) -> Result<u32, Refusal> {
+        // SAFETY: each pointer goes with its slice's length, and the borrows keep all others from what is written.
+        outcome(unsafe {
+            puldeho_raw_add_emitter(
+                grid.w, grid.r, grid.k, grid.n,
+                air.as_ptr(), air.len(),
+                tracers.as_ptr(), tracers.len(),
+                ledger.as_mut_ptr(), ledger.len(),
+                tracer,
+                cell,
+                id,
+                units,
+            )
+        })
+    }
+
+    /// Removes the emitter that one tracer has under the id. The tracer's last emitter takes its place in the ledger.
+    ///
+    /// Count: 0. Refusals, in order: 1 2 3 4 5 19.
+    pub fn remove_emitter(
+        grid: Grid,
+        air: &[u32],
+        tracers: &[u32],
+        ledger: &mut [u32],
+        tracer: u32,
+        id: u32,
+    ) -> Result<u32, Refusal> {
+        // SAFETY: each pointer goes with its slice's length, and the borrows keep all others from what is written.
+        outcome(unsafe {
+            puldeho_raw_remove_emitter(
+                grid.w, grid.r, grid.k, grid.n,
+                air.as_ptr(), air.len(),
+                tracers.as_ptr(), tracers.len(),
+                ledger.as_mut_ptr(), ledger.len(),
+                tracer,
+                id,
+            )
+        })
+    }
+
+    /// Adds the units of every emitter of one tracer to its cell, or, if it is refused, of none.
+    ///
+    /// Count: 0. Refusals, in order: 1 2 3 4 5 6.
+    pub fn tick(
+        grid: Grid,
+        air: &[u32],
+        tracers: &mut [u32],
+        ledger: &[u32],
+        tracer: u32,
+    ) -> Result<u32, Refusal> {
+        // SAFETY: each pointer goes with its slice's length, and the borrows keep all others from what is written.
+        outcome(unsafe {
+            puldeho_raw_tick(
+                grid.w, grid.r, grid.k, grid.n,
+                air.as_ptr(), air.len(),
+                tracers.as_mut_ptr(), tracers.len(),
+                ledger.as_ptr(), ledger.len(),
+                tracer,
+            )
+        })
+    }
+
+    /// Reads how much a tick of one tracer emits.
+    ///
+    /// Count: the units that the tracer's emitters give in a tick. Refusals, in order: 1 2 3 4 5.
+    pub fn units_a_tick(
+        grid: Grid,
+        air: &[u32],
+        tracers: &[u32],
+        ledger: &[u32],
+        tracer: u32,
+    ) -> Result<u64, Refusal> {
+        // SAFETY: each pointer goes with its slice's length, and the borrows keep all others from what is written.
+        wide_outcome(unsafe {
+            puldeho_raw_units_a_tick(
+                grid.w, grid.r, grid.k, grid.n,
+                air.as_ptr(), air.len(),
+                tracers.as_ptr(), tracers.len(),
+                ledger.as_ptr(), ledger.len(),
+                tracer,
+            )
+        }, unsafe {
+            puldeho_raw_units_a_tick_number(
+                grid.w, grid.r, grid.k, grid.n,
+                air.as_ptr(), air.len(),
+                tracers.as_ptr(), tracers.len(),
+                ledger.as_ptr(), ledger.len(),
+                tracer,
             )
         })
     }

@@ -1,8 +1,9 @@
 //! The proved transport library, safe: any grid, numbers and lengths are answered.
 //!
 //! A [`World`] is made by a load and owns its lists: `air` with K·C numbers and `tracers` with N·K·C,
-//! where C = 2 + R·W. Layer k starts at k·C, tracer t at t·K·C. A call gives its count, or the first
-//! refusal that applies, and then it changed nothing. docs/GUIDE.md explains grid, units and fluxes.
+//! where C = 2 + R·W. Layer k starts at k·C, tracer t at t·K·C. The third, `ledger`, holds the emitters
+//! that stand, and is written by the calls alone. A call gives its count, or the first refusal that
+//! applies, and then it changed nothing. docs/GUIDE.md explains grid, units, fluxes and emitters.
 //!
 //! What no type can say: the stack must have room for the call (bindings/puldeho.h has the bytes).
 
@@ -73,10 +74,17 @@ fn words(ask: impl FnOnce(*mut std::ffi::c_char, usize) -> std::ffi::c_int) -> S
 
 /// What a call returned, answer · 2^32 + count, as a count or a refusal. A refusal has count 0.
 fn outcome(returned: u64) -> Result<u32, Refusal> {
+    let count = wide_outcome((returned >> 32) as u32, returned & 0xFFFF_FFFF)?;
+    Ok(count as u32)
+}
+
+/// The answer and the count of a call as a count or a refusal. A refusal has count 0.
+fn wide_outcome(answer: u32, count: u64) -> Result<u64, Refusal> {
     calls::same_version();
-    let refused = |refusal: &Refusal| (*refusal as u64) << 32 == returned;
-    u32::try_from(returned).map_err(|_| {
-        let refusal = Refusal::ALL.iter().copied().find(refused);
-        refusal.expect("the library answers 0, or a refusal's number with count 0")
-    })
+    if answer == 0 {
+        return Ok(count);
+    }
+    let refused = |refusal: &Refusal| *refusal as u32 == answer && count == 0;
+    let refusal = Refusal::ALL.iter().copied().find(refused);
+    Err(refusal.expect("the library answers 0, or a refusal's number with count 0"))
 }

@@ -1,6 +1,6 @@
 //! Case P, m1 and each refusal through the safe wrapper, linked with the proved library.
 
-use puldeho::{raw, Grid, Refusal, World};
+use puldeho::{raw, Grid, Refusal, World, LEDGER_BLOCK};
 
 const GRID: Grid = Grid {
     w: 4,
@@ -11,6 +11,9 @@ const GRID: Grid = Grid {
 const AIR: [u32; 6] = [100; 6];
 const TRACERS: [u32; 6] = [0, 0, 100, 200, 100, 0];
 const MOST: u32 = 268_435_455;
+/// The ledger of one tracer.
+const BLOCK: usize = LEDGER_BLOCK as usize;
+const NONE: [u32; BLOCK] = [0; BLOCK];
 
 #[test]
 fn case_p() {
@@ -58,6 +61,55 @@ fn a_long_sweep() {
 }
 
 #[test]
+fn emitters_that_start_and_stop() {
+    let mut world = World::load(GRID, AIR, TRACERS).unwrap();
+    assert_eq!(world.tick(0), Ok(()));
+    assert_eq!(world.add_emitter(0, 3, 7, 40), Ok(()));
+    assert_eq!(world.add_emitter(0, 3, 8, 60), Ok(()));
+    assert_eq!(world.add_emitter(0, 4, 0, 30), Ok(()));
+    assert_eq!(world.units_a_tick(0), Ok(130));
+    let before = world.clone();
+    assert_eq!(world.tick(0), Ok(()));
+    assert_eq!(world.tracers(), [0, 0, 100, 300, 130, 0]);
+    assert_eq!(world.remove_emitter(0, 7), Ok(()));
+    assert_eq!(world.ledger()[..9], [2, 90, 0, 0, 4, 30, 8, 3, 60]);
+    assert!(world.ledger()[9..].iter().all(|&number| number == 0));
+    assert_eq!(world.remove_emitter(0, 7), Err(Refusal::EmitterAbsent));
+    assert_eq!(world.add_emitter(0, 1, 8, 1), Err(Refusal::EmitterAdded));
+    assert!(world
+        .why_add_emitter(0, 1, 8, 1)
+        .starts_with("tracer 0 already has the id 8: emitter 1, in cell 3"));
+    assert!(world
+        .why_remove_emitter(0, 7)
+        .ends_with("it has the ids 0, 8"));
+    assert_ne!(world, before);
+    assert_eq!(before.units_a_tick(0), Ok(130));
+}
+
+#[test]
+fn sixteen_emitters_of_the_largest_units() {
+    let two = Grid { n: 2, ..GRID };
+    let mut world = World::load(two, AIR, vec![0; 12]).unwrap();
+    for id in 0..16 {
+        assert_eq!(world.add_emitter(1, 5, id, u32::MAX), Ok(()));
+    }
+    assert_eq!(world.units_a_tick(1), Ok(68_719_476_720));
+    assert_eq!(world.units_a_tick(0), Ok(0));
+    assert_eq!(world.units_a_tick(2), Err(Refusal::Index));
+    assert_eq!(world.add_emitter(1, 5, 16, 0), Err(Refusal::EmitterAdded));
+    assert_eq!(world.add_emitter(0, 5, 16, 0), Ok(()));
+    assert_eq!(world.tick(1), Err(Refusal::Emission));
+    assert!(world
+        .why_tick(1)
+        .contains("so at most 268435455 can be emitted"));
+    assert_eq!(world.tracers(), [0; 12]);
+    let lists = (world.air().to_vec(), world.tracers().to_vec());
+    world = World::load(two, lists.0, lists.1).unwrap();
+    assert!(world.ledger().iter().all(|&number| number == 0));
+    assert_eq!(world.why_units_a_tick(1), "the call would be accepted");
+}
+
+#[test]
 fn why_says_which_cell_and_what_helps() {
     let world = World::load(GRID, AIR, TRACERS).unwrap();
     let why = world.why_zonal(0, 0, &[0, 100, 0, 0]);
@@ -89,6 +141,7 @@ fn lengths_and_cell_numbers() {
     assert_eq!(grid.cells_in_layer(), 20);
     assert_eq!(grid.air_length(), 40);
     assert_eq!(grid.tracers_length(), 200);
+    assert_eq!(grid.ledger_length(), 5 * BLOCK);
     assert_eq!(grid.zonal_fluxes_length(), 6);
     assert_eq!(grid.long_zonal_fluxes_length(), 6);
     assert_eq!(grid.meridional_fluxes_length(), 24);
@@ -106,7 +159,7 @@ fn m1() {
     let (mut air, mut tracers) = (AIR, TRACERS);
     let fluxes = [0, 50, 0, 0];
     assert_eq!(
-        raw::zonal(GRID, &mut air, &mut tracers, 0, 0, &fluxes),
+        raw::zonal(GRID, &mut air, &mut tracers, &NONE, 0, 0, &fluxes),
         Ok(1)
     );
     assert_eq!(air[1..5], [100, 50, 150, 100]);
@@ -116,18 +169,24 @@ fn m1() {
 #[test]
 fn emission_withdrawal_meridional_and_remap() {
     let (mut air, mut tracers) = (AIR, TRACERS);
-    assert_eq!(raw::emission(GRID, &air, &mut tracers, 0, 5, 7), Ok(0));
+    assert_eq!(
+        raw::emission(GRID, &air, &mut tracers, &NONE, 0, 5, 7),
+        Ok(0)
+    );
     assert_eq!(tracers, [0, 0, 100, 200, 100, 7]);
-    assert_eq!(raw::withdrawal(GRID, &air, &mut tracers, 0, 3, 200), Ok(0));
+    assert_eq!(
+        raw::withdrawal(GRID, &air, &mut tracers, &NONE, 0, 3, 200),
+        Ok(0)
+    );
     assert_eq!(tracers, [0, 0, 100, 0, 100, 7]);
     let fluxes = [1, 0, 0, 0, 0, 0, 0, -10];
     assert_eq!(
-        raw::meridional(GRID, &mut air, &mut tracers, 0, &fluxes),
+        raw::meridional(GRID, &mut air, &mut tracers, &NONE, 0, &fluxes),
         Ok(1)
     );
     assert_eq!(air, [99, 101, 100, 100, 110, 90]);
     assert_eq!(
-        raw::remap(GRID, &mut air, &mut tracers, &[0, 0, 0, 65_536]),
+        raw::remap(GRID, &mut air, &mut tracers, &NONE, &[0, 0, 0, 65_536]),
         Ok(6)
     );
 }
@@ -151,38 +210,54 @@ fn refusals_1_to_4() {
     refused(
         &AIR,
         &TRACERS,
-        |a, t| raw::load(narrow, a, t),
+        |a, t| raw::load(narrow, a, t, &mut NONE.clone()),
         Refusal::GridRange,
     );
     refused(
         &AIR,
         &TRACERS[1..],
-        |a, t| raw::load(GRID, a, t),
+        |a, t| raw::load(GRID, a, t, &mut NONE.clone()),
         Refusal::Lengths,
     );
-    refused(&[], &[], |a, t| raw::load(GRID, a, t), Refusal::Lengths);
+    refused(
+        &[],
+        &[],
+        |a, t| raw::load(GRID, a, t, &mut NONE.clone()),
+        Refusal::Lengths,
+    );
+    refused(
+        &AIR,
+        &TRACERS,
+        |a, t| raw::load(GRID, a, t, &mut NONE.clone()[1..]),
+        Refusal::Lengths,
+    );
     let thin = [100, 100, 0, 100, 100, 100];
     refused(
         &thin,
         &TRACERS,
-        |a, t| raw::load(GRID, a, t),
+        |a, t| raw::load(GRID, a, t, &mut NONE.clone()),
         Refusal::AirRange,
     );
     let full = [MOST, 1, 0, 0, 0, 0];
-    refused(&AIR, &full, |a, t| raw::load(GRID, a, t), Refusal::Totals);
+    refused(
+        &AIR,
+        &full,
+        |a, t| raw::load(GRID, a, t, &mut NONE.clone()),
+        Refusal::Totals,
+    );
 }
 
 #[test]
 fn refusals_5_to_7() {
     let emission = |cell, amount| {
-        move |a: &mut [u32], t: &mut [u32]| raw::emission(GRID, a, t, 0, cell, amount)
+        move |a: &mut [u32], t: &mut [u32]| raw::emission(GRID, a, t, &NONE, 0, cell, amount)
     };
     refused(&AIR, &TRACERS, emission(6, 0), Refusal::Index);
     refused(&AIR, &TRACERS, emission(5, MOST), Refusal::Emission);
     refused(
         &AIR,
         &TRACERS,
-        |a, t| raw::withdrawal(GRID, a, t, 0, 3, 201),
+        |a, t| raw::withdrawal(GRID, a, t, &NONE, 0, 3, 201),
         Refusal::Withdrawal,
     );
 }
@@ -190,7 +265,7 @@ fn refusals_5_to_7() {
 #[test]
 fn refusals_8_to_10() {
     let zonal = |flux: i32| {
-        move |a: &mut [u32], t: &mut [u32]| raw::zonal(GRID, a, t, 0, 0, &[0, flux, 0, 0])
+        move |a: &mut [u32], t: &mut [u32]| raw::zonal(GRID, a, t, &NONE, 0, 0, &[0, flux, 0, 0])
     };
     refused(&AIR, &TRACERS, zonal(1_048_561), Refusal::Fluxes);
     refused(&AIR, &TRACERS, zonal(i32::MIN), Refusal::Fluxes);
@@ -198,7 +273,7 @@ fn refusals_8_to_10() {
     refused(
         &AIR,
         &TRACERS,
-        |a, t| raw::meridional(GRID, a, t, 0, &[100, 0, 0, 0, 0, 0, 0, 0]),
+        |a, t| raw::meridional(GRID, a, t, &NONE, 0, &[100, 0, 0, 0, 0, 0, 0, 0]),
         Refusal::Meridional,
     );
 }
@@ -207,7 +282,9 @@ fn refusals_8_to_10() {
 fn refusals_11_and_12() {
     let two = Grid { k: 2, ..GRID };
     let remap = |a, b| {
-        move |air: &mut [u32], t: &mut [u32]| raw::remap(two, air, t, &[0, 0, a, b, 0, 65_536])
+        move |air: &mut [u32], t: &mut [u32]| {
+            raw::remap(two, air, t, &NONE, &[0, 0, a, b, 0, 65_536])
+        }
     };
     refused(&[1; 12], &[0; 12], remap(0, 65_537), Refusal::Table);
     refused(&[1; 12], &[0; 12], remap(0, 16_384), Refusal::Remap);
@@ -216,7 +293,7 @@ fn refusals_11_and_12() {
 #[test]
 fn refusals_16_and_17() {
     let long = |fluxes: [i32; 4]| {
-        move |a: &mut [u32], t: &mut [u32]| raw::long_zonal(GRID, a, t, 0, 0, &fluxes)
+        move |a: &mut [u32], t: &mut [u32]| raw::long_zonal(GRID, a, t, &NONE, 0, 0, &fluxes)
     };
     refused(&AIR, &TRACERS, long([0, 0, 0, -1_048_561]), Refusal::Fluxes);
     refused(
@@ -235,17 +312,70 @@ fn refusals_16_and_17() {
     refused(&AIR, &TRACERS, long([100, 0, 0, 0]), Refusal::LongAir);
 }
 
+/// A ledger with an emitter of id 7, in cell 3, of 40 units.
+fn one_emitter() -> [u32; BLOCK] {
+    let mut ledger = NONE;
+    ledger[..6].copy_from_slice(&[1, 40, 0, 7, 3, 40]);
+    ledger
+}
+
+#[test]
+fn refusals_18_and_19() {
+    let ledger = one_emitter();
+    let mut changed = ledger;
+    let add = |l: &mut [u32]| raw::add_emitter(GRID, &AIR, &TRACERS, l, 0, 3, 7, 40);
+    assert_eq!(add(&mut changed), Err(Refusal::EmitterAdded));
+    let remove = |l: &mut [u32], id| raw::remove_emitter(GRID, &AIR, &TRACERS, l, 0, id);
+    assert_eq!(remove(&mut changed, 8), Err(Refusal::EmitterAbsent));
+    assert_eq!(changed, ledger);
+    assert_eq!(remove(&mut changed, 7), Ok(0));
+    assert_eq!(changed, NONE);
+    assert_eq!(add(&mut changed), Ok(0));
+    assert_eq!(changed, ledger);
+}
+
+/// The calls on emitters refuse it with 5 and leave every list as it was; no other call looks into it, and a load clears it.
+fn broken(change: impl Fn(&mut [u32])) {
+    let mut ledger = one_emitter();
+    change(&mut ledger);
+    let (mut lent, mut tracers) = (ledger, TRACERS);
+    let add = raw::add_emitter(GRID, &AIR, &tracers, &mut lent, 0, 3, 9, 40);
+    assert_eq!(add, Err(Refusal::Index));
+    let remove = raw::remove_emitter(GRID, &AIR, &tracers, &mut lent, 0, 7);
+    assert_eq!(remove, Err(Refusal::Index));
+    let tick = raw::tick(GRID, &AIR, &mut tracers, &lent, 0);
+    assert_eq!(tick, Err(Refusal::Index));
+    let units = raw::units_a_tick(GRID, &AIR, &tracers, &lent, 0);
+    assert_eq!(units, Err(Refusal::Index));
+    assert_eq!((lent, tracers), (ledger, TRACERS));
+    assert_eq!(raw::total(GRID, &AIR, &tracers, &lent, 0), Ok(400));
+    assert_eq!(raw::load(GRID, &AIR, &tracers, &mut lent), Ok(0));
+    assert_eq!(lent, NONE);
+}
+
+#[test]
+fn a_broken_ledger() {
+    broken(|ledger| ledger[0] = 17);
+    broken(|ledger| ledger[0] = u32::MAX);
+    broken(|ledger| ledger[4] = 6);
+    broken(|ledger| ledger[1] = 41);
+    broken(|ledger| ledger[2] = 1);
+    broken(|ledger| {
+        ledger[..9].copy_from_slice(&[2, 40, 0, 7, 3, 40, 7, 4, 0]);
+    });
+}
+
 #[test]
 fn a_refusal_says_its_number_and_condition() {
     let narrow = Grid { w: 3, ..GRID };
-    let refusal = raw::load(narrow, &AIR, &TRACERS).unwrap_err();
+    let refusal = raw::load(narrow, &AIR, &TRACERS, &mut NONE.clone()).unwrap_err();
     assert_eq!(
         refusal.to_string(),
         "refusal 1: W, R, K or N is outside its range; give W from 4 to 72, R from 1 to 44, K from 1 to 32 and N from 1 to 8, in this order"
     );
     let numbers: Vec<u32> = Refusal::ALL.iter().map(|&r| r as u32).collect();
     // 13 to 15 are the runner program's.
-    assert_eq!(numbers, (1..=12).chain(16..=17).collect::<Vec<u32>>());
+    assert_eq!(numbers, (1..=12).chain(16..=19).collect::<Vec<u32>>());
 }
 
 /// On the greatest grid, in a thread whose whole stack is the 256 KiB that no call may pass.
@@ -260,25 +390,39 @@ fn every_call_runs_on_256_kib_of_stack() {
     let cells = 32 * (2 + 44 * 72);
     let calls = move || {
         let (mut air, mut tracers) = (vec![100; cells], vec![1; 8 * cells]);
+        let mut l = vec![1; 8 * BLOCK];
         let table: Vec<u32> = (0..=32).flat_map(|j| [0, 2048 * j]).collect();
-        assert_eq!(raw::load(grid, &air, &tracers), Ok(0));
-        assert_eq!(raw::emission(grid, &air, &mut tracers, 7, 9, 1), Ok(0));
-        assert_eq!(raw::withdrawal(grid, &air, &mut tracers, 7, 9, 1), Ok(0));
+        assert_eq!(raw::load(grid, &air, &tracers, &mut l), Ok(0));
+        assert_eq!(raw::emission(grid, &air, &mut tracers, &l, 7, 9, 1), Ok(0));
         assert_eq!(
-            raw::zonal(grid, &mut air, &mut tracers, 31, 43, &[1600; 72]),
-            Ok(16)
-        );
-        assert_eq!(
-            raw::long_zonal(grid, &mut air, &mut tracers, 31, 43, &[1601; 72]),
+            raw::withdrawal(grid, &air, &mut tracers, &l, 7, 9, 1),
             Ok(0)
         );
         assert_eq!(
-            raw::meridional(grid, &mut air, &mut tracers, 31, &[1; 72 * 45]),
+            raw::zonal(grid, &mut air, &mut tracers, &l, 31, 43, &[1600; 72]),
+            Ok(16)
+        );
+        assert_eq!(
+            raw::long_zonal(grid, &mut air, &mut tracers, &l, 31, 43, &[1601; 72]),
+            Ok(0)
+        );
+        assert_eq!(
+            raw::meridional(grid, &mut air, &mut tracers, &l, 31, &[1; 72 * 45]),
             Ok(1)
         );
-        assert_eq!(raw::total(grid, &air, &tracers, 7), Ok(cells as u32));
-        assert_eq!(raw::cell(grid, &air, &tracers, 7, 9), Ok(1));
-        raw::remap(grid, &mut air, &mut tracers, &table).unwrap();
+        assert_eq!(raw::total(grid, &air, &tracers, &l, 7), Ok(cells as u32));
+        assert_eq!(raw::cell(grid, &air, &tracers, &l, 7, 9), Ok(1));
+        raw::remap(grid, &mut air, &mut tracers, &l, &table).unwrap();
+        for id in 0..16 {
+            let add = raw::add_emitter(grid, &air, &tracers, &mut l, 7, id, id, 1);
+            assert_eq!(add, Ok(0));
+        }
+        assert_eq!(raw::tick(grid, &air, &mut tracers, &l, 7), Ok(0));
+        let remove = raw::remove_emitter(grid, &air, &tracers, &mut l, 7, 3);
+        assert_eq!(remove, Ok(0));
+        assert_eq!(raw::units_a_tick(grid, &air, &tracers, &l, 7), Ok(15));
+        let total = raw::total(grid, &air, &tracers, &l, 7);
+        assert_eq!(total, Ok(cells as u32 + 16));
     };
     let thread = std::thread::Builder::new().stack_size(256 * 1024);
     thread.spawn(calls).unwrap().join().unwrap();
