@@ -1,5 +1,5 @@
 /*
- * Plain C of the nine calls, written from documents 01 and 02 for the benchmark: the same arguments, checks and results
+ * Plain C of the thirteen calls, written from documents 01 and 02 for the benchmark: the same arguments, checks and results
  * as bindings/puldeho.h. Compiled by gcc with PREFIX set to the name that stands before each call.
  */
 #include <stddef.h>
@@ -11,6 +11,9 @@
 #define CALL(call) JOIN(PREFIX, call)
 
 enum { MOST_W = 72, MOST_K = 32, MOST_N = 8, MOST_LAYER = 3170, MOST_FACES = 3240, MOST_AIR = 65535, SCALE = 65536 };
+/* A tracer's block of the ledger: how many emitters stand, the low and the high half of their units a tick, 16 times id,
+ * cell, units. */
+enum { MOST_EMITTERS = 16, EMITTER = 3, FIRST_EMITTER = 3, BLOCK = FIRST_EMITTER + MOST_EMITTERS * EMITTER };
 #define MOST_TOTAL 268435455u
 
 enum lent { NOTHING, ROW_FLUXES, LAYER_FLUXES, TABLE };
@@ -57,15 +60,16 @@ static uint64_t total_of(const uint32_t *gas, size_t cells)
 
 /* Places 1 to 4: 0, or the refusal's number. Where 0, the sizes and the totals are filled in. */
 static uint32_t common_places(world *g, uint32_t w, uint32_t r, uint32_t k, uint32_t n, const uint32_t *air,
-                              size_t air_length, const uint32_t *tracers, size_t tracers_length, enum lent lent,
-                              size_t lent_length)
+                              size_t air_length, const uint32_t *tracers, size_t tracers_length, size_t ledger_length,
+                              enum lent lent, size_t lent_length)
 {
     if (!grid_fits(w, r, k, n))
         return 1;
     g->w = w, g->r = r, g->k = k, g->n = n;
     g->layer = 2 + g->r * g->w;
     g->cells = g->k * g->layer;
-    if (air_length != g->cells || tracers_length != g->n * g->cells || !lent_fits(g, lent, lent_length))
+    if (air_length != g->cells || tracers_length != g->n * g->cells || ledger_length != g->n * BLOCK
+        || !lent_fits(g, lent, lent_length))
         return 2;
     if (!air_fits(air, g->cells))
         return 3;
@@ -79,31 +83,37 @@ static uint32_t common_places(world *g, uint32_t w, uint32_t r, uint32_t k, uint
 
 #define COMMON_PLACES(g, lent, lent_length)                                                                           \
     do {                                                                                                              \
-        uint32_t place = common_places(g, w, r, k, n, air, air_length, tracers, tracers_length, lent, lent_length);   \
+        uint32_t place = common_places(g, w, r, k, n, air, air_length, tracers, tracers_length, ledger_length, lent,  \
+                                       lent_length);                                                                  \
         if (place != 0)                                                                                               \
             return refused(place);                                                                                    \
     } while (0)
 
 uint64_t CALL(load)(uint32_t w, uint32_t r, uint32_t k, uint32_t n, const uint32_t *air, size_t air_length,
-                    const uint32_t *tracers, size_t tracers_length)
+                    const uint32_t *tracers, size_t tracers_length, uint32_t *ledger, size_t ledger_length)
 {
     world g;
     COMMON_PLACES(&g, NOTHING, 0);
+    memset(ledger, 0, ledger_length * sizeof *ledger);
     return 0;
 }
 
 uint64_t CALL(total)(uint32_t w, uint32_t r, uint32_t k, uint32_t n, const uint32_t *air, size_t air_length,
-                     const uint32_t *tracers, size_t tracers_length, uint32_t tracer)
+                     const uint32_t *tracers, size_t tracers_length, const uint32_t *ledger, size_t ledger_length,
+                     uint32_t tracer)
 {
     world g;
+    (void)ledger;
     COMMON_PLACES(&g, NOTHING, 0);
     return tracer < g.n ? g.totals[tracer] : refused(5);
 }
 
 uint64_t CALL(cell)(uint32_t w, uint32_t r, uint32_t k, uint32_t n, const uint32_t *air, size_t air_length,
-                    const uint32_t *tracers, size_t tracers_length, uint32_t tracer, uint32_t cell)
+                    const uint32_t *tracers, size_t tracers_length, const uint32_t *ledger, size_t ledger_length,
+                    uint32_t tracer, uint32_t cell)
 {
     world g;
+    (void)ledger;
     COMMON_PLACES(&g, NOTHING, 0);
     if (tracer >= g.n || cell >= g.cells)
         return refused(5);
@@ -111,9 +121,11 @@ uint64_t CALL(cell)(uint32_t w, uint32_t r, uint32_t k, uint32_t n, const uint32
 }
 
 uint64_t CALL(emission)(uint32_t w, uint32_t r, uint32_t k, uint32_t n, const uint32_t *air, size_t air_length,
-                        uint32_t *tracers, size_t tracers_length, uint32_t tracer, uint32_t cell, uint32_t amount)
+                        uint32_t *tracers, size_t tracers_length, const uint32_t *ledger, size_t ledger_length,
+                        uint32_t tracer, uint32_t cell, uint32_t amount)
 {
     world g;
+    (void)ledger;
     COMMON_PLACES(&g, NOTHING, 0);
     if (tracer >= g.n || cell >= g.cells)
         return refused(5);
@@ -124,9 +136,11 @@ uint64_t CALL(emission)(uint32_t w, uint32_t r, uint32_t k, uint32_t n, const ui
 }
 
 uint64_t CALL(withdrawal)(uint32_t w, uint32_t r, uint32_t k, uint32_t n, const uint32_t *air, size_t air_length,
-                          uint32_t *tracers, size_t tracers_length, uint32_t tracer, uint32_t cell, uint32_t amount)
+                          uint32_t *tracers, size_t tracers_length, const uint32_t *ledger, size_t ledger_length,
+                          uint32_t tracer, uint32_t cell, uint32_t amount)
 {
     world g;
+    (void)ledger;
     COMMON_PLACES(&g, NOTHING, 0);
     if (tracer >= g.n || cell >= g.cells)
         return refused(5);
@@ -236,10 +250,11 @@ static void step_gas(uint32_t *gas, const uint32_t *air, const int32_t *f, size_
 }
 
 uint64_t CALL(zonal)(uint32_t w, uint32_t r, uint32_t k, uint32_t n, uint32_t *air, size_t air_length,
-                     uint32_t *tracers, size_t tracers_length, uint32_t layer, uint32_t row, const int32_t *fluxes,
-                     size_t fluxes_length)
+                     uint32_t *tracers, size_t tracers_length, const uint32_t *ledger, size_t ledger_length,
+                     uint32_t layer, uint32_t row, const int32_t *fluxes, size_t fluxes_length)
 {
     world g;
+    (void)ledger;
     COMMON_PLACES(&g, ROW_FLUXES, fluxes_length);
     if (layer >= k || row >= r)
         return refused(5);
@@ -320,10 +335,11 @@ static int long_air(uint32_t *next, const uint32_t *air, const int32_t *fluxes, 
 }
 
 uint64_t CALL(long_zonal)(uint32_t w, uint32_t r, uint32_t k, uint32_t n, uint32_t *air, size_t air_length,
-                          uint32_t *tracers, size_t tracers_length, uint32_t layer, uint32_t row,
-                          const int32_t *fluxes, size_t fluxes_length)
+                          uint32_t *tracers, size_t tracers_length, const uint32_t *ledger, size_t ledger_length,
+                          uint32_t layer, uint32_t row, const int32_t *fluxes, size_t fluxes_length)
 {
     world g;
+    (void)ledger;
     uint32_t next[MOST_W];
     mark at[MOST_W];
     COMMON_PLACES(&g, ROW_FLUXES, fluxes_length);
@@ -405,10 +421,11 @@ static void step_layer_gas(uint32_t *gas, const uint32_t *air, const int32_t *f,
 }
 
 uint64_t CALL(meridional)(uint32_t w, uint32_t r, uint32_t k, uint32_t n, uint32_t *air, size_t air_length,
-                          uint32_t *tracers, size_t tracers_length, uint32_t layer, const int32_t *fluxes,
-                          size_t fluxes_length)
+                          uint32_t *tracers, size_t tracers_length, const uint32_t *ledger, size_t ledger_length,
+                          uint32_t layer, const int32_t *fluxes, size_t fluxes_length)
 {
     world g;
+    (void)ledger;
     uint32_t next[MOST_LAYER];
     COMMON_PLACES(&g, LAYER_FLUXES, fluxes_length);
     if (layer >= k)
@@ -505,9 +522,11 @@ static void remap_column(const world *g, uint32_t *air, uint32_t *tracers, const
 }
 
 uint64_t CALL(remap)(uint32_t w, uint32_t r, uint32_t k, uint32_t n, uint32_t *air, size_t air_length,
-                     uint32_t *tracers, size_t tracers_length, const uint32_t *table, size_t table_length)
+                     uint32_t *tracers, size_t tracers_length, const uint32_t *ledger, size_t ledger_length,
+                     const uint32_t *table, size_t table_length)
 {
     world g;
+    (void)ledger;
     uint64_t count = 0;
     COMMON_PLACES(&g, TABLE, table_length);
     if (!table_fits(table, k))
@@ -521,4 +540,130 @@ uint64_t CALL(remap)(uint32_t w, uint32_t r, uint32_t k, uint32_t n, uint32_t *a
     for (size_t c = 0; c < g.layer; c++)
         remap_column(&g, air + c, tracers + c, table, c == 0 || c + 1 == g.layer);
     return count;
+}
+
+/* The emitters. Those that stand come first in a block, and what follows them is not read. */
+
+static uint64_t kept_sum(const uint32_t *block) { return (uint64_t)block[2] << 32 | block[1]; }
+
+static void keep_sum(uint32_t *block, uint64_t sum)
+{
+    block[1] = (uint32_t)sum;
+    block[2] = (uint32_t)(sum >> 32);
+}
+
+static int record_fits(const uint32_t *block, size_t cells)
+{
+    uint64_t sum = 0;
+    if (block[0] > MOST_EMITTERS)
+        return 0;
+    for (uint32_t i = 0; i < block[0]; i++) {
+        const uint32_t *emitter = block + FIRST_EMITTER + EMITTER * i;
+        if (emitter[1] >= cells)
+            return 0;
+        for (uint32_t j = 0; j < i; j++)
+            if (block[FIRST_EMITTER + EMITTER * j] == emitter[0])
+                return 0;
+        sum += emitter[2];
+    }
+    return sum == kept_sum(block);
+}
+
+/* Place 5 of the calls on emitters, but for a cell that the call names. */
+static int emitters_fit(const world *g, const uint32_t *ledger, uint32_t tracer)
+{
+    for (size_t t = 0; t < g->n; t++)
+        if (!record_fits(ledger + t * BLOCK, g->cells))
+            return 0;
+    return tracer < g->n;
+}
+
+/* How many emitters stand before the one with the id; all of them where none has it. */
+static uint32_t standing_before(const uint32_t *block, uint32_t id)
+{
+    uint32_t i = 0;
+    while (i < block[0] && block[FIRST_EMITTER + EMITTER * i] != id)
+        i++;
+    return i;
+}
+
+uint64_t CALL(add_emitter)(uint32_t w, uint32_t r, uint32_t k, uint32_t n, const uint32_t *air, size_t air_length,
+                           const uint32_t *tracers, size_t tracers_length, uint32_t *ledger, size_t ledger_length,
+                           uint32_t tracer, uint32_t cell, uint32_t id, uint32_t units)
+{
+    world g;
+    COMMON_PLACES(&g, NOTHING, 0);
+    if (!emitters_fit(&g, ledger, tracer) || cell >= g.cells)
+        return refused(5);
+    uint32_t *block = ledger + (size_t)tracer * BLOCK;
+    if (block[0] == MOST_EMITTERS || standing_before(block, id) < block[0])
+        return refused(18);
+    uint32_t *emitter = block + FIRST_EMITTER + EMITTER * block[0];
+    emitter[0] = id, emitter[1] = cell, emitter[2] = units;
+    keep_sum(block, kept_sum(block) + units);
+    block[0]++;
+    return 0;
+}
+
+uint64_t CALL(remove_emitter)(uint32_t w, uint32_t r, uint32_t k, uint32_t n, const uint32_t *air, size_t air_length,
+                              const uint32_t *tracers, size_t tracers_length, uint32_t *ledger, size_t ledger_length,
+                              uint32_t tracer, uint32_t id)
+{
+    world g;
+    COMMON_PLACES(&g, NOTHING, 0);
+    if (!emitters_fit(&g, ledger, tracer))
+        return refused(5);
+    uint32_t *block = ledger + (size_t)tracer * BLOCK;
+    uint32_t i = standing_before(block, id);
+    if (i == block[0])
+        return refused(19);
+    block[0]--;
+    uint32_t *emitter = block + FIRST_EMITTER + EMITTER * i, *last = block + FIRST_EMITTER + EMITTER * block[0];
+    keep_sum(block, kept_sum(block) - emitter[2]);
+    memmove(emitter, last, EMITTER * sizeof *last);
+    memset(last, 0, EMITTER * sizeof *last);
+    return 0;
+}
+
+uint64_t CALL(tick)(uint32_t w, uint32_t r, uint32_t k, uint32_t n, const uint32_t *air, size_t air_length,
+                    uint32_t *tracers, size_t tracers_length, const uint32_t *ledger, size_t ledger_length,
+                    uint32_t tracer)
+{
+    world g;
+    COMMON_PLACES(&g, NOTHING, 0);
+    if (!emitters_fit(&g, ledger, tracer))
+        return refused(5);
+    const uint32_t *block = ledger + (size_t)tracer * BLOCK;
+    if (g.totals[tracer] + kept_sum(block) > MOST_TOTAL)
+        return refused(6);
+    uint32_t *gas = tracers + tracer * g.cells;
+    for (uint32_t i = 0; i < block[0]; i++) {
+        const uint32_t *emitter = block + FIRST_EMITTER + EMITTER * i;
+        gas[emitter[1]] += emitter[2];
+    }
+    return 0;
+}
+
+/* The reading's answer alone; its number, which has 64 bits, is the next call. */
+uint32_t CALL(units_a_tick)(uint32_t w, uint32_t r, uint32_t k, uint32_t n, const uint32_t *air, size_t air_length,
+                            const uint32_t *tracers, size_t tracers_length, const uint32_t *ledger,
+                            size_t ledger_length, uint32_t tracer)
+{
+    world g;
+    uint32_t place = common_places(&g, w, r, k, n, air, air_length, tracers, tracers_length, ledger_length, NOTHING, 0);
+    if (place != 0)
+        return place;
+    return emitters_fit(&g, ledger, tracer) ? 0 : 5;
+}
+
+/* The reading's number, 0 where it is refused. */
+uint64_t CALL(units_a_tick_number)(uint32_t w, uint32_t r, uint32_t k, uint32_t n, const uint32_t *air,
+                                   size_t air_length, const uint32_t *tracers, size_t tracers_length,
+                                   const uint32_t *ledger, size_t ledger_length, uint32_t tracer)
+{
+    world g;
+    uint32_t place = common_places(&g, w, r, k, n, air, air_length, tracers, tracers_length, ledger_length, NOTHING, 0);
+    if (place != 0 || !emitters_fit(&g, ledger, tracer))
+        return 0;
+    return kept_sum(ledger + (size_t)tracer * BLOCK);
 }

@@ -4,7 +4,7 @@ use crate::inputs;
 use crate::timing::{agree, nothing_left, round, spread, Left, Rounds, Spread, Work};
 use crate::works::FULL;
 use crate::worlds::Random;
-use reference::{Call, World};
+use reference::{Answer, Call, World};
 
 /// A layer's calls, or the remap: what it starts from, its times, and those of as many loads.
 struct Part {
@@ -71,15 +71,15 @@ fn compared() -> Day {
     day
 }
 
-fn count_substeps(substeps: &mut [usize; 17], calls: &[Call], answers: &[u64]) {
+fn count_substeps(substeps: &mut [usize; 17], calls: &[Call], answers: &[Answer]) {
     for (call, answer) in calls.iter().zip(answers) {
         assert!(
-            answer >> 32 == 0,
+            answer.number == 0,
             "a call of the day is refused with {}: {call:?}",
-            answer >> 32
+            answer.number
         );
         if matches!(call, Call::Zonal { .. }) {
-            substeps[*answer as usize] += 1;
+            substeps[answer.count as usize] += 1;
         }
     }
 }

@@ -1,6 +1,7 @@
 //! Worlds, winds and tables that look like a day's: air that varies by layer and place, eight kinds of gas, zonal
 //! winds that need 1 to 3 substeps, long ones of several cells, weak meridional winds, tables whose edges lie inside the old layers.
 
+use crate::ledgers::BLOCK;
 use crate::worlds::Random;
 use reference::{Call, Grid, World};
 use std::f64::consts::TAU;
@@ -40,7 +41,25 @@ pub fn world(random: &mut Random, grid: Grid) -> World {
         .flat_map(|t| places().map(move |(_, c)| (t, c)))
         .map(|(t, c)| amount(random, t, &grid, c))
         .collect();
-    World { grid, air, tracers }
+    World {
+        grid,
+        air,
+        tracers,
+        ledger: vec![0; grid.n as usize * BLOCK],
+    }
+}
+
+/// Lets so many emitters of 1 to 3 units stand for each tracer, in cells all over the grid, with ids 0, 1, 2, ..
+pub fn let_stand(world: &mut World, standing: usize) {
+    let cells = world.air.len();
+    for block in world.ledger.chunks_exact_mut(BLOCK) {
+        for (i, emitter) in block[3..].chunks_exact_mut(3).take(standing).enumerate() {
+            let place = (2 * i + 1) * cells / 32;
+            emitter.copy_from_slice(&[i as u32, place as u32, 1 + i as u32 % 3]);
+        }
+        block[0] = standing as u32;
+        block[1] = block[3..].chunks_exact(3).map(|emitter| emitter[2]).sum();
+    }
 }
 
 /// Fluxes of a row that pass about `share` of its cells' air, with waves and noise; one in 24 is 0 if the wind is weak.

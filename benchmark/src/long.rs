@@ -58,7 +58,10 @@ pub fn beside_zonal(grid: Grid, substeps: u64, version: usize, rounds: usize) ->
     let mut left = nothing_left(&zonal.start);
     let mut measured = |work: &Work, round: usize, count: u64| {
         let seconds = time(VERSIONS[version].call(round), work, &mut left);
-        assert!(left.answers.iter().all(|&answer| answer == count));
+        assert!(left
+            .answers
+            .iter()
+            .all(|answer| answer.number == 0 && answer.count == count));
         seconds
     };
     let ratio = |round: usize| measured(&long, round, 0) / measured(&zonal, round, substeps);

@@ -4,6 +4,8 @@
 mod day;
 mod growth;
 mod inputs;
+#[path = "../../compare/src/ledgers.rs"]
+mod ledgers;
 mod long;
 mod plain;
 mod timing;
@@ -57,11 +59,11 @@ fn amount(arguments: &[String]) -> Amount {
 /// Compares the versions on seeded lists of calls, limits and refusals among them.
 fn agreement(lists: u64) {
     eprintln!("{lists} lists of calls, compared after every call");
-    let mut reached = [0u64; 18];
+    let mut reached = [0u64; 20];
     for seed in 0..lists {
         let mut random = Random::new(seed);
         let grid = worlds::grid(&mut random, (seed % 40 / 13) as u32);
-        let mut start = worlds::world(&mut random, grid);
+        let mut start = worlds::world_with_ledger(&mut random, grid);
         for _ in 0..12 {
             let call = worlds::call(&mut random, &start);
             let work = Work {
@@ -71,17 +73,17 @@ fn agreement(lists: u64) {
             agree(&work);
             start = work.start;
             let answer = VERSIONS[0].call(0)(&mut start, &work.calls[0]);
-            reached[(answer >> 32) as usize] += 1;
+            reached[answer.number as usize] += 1;
         }
     }
     println!(
         "All versions agree on {} calls of {lists} seeded lists (answer, count, every number).",
         12 * lists
     );
-    println!("Calls by answer 0 to 17, where 13 to 15 are the runner program's: {reached:?}");
+    println!("Calls by answer 0 to 19, where 13 to 15 are the runner program's: {reached:?}");
     let of_calls = |answer: usize| !(13..=15).contains(&answer);
     assert!(
-        (0..18).all(|answer| (reached[answer] > 0) == of_calls(answer)),
+        (0..20).all(|answer| (reached[answer] > 0) == of_calls(answer)),
         "an answer was not reached"
     );
 }
@@ -121,7 +123,8 @@ fn each_call(title: &str, grid: Grid, numbers: usize, amount: &Amount) {
     header("Call", amount.times);
     for kind in &works::KINDS {
         eprintln!("{title}: {}", kind.name);
-        let work = works::work(3, grid, kind.calls, numbers);
+        let mut work = works::work(3, grid, kind.calls, numbers);
+        inputs::let_stand(&mut work.start, kind.standing);
         ratios(
             kind.name,
             &rounds(&work, amount.rounds),

@@ -1,4 +1,4 @@
-//! The nine calls in plain Rust, written from documents 01 and 02 for the benchmark: safe code on slices, with the same checks.
+//! The thirteen calls in plain Rust, written from documents 01 and 02 for the benchmark: safe code on slices, with the same checks.
 //! A call gives its count, or the number of the first refusal that applies.
 
 use reference::Grid;
@@ -11,8 +11,12 @@ const MOST_FACES: usize = 3240;
 const MOST_AIR: i64 = 65_535;
 const MOST_TOTAL: u64 = 268_435_455;
 const SCALE: i64 = 65_536;
+const MOST_EMITTERS: usize = 16;
+/// A tracer's block of the ledger: how many emitters stand, the low and the high half of their units a tick, 16 times id, cell,
+/// units.
+pub const BLOCK: usize = 3 + 3 * MOST_EMITTERS;
 
-type Outcome = Result<u32, u32>;
+type Outcome = Result<u64, u32>;
 
 /// The sizes of a grid that passed place 1, and every tracer's total.
 struct Tested {
@@ -43,7 +47,13 @@ fn total_of(gas: &[u32]) -> u64 {
 }
 
 /// Places 1 to 4.
-fn common_places(g: Grid, air: &[u32], tracers: &[u32], lent: Lent) -> Result<Tested, u32> {
+fn common_places(
+    g: Grid,
+    air: &[u32],
+    tracers: &[u32],
+    ledger: &[u32],
+    lent: Lent,
+) -> Result<Tested, u32> {
     let fits = (4..=72).contains(&g.w)
         && (1..=44).contains(&g.r)
         && (1..=32).contains(&g.k)
@@ -54,7 +64,9 @@ fn common_places(g: Grid, air: &[u32], tracers: &[u32], lent: Lent) -> Result<Te
     let w = g.w as usize;
     let layer = 2 + g.r as usize * w;
     let cells = g.k as usize * layer;
-    if air.len() != cells || tracers.len() != g.n as usize * cells || !lent_fits(&g, lent) {
+    let n = g.n as usize;
+    let lengths = air.len() == cells && tracers.len() == n * cells && ledger.len() == n * BLOCK;
+    if !lengths || !lent_fits(&g, lent) {
         return Err(2);
     }
     if air
@@ -78,17 +90,18 @@ fn common_places(g: Grid, air: &[u32], tracers: &[u32], lent: Lent) -> Result<Te
     })
 }
 
-pub fn load(g: Grid, air: &[u32], tracers: &[u32]) -> Outcome {
-    common_places(g, air, tracers, Lent::Nothing)?;
+pub fn load(g: Grid, air: &[u32], tracers: &[u32], ledger: &mut [u32]) -> Outcome {
+    common_places(g, air, tracers, ledger, Lent::Nothing)?;
+    ledger.fill(0);
     Ok(0)
 }
 
-pub fn total(g: Grid, air: &[u32], tracers: &[u32], tracer: u32) -> Outcome {
-    let world = common_places(g, air, tracers, Lent::Nothing)?;
+pub fn total(g: Grid, air: &[u32], tracers: &[u32], ledger: &[u32], tracer: u32) -> Outcome {
+    let world = common_places(g, air, tracers, ledger, Lent::Nothing)?;
     if tracer >= g.n {
         return Err(5);
     }
-    Ok(world.totals[tracer as usize] as u32)
+    Ok(world.totals[tracer as usize])
 }
 
 /// Places 1 to 5 of a call that names a tracer and a cell: where the amount stands, and the tracer's total.
@@ -96,10 +109,11 @@ fn named(
     g: Grid,
     air: &[u32],
     tracers: &[u32],
+    ledger: &[u32],
     tracer: u32,
     cell: u32,
 ) -> Result<(usize, u64), u32> {
-    let world = common_places(g, air, tracers, Lent::Nothing)?;
+    let world = common_places(g, air, tracers, ledger, Lent::Nothing)?;
     if tracer >= g.n || cell as usize >= world.cells {
         return Err(5);
     }
@@ -107,20 +121,28 @@ fn named(
     Ok((tracer * world.cells + cell as usize, world.totals[tracer]))
 }
 
-pub fn cell(g: Grid, air: &[u32], tracers: &[u32], tracer: u32, cell: u32) -> Outcome {
-    let (place, _) = named(g, air, tracers, tracer, cell)?;
-    Ok(tracers[place])
+pub fn cell(
+    g: Grid,
+    air: &[u32],
+    tracers: &[u32],
+    ledger: &[u32],
+    tracer: u32,
+    cell: u32,
+) -> Outcome {
+    let (place, _) = named(g, air, tracers, ledger, tracer, cell)?;
+    Ok(tracers[place].into())
 }
 
 pub fn emission(
     g: Grid,
     air: &[u32],
     tracers: &mut [u32],
+    ledger: &[u32],
     tracer: u32,
     cell: u32,
     amount: u32,
 ) -> Outcome {
-    let (place, total) = named(g, air, tracers, tracer, cell)?;
+    let (place, total) = named(g, air, tracers, ledger, tracer, cell)?;
     if total + u64::from(amount) > MOST_TOTAL {
         return Err(6);
     }
@@ -132,11 +154,12 @@ pub fn withdrawal(
     g: Grid,
     air: &[u32],
     tracers: &mut [u32],
+    ledger: &[u32],
     tracer: u32,
     cell: u32,
     amount: u32,
 ) -> Outcome {
-    let (place, _) = named(g, air, tracers, tracer, cell)?;
+    let (place, _) = named(g, air, tracers, ledger, tracer, cell)?;
     tracers[place] = tracers[place].checked_sub(amount).ok_or(7u32)?;
     Ok(0)
 }
@@ -266,11 +289,12 @@ pub fn zonal(
     g: Grid,
     air: &mut [u32],
     tracers: &mut [u32],
+    ledger: &[u32],
     layer: u32,
     row: u32,
     fluxes: &[i32],
 ) -> Outcome {
-    let world = common_places(g, air, tracers, Lent::RowFluxes(fluxes.len()))?;
+    let world = common_places(g, air, tracers, ledger, Lent::RowFluxes(fluxes.len()))?;
     let cells = row_of(g, &world, layer, row, fluxes)?;
     let air = &mut air[cells.clone()];
     let n = (1..=16).find(|&n| serves(air, fluxes, n)).ok_or(9u32)?;
@@ -283,7 +307,7 @@ pub fn zonal(
         }
         step_air(air, part);
     }
-    Ok(n as u32)
+    Ok(n)
 }
 
 /// Where a face's mark lies: m units of air into a cell, which is met after so many turns from column 0.
@@ -356,11 +380,12 @@ pub fn long_zonal(
     g: Grid,
     air: &mut [u32],
     tracers: &mut [u32],
+    ledger: &[u32],
     layer: u32,
     row: u32,
     fluxes: &[i32],
 ) -> Outcome {
-    let world = common_places(g, air, tracers, Lent::RowFluxes(fluxes.len()))?;
+    let world = common_places(g, air, tracers, ledger, Lent::RowFluxes(fluxes.len()))?;
     let cells = row_of(g, &world, layer, row, fluxes)?;
     let air = &mut air[cells.clone()];
     let row_air = total_of(air);
@@ -449,10 +474,11 @@ pub fn meridional(
     g: Grid,
     air: &mut [u32],
     tracers: &mut [u32],
+    ledger: &[u32],
     layer: u32,
     fluxes: &[i32],
 ) -> Outcome {
-    let world = common_places(g, air, tracers, Lent::LayerFluxes(fluxes.len()))?;
+    let world = common_places(g, air, tracers, ledger, Lent::LayerFluxes(fluxes.len()))?;
     if layer >= g.k {
         return Err(5);
     }
@@ -500,7 +526,7 @@ fn column_at(air: &[u32], table: &[u32], c: usize, layer: usize) -> Column {
 }
 
 /// The pairs of layers that share air, if the edges serve.
-fn pairs_of(column: &Column, k: usize) -> Option<u32> {
+fn pairs_of(column: &Column, k: usize) -> Option<u64> {
     let edges = &column.edges[..=k];
     let serve = |pair: &[i64]| (1..=MOST_AIR).contains(&(pair[1] - pair[0]));
     if !edges.windows(2).all(serve) {
@@ -548,8 +574,14 @@ fn remap_gas(gas: &mut [u32], column: &Column, cap: bool, c: usize, layer: usize
     }
 }
 
-pub fn remap(g: Grid, air: &mut [u32], tracers: &mut [u32], table: &[u32]) -> Outcome {
-    let world = common_places(g, air, tracers, Lent::Table(table.len()))?;
+pub fn remap(
+    g: Grid,
+    air: &mut [u32],
+    tracers: &mut [u32],
+    ledger: &[u32],
+    table: &[u32],
+) -> Outcome {
+    let world = common_places(g, air, tracers, ledger, Lent::Table(table.len()))?;
     if !table_fits(table) {
         return Err(11);
     }
@@ -569,4 +601,111 @@ pub fn remap(g: Grid, air: &mut [u32], tracers: &mut [u32], table: &[u32]) -> Ou
         }
     }
     Ok(count)
+}
+
+fn kept_sum(block: &[u32]) -> u64 {
+    u64::from(block[2]) << 32 | u64::from(block[1])
+}
+
+fn keep_sum(block: &mut [u32], sum: u64) {
+    block[1] = sum as u32;
+    block[2] = (sum >> 32) as u32;
+}
+
+/// The standing emitters of a block, each as id, cell, units. What follows them is not read.
+fn emitters(block: &[u32]) -> std::slice::ChunksExact<'_, u32> {
+    block[3..3 + 3 * block[0] as usize].chunks_exact(3)
+}
+
+fn record_fits(block: &[u32], cells: usize) -> bool {
+    if block[0] as usize > MOST_EMITTERS {
+        return false;
+    }
+    let mut sum = 0;
+    for (i, emitter) in emitters(block).enumerate() {
+        let met = emitters(block).take(i).any(|other| other[0] == emitter[0]);
+        if met || emitter[1] as usize >= cells {
+            return false;
+        }
+        sum += u64::from(emitter[2]);
+    }
+    sum == kept_sum(block)
+}
+
+/// Places 1 to 5 of the calls on emitters, but for a cell that the call names: the tracer.
+fn with_emitters(
+    g: Grid,
+    air: &[u32],
+    tracers: &[u32],
+    ledger: &[u32],
+    tracer: u32,
+) -> Result<(Tested, usize), u32> {
+    let world = common_places(g, air, tracers, ledger, Lent::Nothing)?;
+    let fit = |block| record_fits(block, world.cells);
+    if tracer >= g.n || !ledger.chunks_exact(BLOCK).all(fit) {
+        return Err(5);
+    }
+    Ok((world, tracer as usize))
+}
+
+/// The new emitter as id, cell, units.
+pub fn add_emitter(
+    g: Grid,
+    air: &[u32],
+    tracers: &[u32],
+    ledger: &mut [u32],
+    tracer: u32,
+    new: [u32; 3],
+) -> Outcome {
+    let (world, tracer) = with_emitters(g, air, tracers, ledger, tracer)?;
+    if new[1] as usize >= world.cells {
+        return Err(5);
+    }
+    let block = &mut ledger[tracer * BLOCK..][..BLOCK];
+    let standing = block[0] as usize;
+    if standing == MOST_EMITTERS || emitters(block).any(|emitter| emitter[0] == new[0]) {
+        return Err(18);
+    }
+    block[3 + 3 * standing..][..3].copy_from_slice(&new);
+    keep_sum(block, kept_sum(block) + u64::from(new[2]));
+    block[0] += 1;
+    Ok(0)
+}
+
+pub fn remove_emitter(
+    g: Grid,
+    air: &[u32],
+    tracers: &[u32],
+    ledger: &mut [u32],
+    tracer: u32,
+    id: u32,
+) -> Outcome {
+    let (_, tracer) = with_emitters(g, air, tracers, ledger, tracer)?;
+    let block = &mut ledger[tracer * BLOCK..][..BLOCK];
+    let found = emitters(block).position(|emitter| emitter[0] == id);
+    let place = 3 + 3 * found.ok_or(19u32)?;
+    keep_sum(block, kept_sum(block) - u64::from(block[place + 2]));
+    block[0] -= 1;
+    let last = 3 + 3 * block[0] as usize;
+    block.copy_within(last..last + 3, place);
+    block[last..last + 3].fill(0);
+    Ok(0)
+}
+
+pub fn tick(g: Grid, air: &[u32], tracers: &mut [u32], ledger: &[u32], tracer: u32) -> Outcome {
+    let (world, tracer) = with_emitters(g, air, tracers, ledger, tracer)?;
+    let block = &ledger[tracer * BLOCK..][..BLOCK];
+    if world.totals[tracer] + kept_sum(block) > MOST_TOTAL {
+        return Err(6);
+    }
+    let gas = &mut tracers[tracer * world.cells..][..world.cells];
+    for emitter in emitters(block) {
+        gas[emitter[1] as usize] += emitter[2];
+    }
+    Ok(0)
+}
+
+pub fn units_a_tick(g: Grid, air: &[u32], tracers: &[u32], ledger: &[u32], tracer: u32) -> Outcome {
+    let (_, tracer) = with_emitters(g, air, tracers, ledger, tracer)?;
+    Ok(kept_sum(&ledger[tracer * BLOCK..]))
 }

@@ -1,7 +1,7 @@
 //! Timing: the versions take turns on the same calls from the same world in the same memory, and every result is compared.
 
 use crate::versions::{MakeCall, COUNT, VERSIONS};
-use reference::{Call, World};
+use reference::{Answer, Call, World};
 use std::hint::black_box;
 
 /// Calls made one after the other, from a world.
@@ -16,7 +16,7 @@ pub type Rounds = Vec<[f64; COUNT]>;
 /// What is left after a work: the answers and the world.
 #[derive(PartialEq)]
 pub struct Left {
-    pub answers: Vec<u64>,
+    pub answers: Vec<Answer>,
     pub world: World,
 }
 
@@ -24,6 +24,7 @@ fn restore(world: &mut World, start: &World) {
     world.grid = start.grid;
     world.air.clone_from(&start.air);
     world.tracers.clone_from(&start.tracers);
+    world.ledger.clone_from(&start.ledger);
 }
 
 /// A time of the C library: seconds and billionths.
@@ -52,11 +53,28 @@ pub fn now() -> f64 {
     moment.seconds as f64 + moment.billionths as f64 * 1e-9
 }
 
+/// Clears the upper halves of the vector registers. A version that leaves them in use, as gcc 12 does with -march=native where a
+/// static function is called last, would make the 128-bit code of the version after it two to three times as slow.
+fn clear_upper_halves() {
+    #[cfg(target_arch = "x86_64")]
+    if std::arch::is_x86_feature_detected!("avx") {
+        // SAFETY: the processor has the instruction, and a caller keeps nothing in these halves over a call.
+        unsafe { zero_upper() }
+    }
+}
+
+#[cfg(target_arch = "x86_64")]
+#[target_feature(enable = "avx")]
+unsafe fn zero_upper() {
+    std::arch::x86_64::_mm256_zeroupper()
+}
+
 /// Seconds of the calls as `make` makes them; the world stands at the work's start before and is left as the calls leave it.
 pub fn time(make: MakeCall, work: &Work, left: &mut Left) -> f64 {
     restore(&mut left.world, &work.start);
     left.answers.clear();
     left.answers.reserve(work.calls.len());
+    clear_upper_halves();
     let begin = now();
     for call in &work.calls {
         left.answers
@@ -72,18 +90,26 @@ pub fn nothing_left(start: &World) -> Left {
     }
 }
 
-/// Makes every call by every version and compares answer, count and every number after each.
+/// Makes every call by every version that has it and compares answer, count and every number after each.
 pub fn agree(work: &Work) {
     let mut worlds: [World; COUNT] = std::array::from_fn(|_| work.start.clone());
     for (number, call) in work.calls.iter().enumerate() {
-        let answers: [u64; COUNT] =
-            std::array::from_fn(|v| VERSIONS[v].call(number)(&mut worlds[v], call));
-        for v in 1..COUNT {
-            let same = answers[v] == answers[0] && worlds[v] == worlds[0];
+        let answers: [Option<Answer>; COUNT] = std::array::from_fn(|v| {
+            let (version, world) = (&VERSIONS[v], &mut worlds[v]);
+            let made = version.makes(world, call);
+            made.then(|| version.call(number)(world, call))
+        });
+        let (first, others) = worlds.split_first_mut().expect("the library is first");
+        for ((version, world), answer) in VERSIONS[1..].iter().zip(others).zip(&answers[1..]) {
+            if answer.is_none() {
+                world.clone_from(first);
+            }
+            version.take_ledger(world, first);
+            let same = answer.is_none_or(|answer| Some(answer) == answers[0]) && *world == *first;
             assert!(
                 same,
                 "{} differs from the library at call {number}: {call:?}",
-                VERSIONS[v].name
+                version.name
             );
         }
     }
@@ -102,7 +128,8 @@ fn deeper(steps: usize, work: &mut dyn FnMut() -> f64) -> f64 {
     seconds
 }
 
-/// One round: each version once, the first one another in each round, code and stack at other places.
+/// One round: each version once, the first one another in each round, code and stack at other places. A version that has not
+/// all the calls has no time.
 pub fn round(
     number: usize,
     work: &Work,
@@ -112,6 +139,11 @@ pub fn round(
     let mut seconds = [0.0; COUNT];
     for turn in 0..COUNT {
         let v = (number + turn) % COUNT;
+        let makes = |call| VERSIONS[v].makes(&work.start, call);
+        if !work.calls.iter().all(makes) {
+            seconds[v] = f64::NAN;
+            continue;
+        }
         let make = VERSIONS[v].call(number + number / COUNT);
         seconds[v] = deeper(number * 7 % 32, &mut || time(make, work, left));
         match first {
@@ -136,7 +168,7 @@ pub fn rounds(work: &Work, count: usize) -> Rounds {
     agree(work);
     let (mut left, mut first) = (nothing_left(&work.start), None);
     round(0, work, &mut left, &mut first);
-    let accepted = left.answers.iter().all(|answer| answer >> 32 == 0);
+    let accepted = left.answers.iter().all(|answer| answer.number == 0);
     assert!(accepted, "a timed call is refused: {:?}", left.answers);
     (0..count)
         .map(|number| round(number, work, &mut left, &mut first))
@@ -163,6 +195,9 @@ pub fn spread(mut numbers: Vec<f64>) -> Spread {
 
 impl std::fmt::Display for Spread {
     fn fmt(&self, f: &mut std::fmt::Formatter) -> std::fmt::Result {
+        if self.median.is_nan() {
+            return write!(f, "–");
+        }
         write!(f, "{:.2} ({:.2}..{:.2})", self.median, self.low, self.high)
     }
 }

@@ -1,10 +1,11 @@
 //! The versions that are compared: the proved library, plain C of gcc (twice), plain Rust.
 
 use crate::plain;
-use reference::{Call, World};
+use crate::worlds::in_range;
+use reference::{Answer, Call, World};
 
-/// Makes a call and returns answer · 2^32 + count.
-pub type MakeCall = fn(&mut World, &Call) -> u64;
+/// Makes a call.
+pub type MakeCall = fn(&mut World, &Call) -> Answer;
 
 /// How many places in memory the code of a version is linked at.
 pub const PLACES: usize = 4;
@@ -12,6 +13,8 @@ pub const PLACES: usize = 4;
 pub struct Version {
     pub name: &'static str,
     calls: [MakeCall; PLACES],
+    /// A library from before the ledger is not lent it.
+    ledger: bool,
 }
 
 impl Version {
@@ -19,52 +22,134 @@ impl Version {
     pub fn call(&self, round: usize) -> MakeCall {
         self.calls[round % PLACES]
     }
+
+    /// Whether the version has the call and tests all that the call tests in this world.
+    pub fn makes(&self, world: &World, call: &Call) -> bool {
+        let length = plain::BLOCK * world.grid.n as usize;
+        let as_before = !in_range(&world.grid) || world.ledger.len() == length;
+        self.ledger || (!is_on_emitters(call) && as_before)
+    }
+
+    /// A version without a ledger takes over that of another world, since its own load does not empty it.
+    pub fn take_ledger(&self, world: &mut World, other: &World) {
+        if !self.ledger {
+            world.ledger.clone_from(&other.ledger);
+        }
+    }
 }
 
-/// The raw calls of bindings/puldeho.h, under a prefix.
+fn is_on_emitters(call: &Call) -> bool {
+    matches!(
+        call,
+        Call::AddEmitter { .. }
+            | Call::RemoveEmitter { .. }
+            | Call::Tick { .. }
+            | Call::UnitsATick { .. }
+    )
+}
+
+/// What a call returns in C: answer · 2^32 + count.
+fn returned(number: u64) -> Answer {
+    Answer {
+        number: (number >> 32) as u32,
+        count: number & u64::from(u32::MAX),
+    }
+}
+
+/// The raw calls of bindings/puldeho.h on air and tracers, under a prefix. The two names at the end are those of the ledger's
+/// parameters; without them the calls are those of a library from before it.
 #[rustfmt::skip]
 macro_rules! c_calls {
-    ($module:ident, $prefix:literal) => {
+    ($module:ident, $prefix:literal, $on_emitters:path $(, $ledger:ident $length:ident)?) => {
         mod $module {
-            use reference::{Call, World};
+            use super::returned;
+            use reference::{Answer, Call, World};
 
             extern "C" {
                 #[link_name = concat!($prefix, "_load")]
-                fn load(w: u32, r: u32, k: u32, n: u32, air: *const u32, al: usize, gas: *const u32, gl: usize) -> u64;
+                fn load(w: u32, r: u32, k: u32, n: u32, air: *const u32, al: usize, gas: *const u32, gl: usize $(, $ledger: *mut u32, $length: usize)?) -> u64;
                 #[link_name = concat!($prefix, "_total")]
-                fn total(w: u32, r: u32, k: u32, n: u32, air: *const u32, al: usize, gas: *const u32, gl: usize, tracer: u32) -> u64;
+                fn total(w: u32, r: u32, k: u32, n: u32, air: *const u32, al: usize, gas: *const u32, gl: usize $(, $ledger: *const u32, $length: usize)?, tracer: u32) -> u64;
                 #[link_name = concat!($prefix, "_cell")]
-                fn cell(w: u32, r: u32, k: u32, n: u32, air: *const u32, al: usize, gas: *const u32, gl: usize, tracer: u32, cell: u32) -> u64;
+                fn cell(w: u32, r: u32, k: u32, n: u32, air: *const u32, al: usize, gas: *const u32, gl: usize $(, $ledger: *const u32, $length: usize)?, tracer: u32, cell: u32) -> u64;
                 #[link_name = concat!($prefix, "_emission")]
-                fn emission(w: u32, r: u32, k: u32, n: u32, air: *const u32, al: usize, gas: *mut u32, gl: usize, tracer: u32, cell: u32, amount: u32) -> u64;
+                fn emission(w: u32, r: u32, k: u32, n: u32, air: *const u32, al: usize, gas: *mut u32, gl: usize $(, $ledger: *const u32, $length: usize)?, tracer: u32, cell: u32, amount: u32) -> u64;
                 #[link_name = concat!($prefix, "_withdrawal")]
-                fn withdrawal(w: u32, r: u32, k: u32, n: u32, air: *const u32, al: usize, gas: *mut u32, gl: usize, tracer: u32, cell: u32, amount: u32) -> u64;
+                fn withdrawal(w: u32, r: u32, k: u32, n: u32, air: *const u32, al: usize, gas: *mut u32, gl: usize $(, $ledger: *const u32, $length: usize)?, tracer: u32, cell: u32, amount: u32) -> u64;
                 #[link_name = concat!($prefix, "_zonal")]
-                fn zonal(w: u32, r: u32, k: u32, n: u32, air: *mut u32, al: usize, gas: *mut u32, gl: usize, layer: u32, row: u32, fluxes: *const i32, fl: usize) -> u64;
+                fn zonal(w: u32, r: u32, k: u32, n: u32, air: *mut u32, al: usize, gas: *mut u32, gl: usize $(, $ledger: *const u32, $length: usize)?, layer: u32, row: u32, fluxes: *const i32, fl: usize) -> u64;
                 #[link_name = concat!($prefix, "_long_zonal")]
-                fn long_zonal(w: u32, r: u32, k: u32, n: u32, air: *mut u32, al: usize, gas: *mut u32, gl: usize, layer: u32, row: u32, fluxes: *const i32, fl: usize) -> u64;
+                fn long_zonal(w: u32, r: u32, k: u32, n: u32, air: *mut u32, al: usize, gas: *mut u32, gl: usize $(, $ledger: *const u32, $length: usize)?, layer: u32, row: u32, fluxes: *const i32, fl: usize) -> u64;
                 #[link_name = concat!($prefix, "_meridional")]
-                fn meridional(w: u32, r: u32, k: u32, n: u32, air: *mut u32, al: usize, gas: *mut u32, gl: usize, layer: u32, fluxes: *const i32, fl: usize) -> u64;
+                fn meridional(w: u32, r: u32, k: u32, n: u32, air: *mut u32, al: usize, gas: *mut u32, gl: usize $(, $ledger: *const u32, $length: usize)?, layer: u32, fluxes: *const i32, fl: usize) -> u64;
                 #[link_name = concat!($prefix, "_remap")]
-                fn remap(w: u32, r: u32, k: u32, n: u32, air: *mut u32, al: usize, gas: *mut u32, gl: usize, table: *const u32, tl: usize) -> u64;
+                fn remap(w: u32, r: u32, k: u32, n: u32, air: *mut u32, al: usize, gas: *mut u32, gl: usize $(, $ledger: *const u32, $length: usize)?, table: *const u32, tl: usize) -> u64;
             }
 
-            pub fn call(world: &mut World, call: &Call) -> u64 {
+            pub fn call(world: &mut World, call: &Call) -> Answer {
                 let (w, r, k, n) = (world.grid.w, world.grid.r, world.grid.k, world.grid.n);
                 let (air, al) = (world.air.as_mut_ptr(), world.air.len());
                 let (gas, gl) = (world.tracers.as_mut_ptr(), world.tracers.len());
+                $(let ($ledger, $length) = (world.ledger.as_mut_ptr(), world.ledger.len());)?
+                // SAFETY: each pointer goes with its list's length, and the lists are the caller's alone.
+                returned(unsafe {
+                    match call {
+                        Call::Load => load(w, r, k, n, air, al, gas, gl $(, $ledger, $length)?),
+                        Call::Total { tracer } => total(w, r, k, n, air, al, gas, gl $(, $ledger, $length)?, *tracer),
+                        Call::Cell { tracer, cell: at } => cell(w, r, k, n, air, al, gas, gl $(, $ledger, $length)?, *tracer, *at),
+                        Call::Emission { tracer, cell, amount } => emission(w, r, k, n, air, al, gas, gl $(, $ledger, $length)?, *tracer, *cell, *amount),
+                        Call::Withdrawal { tracer, cell, amount } => withdrawal(w, r, k, n, air, al, gas, gl $(, $ledger, $length)?, *tracer, *cell, *amount),
+                        Call::Zonal { layer, row, fluxes } => zonal(w, r, k, n, air, al, gas, gl $(, $ledger, $length)?, *layer, *row, fluxes.as_ptr(), fluxes.len()),
+                        Call::LongZonal { layer, row, fluxes } => long_zonal(w, r, k, n, air, al, gas, gl $(, $ledger, $length)?, *layer, *row, fluxes.as_ptr(), fluxes.len()),
+                        Call::Meridional { layer, fluxes } => meridional(w, r, k, n, air, al, gas, gl $(, $ledger, $length)?, *layer, fluxes.as_ptr(), fluxes.len()),
+                        Call::Remap { table } => remap(w, r, k, n, air, al, gas, gl $(, $ledger, $length)?, table.as_ptr(), table.len()),
+                        _ => return $on_emitters(world, call),
+                    }
+                })
+            }
+        }
+    };
+}
+
+/// The raw calls on emitters, under a prefix. A reading is two: its answer, and, where it is accepted, its number.
+#[rustfmt::skip]
+macro_rules! c_calls_on_emitters {
+    ($module:ident, $prefix:literal) => {
+        mod $module {
+            use super::returned;
+            use reference::{Answer, Call, World};
+
+            extern "C" {
+                #[link_name = concat!($prefix, "_add_emitter")]
+                fn add_emitter(w: u32, r: u32, k: u32, n: u32, air: *const u32, al: usize, gas: *const u32, gl: usize, ledger: *mut u32, ll: usize, tracer: u32, cell: u32, id: u32, units: u32) -> u64;
+                #[link_name = concat!($prefix, "_remove_emitter")]
+                fn remove_emitter(w: u32, r: u32, k: u32, n: u32, air: *const u32, al: usize, gas: *const u32, gl: usize, ledger: *mut u32, ll: usize, tracer: u32, id: u32) -> u64;
+                #[link_name = concat!($prefix, "_tick")]
+                fn tick(w: u32, r: u32, k: u32, n: u32, air: *const u32, al: usize, gas: *mut u32, gl: usize, ledger: *const u32, ll: usize, tracer: u32) -> u64;
+                #[link_name = concat!($prefix, "_units_a_tick")]
+                fn units_a_tick(w: u32, r: u32, k: u32, n: u32, air: *const u32, al: usize, gas: *const u32, gl: usize, ledger: *const u32, ll: usize, tracer: u32) -> u32;
+                #[link_name = concat!($prefix, "_units_a_tick_number")]
+                fn units_a_tick_number(w: u32, r: u32, k: u32, n: u32, air: *const u32, al: usize, gas: *const u32, gl: usize, ledger: *const u32, ll: usize, tracer: u32) -> u64;
+            }
+
+            pub fn call(world: &mut World, call: &Call) -> Answer {
+                let (w, r, k, n) = (world.grid.w, world.grid.r, world.grid.k, world.grid.n);
+                let (air, al) = (world.air.as_ptr(), world.air.len());
+                let (gas, gl) = (world.tracers.as_mut_ptr(), world.tracers.len());
+                let (ledger, ll) = (world.ledger.as_mut_ptr(), world.ledger.len());
                 // SAFETY: each pointer goes with its list's length, and the lists are the caller's alone.
                 unsafe {
                     match call {
-                        Call::Load => load(w, r, k, n, air, al, gas, gl),
-                        Call::Total { tracer } => total(w, r, k, n, air, al, gas, gl, *tracer),
-                        Call::Cell { tracer, cell: at } => cell(w, r, k, n, air, al, gas, gl, *tracer, *at),
-                        Call::Emission { tracer, cell, amount } => emission(w, r, k, n, air, al, gas, gl, *tracer, *cell, *amount),
-                        Call::Withdrawal { tracer, cell, amount } => withdrawal(w, r, k, n, air, al, gas, gl, *tracer, *cell, *amount),
-                        Call::Zonal { layer, row, fluxes } => zonal(w, r, k, n, air, al, gas, gl, *layer, *row, fluxes.as_ptr(), fluxes.len()),
-                        Call::LongZonal { layer, row, fluxes } => long_zonal(w, r, k, n, air, al, gas, gl, *layer, *row, fluxes.as_ptr(), fluxes.len()),
-                        Call::Meridional { layer, fluxes } => meridional(w, r, k, n, air, al, gas, gl, *layer, fluxes.as_ptr(), fluxes.len()),
-                        Call::Remap { table } => remap(w, r, k, n, air, al, gas, gl, table.as_ptr(), table.len()),
+                        Call::AddEmitter { tracer, cell, id, units } => returned(add_emitter(w, r, k, n, air, al, gas, gl, ledger, ll, *tracer, *cell, *id, *units)),
+                        Call::RemoveEmitter { tracer, id } => returned(remove_emitter(w, r, k, n, air, al, gas, gl, ledger, ll, *tracer, *id)),
+                        Call::Tick { tracer } => returned(tick(w, r, k, n, air, al, gas, gl, ledger, ll, *tracer)),
+                        Call::UnitsATick { tracer } => {
+                            let number = units_a_tick(w, r, k, n, air, al, gas, gl, ledger, ll, *tracer);
+                            let accepted = number == 0;
+                            let count = if accepted { units_a_tick_number(w, r, k, n, air, al, gas, gl, ledger, ll, *tracer) } else { 0 };
+                            Answer { number, count }
+                        }
+                        _ => unreachable!("{call:?} is not on emitters"),
                     }
                 }
             }
@@ -72,48 +157,70 @@ macro_rules! c_calls {
     };
 }
 
-c_calls!(library0, "library0");
-c_calls!(library1, "library1");
-c_calls!(library2, "library2");
-c_calls!(library3, "library3");
-c_calls!(native0, "native0");
-c_calls!(native1, "native1");
-c_calls!(native2, "native2");
-c_calls!(native3, "native3");
-c_calls!(o3_0, "o3_0");
-c_calls!(o3_1, "o3_1");
-c_calls!(o3_2, "o3_2");
-c_calls!(o3_3, "o3_3");
+/// Every call, under a prefix.
+macro_rules! all_c_calls {
+    ($module:ident, $on_emitters:ident, $prefix:literal) => {
+        c_calls_on_emitters!($on_emitters, $prefix);
+        c_calls!($module, $prefix, super::$on_emitters::call, ledger ll);
+    };
+}
 
-fn rust(world: &mut World, call: &Call) -> u64 {
-    let World { grid, air, tracers } = world;
+all_c_calls!(library0, library0_emitters, "library0");
+all_c_calls!(library1, library1_emitters, "library1");
+all_c_calls!(library2, library2_emitters, "library2");
+all_c_calls!(library3, library3_emitters, "library3");
+all_c_calls!(o3_0, o3_0_emitters, "o3_0");
+all_c_calls!(o3_1, o3_1_emitters, "o3_1");
+all_c_calls!(o3_2, o3_2_emitters, "o3_2");
+all_c_calls!(o3_3, o3_3_emitters, "o3_3");
+
+/// The calls of plain C, or of the library before.
+#[cfg(not(before_without_ledger))]
+macro_rules! native_calls {
+    ($module:ident, $on_emitters:ident, $prefix:literal) => {
+        all_c_calls!($module, $on_emitters, $prefix);
+    };
+}
+
+#[cfg(before_without_ledger)]
+macro_rules! native_calls {
+    ($module:ident, $on_emitters:ident, $prefix:literal) => {
+        c_calls!($module, $prefix, super::on_no_emitters);
+    };
+}
+
+#[cfg(before_without_ledger)]
+fn on_no_emitters(_: &mut World, call: &Call) -> Answer {
+    unreachable!("the library before has no {call:?}")
+}
+
+native_calls!(native0, native0_emitters, "native0");
+native_calls!(native1, native1_emitters, "native1");
+native_calls!(native2, native2_emitters, "native2");
+native_calls!(native3, native3_emitters, "native3");
+
+#[rustfmt::skip]
+fn rust(world: &mut World, call: &Call) -> Answer {
+    let World { grid, air, tracers, ledger } = world;
     let grid = *grid;
     let outcome = match call {
-        Call::Load => plain::load(grid, air, tracers),
-        Call::Total { tracer } => plain::total(grid, air, tracers, *tracer),
-        Call::Cell { tracer, cell } => plain::cell(grid, air, tracers, *tracer, *cell),
-        Call::Emission {
-            tracer,
-            cell,
-            amount,
-        } => plain::emission(grid, air, tracers, *tracer, *cell, *amount),
-        Call::Withdrawal {
-            tracer,
-            cell,
-            amount,
-        } => plain::withdrawal(grid, air, tracers, *tracer, *cell, *amount),
-        Call::Zonal { layer, row, fluxes } => {
-            plain::zonal(grid, air, tracers, *layer, *row, fluxes)
-        }
-        Call::LongZonal { layer, row, fluxes } => {
-            plain::long_zonal(grid, air, tracers, *layer, *row, fluxes)
-        }
-        Call::Meridional { layer, fluxes } => plain::meridional(grid, air, tracers, *layer, fluxes),
-        Call::Remap { table } => plain::remap(grid, air, tracers, table),
+        Call::Load => plain::load(grid, air, tracers, ledger),
+        Call::Total { tracer } => plain::total(grid, air, tracers, ledger, *tracer),
+        Call::Cell { tracer, cell } => plain::cell(grid, air, tracers, ledger, *tracer, *cell),
+        Call::Emission { tracer, cell, amount } => plain::emission(grid, air, tracers, ledger, *tracer, *cell, *amount),
+        Call::Withdrawal { tracer, cell, amount } => plain::withdrawal(grid, air, tracers, ledger, *tracer, *cell, *amount),
+        Call::Zonal { layer, row, fluxes } => plain::zonal(grid, air, tracers, ledger, *layer, *row, fluxes),
+        Call::LongZonal { layer, row, fluxes } => plain::long_zonal(grid, air, tracers, ledger, *layer, *row, fluxes),
+        Call::Meridional { layer, fluxes } => plain::meridional(grid, air, tracers, ledger, *layer, fluxes),
+        Call::Remap { table } => plain::remap(grid, air, tracers, ledger, table),
+        Call::AddEmitter { tracer, cell, id, units } => plain::add_emitter(grid, air, tracers, ledger, *tracer, [*id, *cell, *units]),
+        Call::RemoveEmitter { tracer, id } => plain::remove_emitter(grid, air, tracers, ledger, *tracer, *id),
+        Call::Tick { tracer } => plain::tick(grid, air, tracers, ledger, *tracer),
+        Call::UnitsATick { tracer } => plain::units_a_tick(grid, air, tracers, ledger, *tracer),
     };
     match outcome {
-        Ok(count) => u64::from(count),
-        Err(number) => u64::from(number) << 32,
+        Ok(count) => Answer { number: 0, count },
+        Err(number) => Answer { number, count: 0 },
     }
 }
 
@@ -129,6 +236,7 @@ pub const VERSIONS: [Version; COUNT] = [
             library2::call,
             library3::call,
         ],
+        ledger: true,
     },
     Version {
         // tools/benchmark may link an earlier library here
@@ -137,14 +245,17 @@ pub const VERSIONS: [Version; COUNT] = [
             None => "gcc -O3 -march=native",
         },
         calls: [native0::call, native1::call, native2::call, native3::call],
+        ledger: cfg!(not(before_without_ledger)),
     },
     Version {
         name: "gcc -O3",
         calls: [o3_0::call, o3_1::call, o3_2::call, o3_3::call],
+        ledger: true,
     },
     Version {
         name: "Rust -O",
         calls: [rust; PLACES],
+        ledger: true,
     },
 ];
 

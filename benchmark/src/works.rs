@@ -18,16 +18,18 @@ pub const FULL: Grid = Grid {
     n: 8,
 };
 
-/// The calls of one kind, and its name.
+/// The calls of one kind, its name, and how many emitters stand for each tracer.
 pub struct Kind {
     pub name: &'static str,
     pub calls: fn(&mut Random, &World) -> Vec<Call>,
+    pub standing: usize,
 }
 
-pub const KINDS: [Kind; 9] = [
+pub const KINDS: [Kind; 12] = [
     Kind {
         name: "load",
         calls: |_, _| vec![Call::Load],
+        standing: 0,
     },
     Kind {
         name: "emission",
@@ -38,6 +40,7 @@ pub const KINDS: [Kind; 9] = [
                 amount: 1,
             }]
         },
+        standing: 0,
     },
     Kind {
         name: "withdrawal",
@@ -48,10 +51,12 @@ pub const KINDS: [Kind; 9] = [
                 amount: 1,
             }]
         },
+        standing: 0,
     },
     Kind {
         name: "total",
         calls: |_, _| vec![Call::Total { tracer: 0 }],
+        standing: 0,
     },
     Kind {
         name: "cell",
@@ -61,22 +66,51 @@ pub const KINDS: [Kind; 9] = [
                 cell: middle(world),
             }]
         },
+        standing: 0,
     },
     Kind {
         name: "zonal",
         calls: zonal,
+        standing: 0,
     },
     Kind {
         name: "long_zonal",
         calls: long_zonal,
+        standing: 0,
     },
     Kind {
         name: "meridional",
         calls: meridional,
+        standing: 0,
     },
     Kind {
         name: "remap",
         calls: remap,
+        standing: 0,
+    },
+    Kind {
+        name: "add_emitter, remove_emitter",
+        calls: |_, world| {
+            let (tracer, id) = (0, 1_000);
+            let add = Call::AddEmitter {
+                tracer,
+                cell: middle(world),
+                id,
+                units: 1,
+            };
+            vec![add, Call::RemoveEmitter { tracer, id }]
+        },
+        standing: 15,
+    },
+    Kind {
+        name: "tick",
+        calls: |_, _| vec![Call::Tick { tracer: 0 }],
+        standing: 16,
+    },
+    Kind {
+        name: "units_a_tick",
+        calls: |_, _| vec![Call::UnitsATick { tracer: 0 }],
+        standing: 16,
     },
 ];
 

@@ -5,36 +5,48 @@ use puldeho::{raw, Grid, Refusal};
 use reference::{Call, World};
 
 /// Makes the call in the library.
-pub fn call(world: &mut World, call: &Call) -> Result<u32, Refusal> {
-    let World { grid, air, tracers } = world;
+pub fn call(world: &mut World, call: &Call) -> Result<u64, Refusal> {
+    let World { grid, air, tracers, ledger } = world;
     let grid = Grid { w: grid.w, r: grid.r, k: grid.k, n: grid.n };
     match call {
         Call::Load => {
-            raw::load(grid, air, tracers)
+            raw::load(grid, air, tracers, ledger).map(u64::from)
         }
         Call::Emission { tracer, cell, amount } => {
-            raw::emission(grid, air, tracers, *tracer, *cell, *amount)
+            raw::emission(grid, air, tracers, ledger, *tracer, *cell, *amount).map(u64::from)
         }
         Call::Withdrawal { tracer, cell, amount } => {
-            raw::withdrawal(grid, air, tracers, *tracer, *cell, *amount)
+            raw::withdrawal(grid, air, tracers, ledger, *tracer, *cell, *amount).map(u64::from)
         }
         Call::Zonal { layer, row, fluxes } => {
-            raw::zonal(grid, air, tracers, *layer, *row, fluxes)
+            raw::zonal(grid, air, tracers, ledger, *layer, *row, fluxes).map(u64::from)
         }
         Call::LongZonal { layer, row, fluxes } => {
-            raw::long_zonal(grid, air, tracers, *layer, *row, fluxes)
+            raw::long_zonal(grid, air, tracers, ledger, *layer, *row, fluxes).map(u64::from)
         }
         Call::Meridional { layer, fluxes } => {
-            raw::meridional(grid, air, tracers, *layer, fluxes)
+            raw::meridional(grid, air, tracers, ledger, *layer, fluxes).map(u64::from)
         }
         Call::Remap { table } => {
-            raw::remap(grid, air, tracers, table)
+            raw::remap(grid, air, tracers, ledger, table).map(u64::from)
         }
         Call::Total { tracer } => {
-            raw::total(grid, air, tracers, *tracer)
+            raw::total(grid, air, tracers, ledger, *tracer).map(u64::from)
         }
         Call::Cell { tracer, cell } => {
-            raw::cell(grid, air, tracers, *tracer, *cell)
+            raw::cell(grid, air, tracers, ledger, *tracer, *cell).map(u64::from)
+        }
+        Call::AddEmitter { tracer, cell, id, units } => {
+            raw::add_emitter(grid, air, tracers, ledger, *tracer, *cell, *id, *units).map(u64::from)
+        }
+        Call::RemoveEmitter { tracer, id } => {
+            raw::remove_emitter(grid, air, tracers, ledger, *tracer, *id).map(u64::from)
+        }
+        Call::Tick { tracer } => {
+            raw::tick(grid, air, tracers, ledger, *tracer).map(u64::from)
+        }
+        Call::UnitsATick { tracer } => {
+            raw::units_a_tick(grid, air, tracers, ledger, *tracer)
         }
     }
 }
@@ -51,6 +63,10 @@ pub fn name(call: &Call) -> &'static str {
         Call::Remap { .. } => "remap",
         Call::Total { .. } => "total",
         Call::Cell { .. } => "cell",
+        Call::AddEmitter { .. } => "add_emitter",
+        Call::RemoveEmitter { .. } => "remove_emitter",
+        Call::Tick { .. } => "tick",
+        Call::UnitsATick { .. } => "units_a_tick",
     }
 }
 
@@ -66,6 +82,10 @@ pub fn refusals(call: &Call) -> &'static [u32] {
         Call::Remap { .. } => &[1, 2, 3, 4, 11, 12],
         Call::Total { .. } => &[1, 2, 3, 4, 5],
         Call::Cell { .. } => &[1, 2, 3, 4, 5],
+        Call::AddEmitter { .. } => &[1, 2, 3, 4, 5, 18],
+        Call::RemoveEmitter { .. } => &[1, 2, 3, 4, 5, 19],
+        Call::Tick { .. } => &[1, 2, 3, 4, 5, 6],
+        Call::UnitsATick { .. } => &[1, 2, 3, 4, 5],
     }
 }
 
@@ -80,6 +100,10 @@ pub const TABLE: &[(&str, &[u32])] = &[
     ("remap", &[1, 2, 3, 4, 11, 12]),
     ("total", &[1, 2, 3, 4, 5]),
     ("cell", &[1, 2, 3, 4, 5]),
+    ("add_emitter", &[1, 2, 3, 4, 5, 18]),
+    ("remove_emitter", &[1, 2, 3, 4, 5, 19]),
+    ("tick", &[1, 2, 3, 4, 5, 6]),
+    ("units_a_tick", &[1, 2, 3, 4, 5]),
 ];
 
 /// The call as a line of a script.
@@ -94,6 +118,10 @@ pub fn line(call: &Call) -> String {
         Call::Remap { table } => format!("remap{}", numbers(table)),
         Call::Total { tracer } => format!("total {tracer}"),
         Call::Cell { tracer, cell } => format!("cell {tracer} {cell}"),
+        Call::AddEmitter { tracer, cell, id, units } => format!("add_emitter {tracer} {cell} {id} {units}"),
+        Call::RemoveEmitter { tracer, id } => format!("remove_emitter {tracer} {id}"),
+        Call::Tick { tracer } => format!("tick {tracer}"),
+        Call::UnitsATick { tracer } => format!("units_a_tick {tracer}"),
     }
 }
 

@@ -1,5 +1,5 @@
 //! Compares the proved library with the second implementation, call by call, on seeded worlds:
-//! answer, count, all air and all tracers after every call. A difference is made as small as it
+//! answer, count, all air, all tracers and the whole ledger after every call. A difference is made as small as it
 //! can be made and printed, and the exit status is 1.
 //!
 //!     compare [LISTS]                     how many lists of calls to run (default 2,000)
@@ -8,7 +8,9 @@
 //!     compare long-run                    writes one long input of the runner
 //!     compare long-loop [RECORDS]         writes an input of so many records (default 5,000,000)
 
+mod emitters;
 mod inputs;
+mod ledgers;
 #[rustfmt::skip]
 mod library;
 mod long;
@@ -29,10 +31,7 @@ const FULL: u64 = 2_000;
 /// Makes the call in the library; its answer in the second implementation's form.
 fn library_call(world: &mut World, call: &Call) -> Answer {
     match library::call(world, call) {
-        Ok(count) => Answer {
-            number: 0,
-            count: count.into(),
-        },
+        Ok(count) => Answer { number: 0, count },
         Err(refusal) => Answer {
             number: refusal as u32,
             count: 0,
@@ -54,14 +53,20 @@ fn differ(world: &World, call: &Call) -> bool {
     both(world, call).2
 }
 
-/// Number i of the world: air, then tracers.
+/// Every number of the world: air, tracers, ledger.
+fn numbers(world: &mut World) -> impl Iterator<Item = &mut u32> {
+    let World {
+        air,
+        tracers,
+        ledger,
+        ..
+    } = world;
+    air.iter_mut().chain(tracers).chain(ledger)
+}
+
+/// Number i of the world.
 fn number(world: &mut World, i: usize) -> &mut u32 {
-    let airs = world.air.len();
-    if i < airs {
-        &mut world.air[i]
-    } else {
-        &mut world.tracers[i - airs]
-    }
+    numbers(world).nth(i).expect("a number of the world")
 }
 
 /// The values to try in place of x: smaller ones.
@@ -86,7 +91,7 @@ fn fluxes_of(call: &mut Call) -> &mut [i32] {
 fn shrink(mut world: World, mut call: Call) -> (World, Call) {
     loop {
         let mut changed = false;
-        for i in 0..world.air.len() + world.tracers.len() {
+        for i in 0..numbers(&mut world).count() {
             for y in smaller(*number(&mut world, i)) {
                 let mut trial = world.clone();
                 *number(&mut trial, i) = y;
@@ -116,32 +121,35 @@ fn shrink(mut world: World, mut call: Call) -> (World, Call) {
     }
 }
 
+/// The world's lists, a line each.
+fn lists(world: &World) -> String {
+    format!(
+        "  air {:?}\n  tracers {:?}\n  ledger {:?}",
+        world.air, world.tracers, world.ledger
+    )
+}
+
 fn report(world: &World, call: &Call) {
     let (world, call) = shrink(world.clone(), call.clone());
     println!(
-        "DIFFERENT: {:?}\n  {:?}\n  air {:?}\n  tracers {:?}",
-        call, world.grid, world.air, world.tracers
+        "DIFFERENT: {:?}\n  {:?}\n{}",
+        call,
+        world.grid,
+        lists(&world)
     );
     let mut ours = world.clone();
+    let answer = library_call(&mut ours, &call);
+    println!("library: {answer:?}\n{}", lists(&ours));
     let mut theirs = world.clone();
-    println!(
-        "library: {:?}\n  air {:?}\n  tracers {:?}",
-        library_call(&mut ours, &call),
-        ours.air,
-        ours.tracers
-    );
-    println!(
-        "second implementation: {:?}\n  air {:?}\n  tracers {:?}",
-        reference::call(&mut theirs, &call),
-        theirs.air,
-        theirs.tracers
-    );
+    let answer = reference::call(&mut theirs, &call);
+    println!("second implementation: {answer:?}\n{}", lists(&theirs));
 }
 
 /// Runs the lists in both and stops at a difference.
 fn compare_calls(lists: u64) {
     let mut seen: BTreeMap<(&str, u32), u64> = BTreeMap::new();
     let mut long = long::Situations::default();
+    let mut emitters = emitters::Situations::default();
     for list in 0..lists {
         let size = if list * 10 < lists * 6 {
             0
@@ -154,7 +162,7 @@ fn compare_calls(lists: u64) {
         };
         let mut random = worlds::Random::new(list + 1);
         let grid = worlds::grid(&mut random, size);
-        let mut world = worlds::world(&mut random, grid);
+        let mut world = worlds::world_with_ledger(&mut random, grid);
         for _ in 0..CALLS {
             let call = worlds::call(&mut random, &world);
             let (want, after, differ) = both(&world, &call);
@@ -170,6 +178,7 @@ fn compare_calls(lists: u64) {
                 std::process::exit(1);
             }
             long.add(&world, &call, &after, want.number);
+            emitters.add(&world, &call, &after, want);
             world = after;
             *seen.entry((library::name(&call), want.number)).or_default() += 1;
         }
@@ -179,13 +188,14 @@ fn compare_calls(lists: u64) {
         println!("  {kind} {number}: {times}");
     }
     long.print();
+    emitters.print();
     if lists >= FULL {
-        all_reached(&seen, &long);
+        all_reached(&seen, long.missing().chain(emitters.missing()));
     }
 }
 
-/// Fails if a call did not get an answer that bindings/calls.txt names for it, or a situation of the long sweep was not met.
-fn all_reached(seen: &BTreeMap<(&str, u32), u64>, long: &long::Situations) {
+/// Fails if a call did not get an answer that bindings/calls.txt names for it, or a situation was not met.
+fn all_reached(seen: &BTreeMap<(&str, u32), u64>, unmet: impl Iterator<Item = String>) {
     let pairs = library::TABLE.iter().flat_map(|(name, refusals)| {
         let answers = std::iter::once(0).chain(refusals.iter().copied());
         answers.map(move |number| (*name, number))
@@ -194,7 +204,7 @@ fn all_reached(seen: &BTreeMap<(&str, u32), u64>, long: &long::Situations) {
         .filter(|pair| !seen.contains_key(pair))
         .map(|(name, number)| format!("{name} never got {number}"))
         .collect();
-    missing.extend(long.missing());
+    missing.extend(unmet);
     if !missing.is_empty() {
         println!("not reached: {}", missing.join("; "));
         std::process::exit(1);
@@ -207,13 +217,14 @@ fn script(lists: u64) {
     for list in 0..lists {
         let mut random = worlds::Random::new(list + 1);
         let grid = worlds::grid(&mut random, u32::from(list % 4 == 3));
-        let mut world = worlds::world(&mut random, grid);
+        let mut world = worlds::world_with_ledger(&mut random, grid);
         println!("grid {} {} {} {}", grid.w, grid.r, grid.k, grid.n);
         println!("air{}", library::numbers(&world.air));
         println!("tracers{}", library::numbers(&world.tracers));
+        println!("ledger{}", library::numbers(&world.ledger));
         for _ in 0..CALLS {
             let call = worlds::call(&mut random, &world);
-            println!("{}\nshow", library::line(&call));
+            println!("{}\nshow\nshow_ledger", library::line(&call));
             reference::call(&mut world, &call);
         }
     }

@@ -16,7 +16,6 @@ pub fn load(world: &World) -> Vec<u8> {
 pub fn call(asked: &Call) -> Vec<u8> {
     match asked {
         Call::Load => unreachable!("a load's record has the world's numbers"),
-        Call::LongZonal { .. } => unreachable!("a long sweep has no record"),
         Call::Emission {
             tracer,
             cell,
@@ -34,6 +33,7 @@ pub fn call(asked: &Call) -> Vec<u8> {
         Call::Remap { table } => [vec![7], unsigned(table)].concat(),
         Call::Total { tracer } => vec![8, *tracer as u8],
         Call::Cell { tracer, cell } => [vec![9, *tracer as u8], two_bytes(*cell)].concat(),
+        _ => unreachable!("{asked:?} has no record"),
     }
 }
 
@@ -41,7 +41,6 @@ pub fn call(asked: &Call) -> Vec<u8> {
 /// the grid's length.
 pub fn fitted(mut asked: Call, g: &Grid) -> Call {
     match &mut asked {
-        Call::Load | Call::LongZonal { .. } => {}
         Call::Emission { tracer, cell, .. }
         | Call::Withdrawal { tracer, cell, .. }
         | Call::Cell { tracer, cell } => {
@@ -59,6 +58,7 @@ pub fn fitted(mut asked: Call, g: &Grid) -> Call {
         }
         Call::Remap { table } => table.resize(2 * (g.k as usize + 1), 0),
         Call::Total { tracer } => *tracer = (*tracer).min(255),
+        _ => {}
     }
     asked
 }

@@ -1,8 +1,9 @@
 //! Seeded worlds and calls: mostly in range, some at and past the limits, some with lists of a wrong length.
 
+use crate::ledgers;
 use reference::{Call, Grid, World};
 
-const MOST: u64 = 268_435_455;
+pub const MOST: u64 = 268_435_455;
 
 /// xorshift64*, so that a run is the same on every machine.
 pub struct Random(u64);
@@ -67,13 +68,14 @@ pub fn grid(random: &mut Random, size: u32) -> Grid {
     g
 }
 
-fn in_range(g: &Grid) -> bool {
+pub fn in_range(g: &Grid) -> bool {
     (4..=72).contains(&g.w)
         && (1..=44).contains(&g.r)
         && (1..=32).contains(&g.k)
         && (1..=8).contains(&g.n)
 }
 
+/// A world in which no emitter stands. The runner's inputs are made from it, and are the same bytes as before the ledger.
 pub fn world(random: &mut Random, grid: Grid) -> World {
     let (count, tracers) = if in_range(&grid) {
         (cells(&grid), grid.n as u64)
@@ -110,11 +112,12 @@ pub fn world(random: &mut Random, grid: Grid) -> World {
         grid,
         air,
         tracers: amounts,
+        ledger: vec![0; tracers as usize * ledgers::BLOCK],
     }
 }
 
 /// An index of n, now and then absent.
-fn index(random: &mut Random, n: u64) -> u32 {
+pub fn index(random: &mut Random, n: u64) -> u32 {
     if random.one_in(25) {
         [n, n + 1, u32::MAX as u64][random.below(3) as usize].min(u32::MAX as u64) as u32
     } else {
@@ -218,11 +221,23 @@ fn long_exception(random: &mut Random, air: &[u32], turn: i64, fluxes: &mut Vec<
     }
 }
 
+/// A world with any ledger.
+pub fn world_with_ledger(random: &mut Random, grid: Grid) -> World {
+    let mut world = world(random, grid);
+    ledgers::lend(random, &mut world);
+    world
+}
+
 /// Any call of the library.
 pub fn call(random: &mut Random, world: &World) -> Call {
-    if !random.one_in(5) {
-        return recorded_call(random, world);
+    match random.below(10) {
+        0 | 1 => long_call(random, world),
+        2..=4 => ledgers::call(random, world),
+        _ => recorded_call(random, world),
     }
+}
+
+fn long_call(random: &mut Random, world: &World) -> Call {
     let layer = index(random, world.grid.k as u64);
     let row = index(random, world.grid.r as u64);
     let fluxes = long_fluxes(random, &row_air(world, layer, row));
