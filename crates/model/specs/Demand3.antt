@@ -21,7 +21,7 @@ use Rattle.model.specs.Laws.LongZonal.{long-keeps}
 use Rattle.model.specs.Laws.Meridional.{meridional-keeps}
 use Rattle.model.specs.Laws.Remap.{remap-keeps}
 use Rattle.model.specs.Cases.{computes}
-use Rattle.model.specs.Cases.Marked.{four, stair}
+use Rattle.model.specs.Cases.Marked.{four, peak, stair}
 
 -- What demand 3 says at point i of a list of calls that starts at the world `start`, which an accepted load left
 pub record HoldsAt (start : World) (calls : List Call) (i : ℕ) : Type 0 where
@@ -114,7 +114,7 @@ emitters-reached w calls start no-loads i =
           (answer, reading-is-sum now t answer),
     )
 
--- A list that meets the premises, its answers, counts and totals by computation, so that the theorem is not empty: the world of m9, and calls of every kind, six of them refused.
+-- Two lists that meet the premises, their answers, counts and totals by computation, so that the theorem is not empty: calls of every kind, on the world of m9 and on that of m1, six of them refused.
 abbrev worked : List Call
 worked =
     emission 0 1 268433655 ∷ emission 0 1 1 ∷ withdrawal 0 1 268433600 ∷ emission 0 3 20 ∷
@@ -125,48 +125,54 @@ worked =
     longZonal 1 0 (four (pos 0) (pos 1000) (pos 0) (pos 0)) ∷
     remap (0 ∷ 0 ∷ 0 ∷ 32768 ∷ 200 ∷ 0 ∷ 0 ∷ 65536 ∷ []) ∷
     remap (0 ∷ 0 ∷ 200 ∷ 0 ∷ 200 ∷ 0 ∷ 0 ∷ 65536 ∷ []) ∷
-    addEmitter 0 8 77 5 ∷ addEmitter 0 9 77 6 ∷ tick 0 ∷ unitsATick 0 ∷ removeEmitter 0 77 ∷ removeEmitter 0 77 ∷
     total 0 ∷
     cell 0 8 ∷
     []
 
-pub worked-start : Loaded stair
-unfolding computes
-worked-start = refl
+abbrev ticks : List Call
+ticks =
+    addEmitter 0 3 77 5 ∷ addEmitter 0 2 77 6 ∷ tick 0 ∷ tick 0 ∷ unitsATick 0 ∷ removeEmitter 0 77 ∷ removeEmitter 0 77 ∷
+    cell 0 3 ∷ []
 
-worked-listed : listed worked ≡ true
+pub worked-start : Loaded stair × Loaded peak
+unfolding computes
+worked-start = (refl, refl)
+
+pub worked-listed : (listed worked ≡ true) × (listed ticks ≡ true)
 unfolding listed
-worked-listed = refl
+worked-listed = (refl, refl)
 
 pub worked-answers :
-    tab 19 (λ i. step (point (loadedWorld stair) worked i) (callAt worked i) .answer) ≡
-    0 ∷ 6 ∷ 0 ∷ 0 ∷ 0 ∷ 0 ∷ 9 ∷ 0 ∷ 16 ∷ 0 ∷ 12 ∷ 0 ∷ 18 ∷ 0 ∷ 0 ∷ 0 ∷ 19 ∷ 0 ∷ 0 ∷ []
+    (tab 13 (λ i. step (point (loadedWorld stair) worked i) (callAt worked i) .answer) ≡ 0 ∷ 6 ∷ 0 ∷ 0 ∷ 0 ∷ 0 ∷ 9 ∷ 0 ∷ 16 ∷ 0 ∷ 12 ∷ 0 ∷ 0 ∷ [])
+    × (tab 8 (λ i. step (point (loadedWorld peak) ticks i) (callAt ticks i) .answer) ≡ 0 ∷ 18 ∷ 0 ∷ 0 ∷ 0 ∷ 0 ∷ 19 ∷ 0 ∷ [])
 unfolding computes after
-worked-answers = refl
+worked-answers = (refl, refl)
 
 pub worked-counts :
-    tab 19 (λ i. step (point (loadedWorld stair) worked i) (callAt worked i) .count) ≡
-    0 ∷ 0 ∷ 0 ∷ 0 ∷ 1 ∷ 1 ∷ 0 ∷ 0 ∷ 0 ∷ 28 ∷ 0 ∷ 0 ∷ 0 ∷ 0 ∷ 5 ∷ 0 ∷ 0 ∷ 1880 ∷ 182 ∷ []
+    (tab 13 (λ i. step (point (loadedWorld stair) worked i) (callAt worked i) .count) ≡ 0 ∷ 0 ∷ 0 ∷ 0 ∷ 1 ∷ 1 ∷ 0 ∷ 0 ∷ 0 ∷ 28 ∷ 0 ∷ 1875 ∷ 177 ∷ [])
+    × (tab 8 (λ i. step (point (loadedWorld peak) ticks i) (callAt ticks i) .count) ≡ 0 ∷ 0 ∷ 0 ∷ 0 ∷ 5 ∷ 0 ∷ 0 ∷ 210 ∷ [])
 unfolding computes after
-worked-counts = refl
+worked-counts = (refl, refl)
 
 pub worked-totals :
-    tab 20 (λ i. gasTotal (point (loadedWorld stair) worked i) 0) ≡ 1800 ∷ 268435455 ∷ 268435455 ∷ 1855 ∷ replicate 10 1875 ++ replicate 6 1880
+    (tab 14 (λ i. gasTotal (point (loadedWorld stair) worked i) 0) ≡ 1800 ∷ 268435455 ∷ 268435455 ∷ 1855 ∷ replicate 10 1875)
+    × (tab 9 (λ i. gasTotal (point (loadedWorld peak) ticks i) 0) ≡ 400 ∷ 400 ∷ 400 ∷ 405 ∷ replicate 5 410)
 unfolding computes after
-worked-totals = refl
+worked-totals = (refl, refl)
 
-pub worked-air : tab 20 (λ i. airTotal (point (loadedWorld stair) worked i)) ≡ replicate 20 1800
+pub worked-air : tab 14 (λ i. airTotal (point (loadedWorld stair) worked i)) ≡ replicate 14 1800
 unfolding computes after
 worked-air = refl
 
 pub worked-emitted :
-    tab 20 (λ i. history (loadedWorld stair) 0 (take i worked) .emitted) ≡ 0 ∷ replicate 3 268433655 ++ replicate 10 268433675 ++ replicate 6 268433680
+    (tab 14 (λ i. history (loadedWorld stair) 0 (take i worked) .emitted) ≡ 0 ∷ replicate 3 268433655 ++ replicate 10 268433675)
+    × (tab 9 (λ i. history (loadedWorld peak) 0 (take i ticks) .emitted) ≡ 0 ∷ 0 ∷ 0 ∷ 5 ∷ replicate 5 10)
 unfolding computes history
-worked-emitted = refl
+worked-emitted = (refl, refl)
 
-pub worked-withdrawn : tab 20 (λ i. history (loadedWorld stair) 0 (take i worked) .withdrawn) ≡ replicate 3 0 ++ replicate 17 268433600
+pub worked-withdrawn : tab 14 (λ i. history (loadedWorld stair) 0 (take i worked) .withdrawn) ≡ replicate 3 0 ++ replicate 11 268433600
 unfolding computes history
 worked-withdrawn = refl
 
-pub worked-holds : (i : ℕ) → HoldsAt (loadedWorld stair) worked i
-worked-holds = demand-3 stair worked worked-start worked-listed
+pub worked-holds : ((i : ℕ) → HoldsAt (loadedWorld stair) worked i) × ((i : ℕ) → HoldsAt (loadedWorld peak) ticks i)
+worked-holds = (demand-3 stair worked (worked-start .0) (worked-listed .0), demand-3 peak ticks (worked-start .1) (worked-listed .1))

@@ -228,6 +228,9 @@ others =
     reads "y2-68 cell" broken (cell 0 3) 200 ∷
     []
 
-pub emitter-cases-hold : Hold (changed ++ ticks ++ faults ++ lengths ++ others)
-unfolding computes
-emitter-cases-hold = hold (changed ++ ticks ++ faults ++ lengths ++ others) refl
+pub emitter-cases : List Case
+emitter-cases = changed ++ ticks ++ faults ++ lengths ++ others
+
+pub emitter-cases-hold : Hold emitter-cases
+unfolding emitter-cases computes
+emitter-cases-hold = hold emitter-cases refl
