@@ -151,7 +151,7 @@ impl World {
 }
 
 /// The sum of amounts.
-fn sum(amounts: &[u32]) -> u64 {
+pub(crate) fn sum(amounts: &[u32]) -> u64 {
     amounts.iter().map(|&amount| u64::from(amount)).sum()
 }
 

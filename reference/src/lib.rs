@@ -1,6 +1,7 @@
 //! A second implementation of document 01, the tracer console's transport core,
-//! and of the requests of document 02 that have landed, written from their texts alone. Quotes
-//! in the comments are sentences of document 01, in long.rs and emitters.rs of both.
+//! and of the requests of document 02 that have landed, written from their texts; of the walk
+//! (walk.rs) README.md says what else was known. Quotes in the comments are sentences of
+//! document 01, in long.rs, emitters.rs and walk.rs of both.
 
 mod calls;
 mod emitters;
@@ -13,7 +14,9 @@ pub mod runner;
 pub mod scheme;
 pub mod script;
 mod substep;
+pub mod walk;
 mod zonal;
 
 pub use calls::{call, Answer, Call};
 pub use grid::{Grid, World};
+pub use remap::tracer_above_edges;

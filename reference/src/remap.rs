@@ -43,6 +43,14 @@ fn check_edges(edges: &[i64]) -> Result<(), u32> {
     good.then_some(()).ok_or(refusal::REMAP)
 }
 
+/// A column's edges, from the check of the table on.
+pub(crate) fn column_edges(table: &[u32], p: i64) -> Result<Vec<i64>, u32> {
+    check_table(table)?;
+    let edges = edges(table, p);
+    check_edges(&edges)?;
+    Ok(edges)
+}
+
 /// The places of rising edges, the first of them 0 and the last the column's air sum.
 fn places(air: &[i64], edges: &[i64]) -> Vec<Place> {
     let (mut whole, mut above) = (0, 0);
@@ -74,7 +82,7 @@ fn pieces(places: &[Place]) -> u64 {
 
 /// Each layer's mismatch in a column. "High side is down." "Caps (in a remap too), and the top
 /// and bottom layers in a remap, have D = 0."
-fn mismatches(air: &[i64], tracer: &[i64], is_cap: bool) -> Vec<i64> {
+pub(crate) fn mismatches(air: &[i64], tracer: &[i64], is_cap: bool) -> Vec<i64> {
     let mut mismatches = vec![0; air.len()];
     if is_cap {
         return mismatches;
@@ -110,6 +118,11 @@ fn tracer_from_top(air: &[i64], tracer: &[i64], is_cap: bool, places: &[Place]) 
         whole_layers[k] + piece
     };
     places.iter().map(at).collect()
+}
+
+/// G at each edge of one column. The edges rise from 0 to the column's air sum.
+pub fn tracer_above_edges(air: &[i64], tracer: &[i64], is_cap: bool, edges: &[i64]) -> Vec<i64> {
+    tracer_from_top(air, tracer, is_cap, &places(air, edges))
 }
 
 /// "A column is one cell place through all K layers": its amounts.

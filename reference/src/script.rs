@@ -1,5 +1,6 @@
 //! A text front end: lines that set a raw world, call and show.
 
+use crate::walk::{self, State};
 use crate::{call, Call, Grid, World};
 use std::str::FromStr;
 
@@ -62,12 +63,38 @@ fn run_line(world: &mut World, line: &str) -> Result<String, String> {
             fixed::<0>(arguments)?;
             return Ok(show_list("ledger", &world.ledger));
         }
+        "walk" => return walk_lines(world, arguments),
         _ => {
             let answer = call(world, &read_call(name, arguments)?);
             return Ok(format!("{} {} {}\n", name, answer.number, answer.count));
         }
     }
     Ok(String::new())
+}
+
+/// The walk down one column, whose layers are the lists of the lines `air` and `tracers`: its number
+/// of steps, then a line for each state.
+fn walk_lines(world: &World, arguments: &[&str]) -> Result<String, String> {
+    let numbers: Vec<u32> = numbers(arguments)?;
+    let states = match numbers.split_first() {
+        Some((&cap @ (0 | 1), table)) => {
+            walk::states_by_table(&world.air, &world.tracers, cap == 1, table)
+        }
+        _ => None,
+    };
+    let states = states.ok_or("no column to walk down")?;
+    let mut lines = format!("walk {}\n", walk::steps(&states));
+    for State {
+        layers,
+        above,
+        amount,
+        edges,
+        mark,
+    } in states
+    {
+        lines.push_str(&format!("{layers} {above} {amount} {edges} {mark}\n"));
+    }
+    Ok(lines)
 }
 
 fn read_grid(arguments: &[&str]) -> Result<Grid, String> {
