@@ -44,22 +44,17 @@ fn above(a: u64, b: u64) -> u64
     if b < a { a - b } else { 0 }
 }
 
-// The lesser of `most` and twice `room`; what could pass 64 bits is not doubled.
-fn at_most_twice(most: u64, room: u64) -> u64
-    ensures { λ r. ⌜ r ≡ min most (2 * room) ⌝ }
-{
-    if room <= most / 2 { 2 * room } else { most }
-}
-
-// The two limits of document 01 are one: twice the lesser of the distances to the least and to the greatest of the three.
+// The two limits of document 01 are one: twice the lesser of the distances a and b to the least and to the greatest of the three.
+// Where q lies between its neighbours, a and b together are |qb − qa|; else one of them is 0, and so is the size.
 pub fn mismatch(qa: u64, q: u64, qb: u64) -> Mismatch
     ensures { λ d. ⌜ IsMismatch qa q qb d ⌝ }
 {
     let low = lesser(qa, qb);
     let high = greater(qa, qb);
-    let room = lesser(above(q, low), above(high, q));
+    let a = above(q, low);
+    let b = above(high, q);
     Mismatch {
-        size: at_most_twice((high - low) / 2, room),
+        size: lesser((a + b) / 2, 2 * lesser(a, b)),
         positive: qa <= qb,
     }
 }
