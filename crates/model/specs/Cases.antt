@@ -4,6 +4,7 @@ pub mod Further
 pub mod RangeEnds
 pub mod Long
 pub mod Emitters
+pub mod Walk
 use Prim.Native.Nat.{ℕ}
 use Prim.Native.String.{String}
 use mathlib.Core.List.{List, [], _∷_, cons≢nil}
@@ -16,6 +17,7 @@ use Rattle.model.specs.World.{Grid, World}
 use Rattle.model.specs.Scheme.{ratio, mismatch, highPiece}
 use Rattle.model.specs.Sweep.{ring, layer, leaving, afterFlow, fluxPart, parts, allowed, cellMismatch, pieces, airAfter, gasAfter, serves, substepCount, swept}
 use Rattle.model.specs.Remap.{column, edge, layerMismatch, layers, amountAbove, edgesServe, shareAir, columnCount, remappedAir, remappedGas, remapServes, remapCount, remapped}
+use Rattle.model.specs.Walk.{walkStep, walk}
 use Rattle.model.specs.Long.{carried, departure, longGas, longAir, longAirFits, longSwept}
 use Rattle.model.specs.Emitters.{recordFits, placeOf, ticked}
 use Rattle.model.specs.Step.{Call, Result, firstOf, commonPlaces, ownPlaces, accepted, refused, refusal, step}
@@ -48,26 +50,38 @@ sameResult a b =
     sameList (a .next .tracers) (b .next .tracers) &&
     sameList (a .next .ledger) (b .next .ledger)
 
+-- whether `step` gives what is expected
+unfoldable pub asExpected : Case → Bool
+asExpected c = sameResult (step (c .world) (c .call)) (c .expected)
+
+-- the labels of the cases that do not pass a test, for any kind of case
+unfoldable pub failingOf : {C : Type 0} → (C → String) → (C → Bool) → List C → List String
+failingOf label test [] = []
+failingOf label test (c ∷ cs) =
+    elim (test c) [ true ↦ failingOf label test cs | false ↦ label c ∷ failingOf label test cs ]
+
 -- the labels of the cases in which `step` gives something else
 unfoldable pub failing : List Case → List String
-failing [] = []
-failing (c ∷ cs) =
-    elim (sameResult (step (c .world) (c .call)) (c .expected)) [ true ↦ failing cs | false ↦ c .label ∷ failing cs ]
+failing cs = failingOf (λ (c : Case). c .label) asExpected cs
 
 -- Opens every definition that a case computes with
 unfoldable pub computes : ℕ
-unfolding sum howMany every some smallest tabFrom joined ratio mismatch highPiece ring layer leaving afterFlow fluxPart parts allowed cellMismatch pieces airAfter gasAfter serves substepCount swept column edge layerMismatch layers amountAbove edgesServe shareAir columnCount remappedAir remappedGas remapServes remapCount remapped carried departure longGas longAir longAirFits longSwept recordFits placeOf ticked firstOf commonPlaces ownPlaces accepted refused refusal step sameList sameGrid sameResult failing
+unfolding sum howMany every some smallest tabFrom joined ratio mismatch highPiece ring layer leaving afterFlow fluxPart parts allowed cellMismatch pieces airAfter gasAfter serves substepCount swept column edge layerMismatch layers amountAbove edgesServe shareAir columnCount remappedAir remappedGas remapServes remapCount remapped walkStep walk carried departure longGas longAir longAirFits longSwept recordFits placeOf ticked firstOf commonPlaces ownPlaces accepted refused refusal step sameList sameGrid sameResult asExpected failingOf failing
 computes = 0
+
+-- every case of a table has what is claimed of a case, for any kind of case
+abbrev pub Every : {C : Type 0} → (C → Type 0) → List C → Type 0
+Every Claim [] = Unit {0}
+Every Claim (c ∷ cs) = Claim c × Every Claim cs
 
 -- every case of the table holds
 abbrev pub Hold : List Case → Type 0
-Hold [] = Unit {0}
-Hold (c ∷ cs) = Gives c × Hold cs
+Hold cs = Every Gives cs
 
 both : (a b : Bool) → a && b ≡ true → (a ≡ true) × (b ≡ true)
 both a b e = and-eq-true-iff a b .0 e
 
-list-eq : (xs ys : List ℕ) → sameList xs ys ≡ true → xs ≡ ys
+pub list-eq : (xs ys : List ℕ) → sameList xs ys ≡ true → xs ≡ ys
 unfolding sameList
 list-eq [] [] e = refl
 list-eq [] (y ∷ ys) e = absurd (false≢true e)
@@ -113,14 +127,25 @@ result-eq a b e =
 
 -- one case less
 first-passes :
-    (c : Case) (cs : List Case) (b : Bool) → sameResult (step (c .world) (c .call)) (c .expected) ≡ b →
-    failing (c ∷ cs) ≡ [] → (b ≡ true) × (failing cs ≡ [])
-unfolding failing
-first-passes c cs true e h = (refl, rw (e, failing) at h)
-first-passes c cs false e h = absurd (cons≢nil (rw (e, failing) at h))
+    {C : Type 0} (label : C → String) (test : C → Bool) (c : C) (cs : List C) (b : Bool) → test c ≡ b →
+    failingOf label test (c ∷ cs) ≡ [] → (b ≡ true) × (failingOf label test cs ≡ [])
+unfolding failingOf
+first-passes label test c cs true e h = (refl, rw (e, failingOf) at h)
+first-passes label test c cs false e h = absurd (cons≢nil (rw (e, failingOf) at h))
+
+-- a table without failing cases, where a case that passes the test has what is claimed
+pub every-case :
+    {C : Type 0} (label : C → String) (test : C → Bool) {Claim : C → Type 0} → ((c : C) → test c ≡ true → Claim c) →
+    (cs : List C) → failingOf label test cs ≡ [] → Every Claim cs
+every-case label test right [] h = tt
+every-case label test right (c ∷ cs) h =
+    let p = first-passes label test c cs _ refl h in
+    (right c (p .0), every-case label test right cs (p .1))
+
+expected-given : (c : Case) → asExpected c ≡ true → Gives c
+unfolding asExpected
+expected-given c e = result-eq (step (c .world) (c .call)) (c .expected) e
 
 pub hold : (cs : List Case) → failing cs ≡ [] → Hold cs
-hold [] h = tt
-hold (c ∷ cs) h =
-    let p = first-passes c cs _ refl h in
-    (result-eq (step (c .world) (c .call)) (c .expected) (p .0), hold cs (p .1))
+unfolding failing
+hold cs h = every-case (λ (c : Case). c .label) asExpected expected-given cs h

@@ -4,6 +4,7 @@ pub mod World
 pub mod Scheme
 pub mod Sweep
 pub mod Remap
+pub mod Walk
 pub mod Long
 pub mod Range
 pub mod Emitters
@@ -14,3 +15,4 @@ pub mod Laws
 pub mod Demand3
 pub mod Corollaries
 pub mod Inventory
+pub mod Budget

@@ -12,7 +12,8 @@ use lib.Dec.{eqb, leb, ltb}
 use Rattle.model.specs.Limits.{scale, airLimit, tableScale}
 use Rattle.model.specs.Basic.{at, sum, tab}
 use Rattle.model.specs.Scheme.{Mismatch, Rule, ratio, plain}
-use Rattle.model.specs.Remap.{ColumnLayer, airAbove, edge, layerMismatch, layers, amountAbove, newAir, newTracer, edgesServe, shareAir}
+use Rattle.model.specs.Remap.{airAbove, edge, layerMismatch, layers, amountAbove, newAir, newTracer, edgesServe, shareAir}
+use Rattle.model.specs.Walk.{layerOf}
 use Rattle.model.specs.Range.{inRange, isNearLayer}
 use Rattle.model.specs.Step.{tableFits}
 use Rattle.model.specs.Laws.Basic.{both, every-at, sum-steps, steps-rise}
@@ -63,10 +64,7 @@ module _ (K : ℕ) (table : List ℕ) (P : ℕ) (edges : Edges K table P) where
   new-air-sum = omega (arith, sum-steps K (edge table P) edge-rises, edges .first, edges .last)
 
 -- ---- a column's layers
-abbrev pub layerOf : Rule → Bool → ℕ → List ℕ → List ℕ → ℕ → ColumnLayer
-layerOf rule cap K air gas k = record { air = at air k; tracer = at gas k; slope = layerMismatch rule cap K air gas k }
-
-layers-are : (rule : Rule) (cap : Bool) (K : ℕ) (air gas : List ℕ) → layers rule cap K air gas ≡ tab K (layerOf rule cap K air gas)
+pub layers-are : (rule : Rule) (cap : Bool) (K : ℕ) (air gas : List ℕ) → layers rule cap K air gas ≡ tab K (layerOf rule cap K air gas)
 unfolding layers
 layers-are rule cap K air gas = refl
 

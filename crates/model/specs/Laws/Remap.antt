@@ -12,10 +12,10 @@ use lib.ListN.{length}
 use Rattle.model.specs.Limits.{airLimit}
 use Rattle.model.specs.Basic.{at, sum}
 use Rattle.model.specs.World.{Grid, World, layerCells, worldCells, layerStart, gas}
-use Rattle.model.specs.Remap.{column, columnAir, columnCount, isCap, layers, newAir, newTracer, overCells, shareAir, remappedAir, remappedGas, remapServes, remapCount, remapped}
+use Rattle.model.specs.Remap.{column, columnAir, columnCount, isCap, layers, newAir, newTracer, overCells, remappedAir, remappedGas, remapServes, remapCount, remapped}
 use Rattle.model.specs.Scheme.{Rule, ruleOf}
 use Rattle.model.specs.Range.{layerInRange}
-use Rattle.model.specs.Step.{remap, firstOf, meaning, ownPlaces, accepted, refusal}
+use Rattle.model.specs.Step.{remap, firstOf, meaning, ownPlaces, refusal}
 use Rattle.model.specs.Lists.{Alike}
 use Rattle.model.specs.Laws.Basic.{every-at, sum-ext, sum-le, sum-same, sum-columns, length-tab, at-tab}
 use Rattle.model.specs.Laws.Substep.{AirIn, air-bounds}
@@ -88,7 +88,7 @@ length-remapped rule g table air had = length-tab (worldCells g) _
 module _
     (g : Grid) (table air : List ℕ) (airIn : AirIn (worldCells g) air)
     (edges : (c : ℕ) → c < layerCells g → Edges (g .K) table (columnAir g air c)) where
-  column-has : (c : ℕ) → c < layerCells g → (k : ℕ) → k < g .K → 1 ≤ at (column g air c) k
+  pub column-has : (c : ℕ) → c < layerCells g → (k : ℕ) → k < g .K → 1 ≤ at (column g air c) k
   column-has c hc k hk = rw (at-column g air c k hk) (air-bounds _ (airIn _ (cell-in g k c hk hc)) .0)
 
   air-in : AirIn (worldCells g) (remappedAir g table air)
