@@ -1,5 +1,5 @@
 -- A tracer's remap in one column, and the count of pairs: what the functions require and ensure.
-use Prim.Native.Nat.{ℕ, suc, _-_, _*_, _≤_, _<_}
+use Prim.Native.Nat.{ℕ, suc, _+_, _-_, _*_, _≤_, _<_}
 use mathlib.Core.List.{List}
 use mathlib.Core.Bool.{Bool, true, false, _||_}
 use mathlib.Core.Path.{_≡_}
@@ -9,6 +9,8 @@ use Rattle.model.specs.Limits.{airLimit, totalLimit}
 use Rattle.model.specs.Basic.{at, sum}
 use Rattle.model.specs.Scheme.{Mismatch, mismatch, plain}
 use Rattle.model.specs.Remap.{airAbove, layers, newTracer, columnCount}
+use Rattle.model.specs.Walk.{columnWalk, budget, Passes}
+use Rattle.substep.specs.Pieces.{AreRatios}
 use Rattle.line.specs.Slopes.{SlopesTo}
 use Rattle.column.specs.Column.{firsts, AreEdges}
 
@@ -47,18 +49,28 @@ pub record Spans (k : ℕ) (air e : List ℕ) : Type 0 where
   pub last : at e k ≡ airAbove (firsts k air) k
   pub rises : (j : ℕ) → j < k → at e j < at e (suc j)
 
--- such layers and edges, tracer within the limit, and room for the ratios, the mismatches and the new amounts
+-- such layers and edges, tracer within the limit, its ratios, and room for the mismatches and the new amounts
 pub record ColumnGasNeed (k : ℕ) (air gas q size : List ℕ) (rising : List Bool) (e newgas : List ℕ) : Type 0 where
   pub spans : Spans k air e
   pub total : sum k (at gas) ≤ totalLimit
   pub roomGas : k ≤ length gas
   pub roomRatios : k ≤ length q
+  pub ratios : AreRatios k air gas q
   pub roomSize : k ≤ length size
   pub roomRising : k ≤ length rising
   pub room : k ≤ length newgas
 
--- r has the new layers' tracer, whatever table the edges are of
-pub record IsRemapped (cap : Bool) (k : ℕ) (air gas e r : List ℕ) : Type 0 where
+-- whatever table the edges are of, r has the new layers' tracer, and `steps` are those of the definition's walk, one after another: one less
+-- than its budget, they reach the last edge, and one of them passes each new layer's lower edge, whose amount the mark then gains
+pub record IsRemapped (cap : Bool) (k : ℕ) (air gas e r : List ℕ) (steps : ℕ) : Type 0 where
+  pub most : steps ≤ budget k
+  pub exact : steps + 1 ≡ budget k
+  pub reaches :
+      (table : List ℕ) → AreEdges table (airAbove (firsts k air) k) k e →
+      columnWalk mismatch cap k table (firsts k air) (firsts k gas) steps .edges ≡ k
+  pub walked :
+      (table : List ℕ) → AreEdges table (airAbove (firsts k air) k) k e → (j : ℕ) → j < k →
+      (s : ℕ) × (s < steps) × Passes (columnWalk mismatch cap k table (firsts k air) (firsts k gas)) j (at r j) s
   pub is :
       (table : List ℕ) → AreEdges table (airAbove (firsts k air) k) k e → (j : ℕ) → j < k →
       at r j ≡ newTracer table (airAbove (firsts k air) k) (layers mismatch cap k (firsts k air) (firsts k gas)) j

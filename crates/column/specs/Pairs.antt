@@ -13,10 +13,9 @@ use lib.Dec.{ltb}
 use Rattle.model.specs.Basic.{at, sum, howMany}
 use Rattle.model.specs.Remap.{airAbove, shareAir, columnCount}
 use Rattle.model.specs.Laws.Basic.{sum-none, sum-more, sum-ext, sum-fewer, at-tab}
-use Rattle.line.specs.Walk.{WalkPlace, end-is}
 use Rattle.column.specs.Column.{firsts, AreEdges}
 use Rattle.column.specs.Gas.{Spans, IsPairs}
-use Rattle.column.specs.Walk.{last-is, column-within}
+use Rattle.column.specs.Walk.{last-is, AirPlace, above-is}
 
 -- ---- how many
 how-many-ext : (n : ℕ) (p q : ℕ → Bool) → ((t : ℕ) → t < n → p t ≡ q t) → howMany n p ≡ howMany n q
@@ -99,16 +98,16 @@ module _ {k : ℕ} {air : List ℕ} {e : List ℕ} (spans : Spans k air e) where
   pub ahead-edge : {j passed : ℕ} → j < k → Ahead k e j passed → Ahead k e (j + 1) passed
   ahead-edge {j} h ahead q = omega (arith, ahead h, rises-next (j + 1) q)
 
-module _ {k : ℕ} {air : List ℕ} {e : List ℕ} (spans : Spans k air e) {i j passed : ℕ} (p : WalkPlace (at air) k e k i j passed) where
+module _ {k : ℕ} {air : List ℕ} {e : List ℕ} (spans : Spans k air e) {i j passed : ℕ} (p : AirPlace k air e i j passed) where
   -- the old layers above end before here
   none-above : (x : ℕ) → passed ≤ at e x → howMany i (sharesAt air e x) ≡ 0
   none-above x h =
-      how-many-none i _ (λ t q. ends-before air e x t (omega (arith, sum-fewer (at air) (t + 1) i (omega arith), p .is)))
+      how-many-none i _ (λ t q. ends-before air e x t (omega (arith, sum-fewer (at air) (t + 1) i (omega arith), above-is spans p)))
 
   -- old layer i ends at `lower`
   module _ {lower : ℕ} (ends : lower ≡ passed + at air i) (h : j < k) (ahead : Ahead k e j passed) where
     lower-is : lower ≡ sum (i + 1) (at air)
-    lower-is = end-is (column-within spans) p ends
+    lower-is = omega (arith, ends, above-is spans p, sum-more i (at air))
 
     -- the two layers at which the walk stands
     here : sharesAt air e j i ≡ ltb (at e j) lower
@@ -117,8 +116,8 @@ module _ {k : ℕ} {air : List ℕ} {e : List ℕ} (spans : Spans k air e) {i j 
         go : (b : Bool) → ltb (at e j) lower ≡ b → sharesAt air e j i ≡ b
         go true u =
             let past : at e j < lower = ltb-true _ _ u in
-            let some = spans .least i (p .cell) in
-            lt-ltb (top air e j i) (end air e j i) (omega (arith, lower-is, p .is, ahead h, rises-next spans j h))
+            let some = spans .least i (p .inside) in
+            lt-ltb (top air e j i) (end air e j i) (omega (arith, lower-is, above-is spans p, ahead h, rises-next spans j h))
         go false u =
             let before : lower ≤ at e j = ltb-false _ _ u in
             le-ltb (top air e j i) (end air e j i) (omega (arith, lower-is))
@@ -133,7 +132,7 @@ module _ {k : ℕ} {air : List ℕ} {e : List ℕ} (spans : Spans k air e) {i j 
     pairs-edge le is =
         let none : (t : ℕ) → i + 1 ≤ t → t < k → sharesAt air e j t ≡ false =
         λ t a b. starts-past air e j t (omega (arith, sum-fewer (at air) (i + 1) t a, lower-is)) in
-        let rest = how-many-past k (i + 1) (sharesAt air e j) (omega (arith, p .cell)) none in
+        let rest = how-many-past k (i + 1) (sharesAt air e j) (omega (arith, p .inside)) none in
         omega (arith, is, rest, sum-more j (λ t. howMany k (sharesAt air e t)), none-above (j + 1) (omega (arith, ahead h)))
 
   -- the model's count
@@ -153,12 +152,12 @@ module _ {k : ℕ} {air : List ℕ} {e : List ℕ} (spans : Spans k air e) {i j 
   unfolding columnCount
   pairs-all done is small =
       let at-end = ap (at e) done ∙ last-is spans in
-      let none = none-above j (omega (arith, p .is, at-end, sum-fewer (at air) i k (omega (arith, p .cell)))) in
+      let none = none-above j (omega (arith, above-is spans p, at-end, sum-fewer (at air) i k (omega (arith, p .inside)))) in
       record {
         is =
             λ table are.
             is ∙ omega (arith, none) ∙
             ap (pairsTo k air e) done ∙
             sum-ext k _ _ (λ x hx. how-many-ext k _ _ (λ t ht. share-is table are x t hx ht));
-        most = omega (arith, p .cell);
+        most = omega (arith, p .inside);
       }

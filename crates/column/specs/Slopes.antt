@@ -13,7 +13,7 @@ use Rattle.model.specs.Scheme.{ratio, mismatch, plain}
 use Rattle.model.specs.Remap.{layerMismatch, layers}
 use Rattle.model.specs.Laws.Basic.{at-tab, tab-ext}
 use Rattle.model.specs.Laws.Scheme.{mismatch-twice}
-use Rattle.model.specs.Laws.Column.{layerOf}
+use Rattle.model.specs.Walk.{layerOf}
 use Rattle.substep.specs.Pieces.{AreRatios}
 use Rattle.line.specs.Line.{slopeIn, cellAt}
 use Rattle.line.specs.Slopes.{slope-is}
@@ -52,18 +52,19 @@ module _
           rw (e, mismatchUnless, layerMismatch)
           (λ n. mismatch (own (i - 1) (omega arith) n) (own i h n) (own (suc i) (omega arith) n))
 
-  pub layers-are : tab k (cellAt k air gas size rising) ≡ layers mismatch cap k (firsts k air) (firsts k gas)
-  unfolding layers
-  layers-are =
-      tab-ext k (cellAt k air gas size rising) (layerOf mismatch cap k (firsts k air) (firsts k gas))
-      (λ t p.
+  pub layer-is : (t : ℕ) → t < k → cellAt k air gas size rising t ≡ layerOf mismatch cap k (firsts k air) (firsts k gas) t
+  layer-is t p =
       let own : t % k ≡ t = mod-eq-of-lt p in
       λ n.
       record {
         air = (ap (at air) own ∙ sym (at-tab k (at air) t p)) n;
         tracer = (ap (at gas) own ∙ sym (at-tab k (at gas) t p)) n;
         slope = (ap (slopeIn size rising) own ∙ slope-is (slopes .all) t p ∙ slope-model t p) n;
-      })
+      }
+
+  pub layers-are : tab k (cellAt k air gas size rising) ≡ layers mismatch cap k (firsts k air) (firsts k gas)
+  unfolding layers
+  layers-are = tab-ext k (cellAt k air gas size rising) (layerOf mismatch cap k (firsts k air) (firsts k gas)) layer-is
 
   -- at most twice the layer's ratio
   pub slope-small : (i : ℕ) → i < k → at size i ≤ 2 * ratio (at air i) (at gas i)

@@ -12,7 +12,6 @@ ghost use Rattle.column.specs.Column.{EdgesNeed, AreEdges};
 ghost use Rattle.column.specs.Gas.{mismatchUnless, SlopesNeed, AreSlopes, Spans, IsPairs, ColumnGasNeed, IsRemapped};
 use line::tracer_between;
 use scheme::mismatch;
-use substep::fill_ratios;
 use units::Air;
 use units::AirSum;
 use units::Mismatch;
@@ -98,24 +97,24 @@ fn fill_slopes(q: &[u64], cap: bool, k: usize, size: &mut [u64], rising: &mut [b
     rising[last] = true;
 }
 
-// A tracer's amounts in a column's k new layers, from the old ones; `cap` says whether the column is a cap's, and q, size and rising are filled on the way.
+// A tracer's amounts in a column's k new layers, from the old ones and their ratios: the mismatches, and one walk, whose steps it gives back, at most 2k.
+// `cap` says whether the column is a cap's; size and rising are filled on the way.
 pub fn remap_gas(
     air: &[u32],
     gas: &[u32],
     cap: bool,
     e: &[u64],
     k: usize,
-    q: &mut [u64],
+    q: &[u64],
     size: &mut [u64],
     rising: &mut [bool],
     newgas: &mut [u32],
-)
+) -> usize
     requires { ⌜ ColumnGasNeed k (now air) (now gas) (now q) (now size) (now rising) (now e) (now newgas) ⌝ }
-    ensures { λ r. ⌜ IsRemapped cap k (now (air .entry)) (now (gas .entry)) (now (e .entry)) (now (newgas .exit)) ⌝ }
+    ensures { λ r. ⌜ IsRemapped cap k (now (air .entry)) (now (gas .entry)) (now (e .entry)) (now (newgas .exit)) r ⌝ }
 {
-    fill_ratios(air, gas, k, q);
     fill_slopes(q, cap, k, size, rising);
-    tracer_between(air, gas, size, rising, k, e, k, newgas);
+    tracer_between(air, gas, size, rising, k, e, k, newgas)
 }
 
 // 1 where old layer i ends past the upper edge of new layer j, so that they share air, else 0.
@@ -125,7 +124,7 @@ fn shared(upper: u64, lower: AirSum) -> u32
     if upper < lower.0 { 1 } else { 0 }
 }
 
-// How many pairs of an old and a new layer share air, counted in the same walk.
+// How many pairs of an old and a new layer share air, counted in a walk through the air alone, by the same steps.
 pub fn pairs(air: &[u32], e: &[u64], k: usize) -> u32
     requires { ⌜ Spans k (now air) (now e) ⌝ }
     ensures { λ r. ⌜ IsPairs k (now (air .entry)) (now (e .entry)) r ⌝ }

@@ -1,4 +1,3 @@
 pub mod Line
-pub mod Walk
 pub mod Tracer
 pub mod Slopes

@@ -10,6 +10,7 @@ use Rattle.model.specs.Basic.{at, sum, tab}
 use Rattle.model.specs.Scheme.{Mismatch, ratio}
 use Rattle.model.specs.Remap.{ColumnLayer, amountAbove}
 use Rattle.model.specs.Long.{lineAir, turns}
+use Rattle.model.specs.Walk.{Walk, walk, Passes}
 
 -- ---- the air of k cells
 -- up to 72 cells, none with more air than a cell may have
@@ -66,6 +67,17 @@ pub record LineNeed (n : ℕ) (air gas size : List ℕ) (rising : List Bool) (e 
   pub rises : (j : ℕ) → j < m → at e j ≤ at e (suc j)
   pub last : at e m ≤ turns * sum n (at air)
   pub room : m ≤ length newgas
+
+-- the definition's walk of the tracer along the line
+abbrev pub lineWalk : ℕ → List ℕ → List ℕ → List ℕ → List Bool → List ℕ → ℕ → ℕ → Walk
+lineWalk n air gas size rising e m = walk (cellAt n air gas size rising) (at e) m
+
+-- r and `steps` are made by that walk, step after step: so many steps reach the last edge, fewer than there are edges and cells up to it;
+-- and each new cell has what the mark gains in the step that passes the cell's high edge
+pub record IsWalk (n : ℕ) (air gas size : List ℕ) (rising : List Bool) (e : List ℕ) (m : ℕ) (r : List ℕ) (steps : ℕ) : Type 0 where
+  pub reaches : lineWalk n air gas size rising e m steps .edges ≡ m
+  pub few : (cells : ℕ) → 1 ≤ cells → at e m ≤ lineAir n air cells → steps < cells + m
+  pub is : (j : ℕ) → j < m → (s : ℕ) × (s < steps) × Passes (lineWalk n air gas size rising e m) j (at r j) s
 
 -- r has the line's tracer between the edges, whatever number of its cells is looked at, if they reach the last edge
 pub record IsBetween (n : ℕ) (air gas size : List ℕ) (rising : List Bool) (e : List ℕ) (m : ℕ) (r : List ℕ) : Type 0 where

@@ -3,12 +3,13 @@
 // `air` and `newair` hold air, `gas` and `newgas` a tracer, `size` and `rising` the slope in each cell: its size, and whether its sign is positive.
 ghost use mathlib.Core.Path.{_≡_};
 ghost use mathlib.Core.Bool.{_&&_};
-ghost use Prim.Native.Nat.{_+_, _-_, _%_, _≤_, _<_};
+ghost use Prim.Native.Nat.{_+_, _-_, _≤_, _<_};
 ghost use lib.ListN.{length};
 ghost use lib.Dec.{leb, ltb};
-ghost use Rattle.model.specs.Limits.{airLimit, mostColumns};
+ghost use Rattle.model.specs.Limits.{airLimit};
 ghost use Rattle.model.specs.Basic.{at, every};
-ghost use Rattle.line.specs.Line.{AirNeed, IsAirSum, servesAt, Served, IsNewAir, slopeIn, LineNeed, IsBetween};
+ghost use Rattle.line.specs.Line.{AirNeed, IsAirSum, servesAt, Served, IsNewAir, slopeIn, LineNeed, IsWalk};
+ghost use Rattle.line.specs.Tracer.{TurnNeed, IsTurn};
 ghost use Rattle.scheme.specs.Leaves.{mismatchOf};
 use scheme::low_piece;
 use units::AIR_LIMIT;
@@ -129,17 +130,30 @@ fn air_inside(passed: AirSum, edge: u64) -> Air
     Air((edge - passed.0) as u32)
 }
 
-// The cell after cell c of n, which is cell 0 after the last.
-fn next_cell(c: usize, n: usize) -> usize
-    requires { ⌜ (c < n) × (n ≤ mostColumns) ⌝ }
-    ensures { λ r. ⌜ r ≡ (c + 1) % n ⌝ }
-{
-    if c + 1 < n { c + 1 } else { 0 }
+// Where a walk along the line stands: the cells passed, their air and their tracer, the edges passed after edge 0, and the tracer up to the last of them.
+struct Place {
+    i: usize,
+    passed: AirSum,
+    whole: Tracer,
+    j: usize,
+    last: Tracer,
 }
 
-// A tracer's amounts between m + 1 edges on the line that n cells make, laid one after the other: cell i of the line is cell c = i mod n.
-// The walk goes along the line once: a step passes cell i, or the high edge of new cell j where that is reached first.
-pub fn tracer_between(
+fn place_at(i: usize, passed: AirSum, whole: Tracer, j: usize, last: Tracer) -> Place
+    ensures { λ r. ⌜ r ≡ record { i = i; passed = passed; whole = whole; j = j; last = last } ⌝ }
+{
+    Place {
+        i,
+        passed,
+        whole,
+        j,
+        last,
+    }
+}
+
+// Walks on along the n cells once, from the first, until the last edge or the last cell is passed.
+// A step passes cell c, or the high edge of new cell j where that is reached first.
+fn walk_turn(
     air: &[u32],
     gas: &[u32],
     size: &[u64],
@@ -148,17 +162,17 @@ pub fn tracer_between(
     e: &[u64],
     m: usize,
     newgas: &mut [u32],
-)
-    requires { ⌜ LineNeed n (now air) (now gas) (now size) (now rising) (now e) m (now newgas) ⌝ }
-    ensures { λ r. ⌜ IsBetween n (now (air .entry)) (now (gas .entry)) (now (size .entry)) (now (rising .entry)) (now (e .entry)) m (now (newgas .exit)) ⌝ }
+    start: Place,
+) -> Place
+    requires { ⌜ TurnNeed n (now air) (now gas) (now size) (now rising) (now e) m (now newgas) start ⌝ }
+    ensures { λ r. ⌜ IsTurn n (now (air .entry)) (now (gas .entry)) (now (size .entry)) (now (rising .entry)) (now (e .entry)) m (now (newgas .exit)) start r ⌝ }
 {
-    let mut i: usize = 0; // the cell of the line that the walk stands in; only the proof reads it
+    let first = start.i;
     let mut c = 0;
-    let mut after = next_cell(c, n); // known ahead, so that reading the next cell waits for nothing
-    let mut j = 0;
-    let mut passed = AirSum(0); // the air of the cells passed
-    let mut whole = Tracer(0); // their tracer
-    let mut last = Tracer(0); // the tracer up to the edge passed last
+    let mut passed = start.passed;
+    let mut whole = start.whole;
+    let mut j = start.j;
+    let mut last = start.last;
     while j < m {
         let have = air_at(air, c);
         let t = tracer_at(gas, c);
@@ -167,9 +181,10 @@ pub fn tracer_between(
         if end.0 < edge {
             passed = end;
             whole = plus(whole, t);
-            c = after;
-            after = next_cell(c, n);
-            i += 1;
+            c += 1;
+            if c == n {
+                return place_at(first + c, passed, whole, j, last);
+            }
             continue;
         }
         let inside = air_inside(passed, edge);
@@ -180,4 +195,27 @@ pub fn tracer_between(
         last = next;
         j += 1;
     }
+    place_at(first + c, passed, whole, j, last)
+}
+
+// A tracer's amounts between m + 1 edges on the line that n cells make, laid one after the other: cell i of the line is cell i mod n.
+// Gives back the number of steps: the walk goes along the line once, turn after turn; a column has one.
+pub fn tracer_between(
+    air: &[u32],
+    gas: &[u32],
+    size: &[u64],
+    rising: &[bool],
+    n: usize,
+    e: &[u64],
+    m: usize,
+    newgas: &mut [u32],
+) -> usize
+    requires { ⌜ LineNeed n (now air) (now gas) (now size) (now rising) (now e) m (now newgas) ⌝ }
+    ensures { λ r. ⌜ IsWalk n (now (air .entry)) (now (gas .entry)) (now (size .entry)) (now (rising .entry)) (now (e .entry)) m (now (newgas .exit)) r ⌝ }
+{
+    let mut place = place_at(0, AirSum(0), Tracer(0), 0, Tracer(0));
+    while place.j < m {
+        place = walk_turn(air, gas, size, rising, n, e, m, newgas, place);
+    }
+    place.i + place.j
 }

@@ -20,7 +20,8 @@ use Rattle.model.specs.Laws.Substep.{air-bounds}
 use Rattle.model.specs.Laws.Long.{line-all}
 use Rattle.substep.specs.Pieces.{HasAir, AreRatios, mismatchIn}
 use Rattle.row.specs.Columns.{column-neighbours}
-use Rattle.line.specs.Line.{slopeIn, cellAt, LineNeed, IsBetween}
+use Rattle.line.specs.Line.{slopeIn, cellAt, LineNeed, IsWalk}
+use Rattle.line.specs.Tracer.{between-is}
 use Rattle.line.specs.Slopes.{SlopesTo, slope-is}
 use Rattle.long_row.specs.Air.{AreDepartures, DeparturesServe}
 
@@ -123,9 +124,10 @@ module _ {gas air e : List ℕ} (need : LongGasNeed gas air e) where
 
     -- the amounts between the departures, lent as `&between[1..end]` with end = W + 1
     pub gas-by :
-        {between : List ℕ} → W + 1 ≤ length between → IsBetween W air gas size rising e (W + 1) between →
-        part between 1 (W + 1 - 1) ≡ gasBy e air gas
-    gas-by {between} room is =
+        {between : List ℕ} {steps : ℕ} → W ≤ length size → W ≤ length rising → W + 1 ≤ length between →
+        IsWalk W air gas size rising e (W + 1) between steps → part between 1 (W + 1 - 1) ≡ gasBy e air gas
+    gas-by {between} roomSize roomRising room made =
+        let is = between-is (line-need {newgas = between} roomSize roomRising room) made in
         sym (tab-at W (part between 1 (W + 1 - 1)) long) ∙
         tab-ext W _ _
         (λ i h.

@@ -4,9 +4,7 @@
 use Prim.Native.Nat.{_+_, _-_, _≤_}
 use mathlib.Core.Path.{_≡_, sym}
 use native.Mathlib.Omega.{arith}
-use Rattle.model.specs.Basic.{at}
-use Rattle.line.specs.Walk.{WalkPlace, place-start, pass-cell, pass-edge, passed-fits}
-use Rattle.column.specs.Walk.{column-within}
+use Rattle.column.specs.Walk.{AirPlace, place-start, above-fits, pass-layer, pass-edge}
 use Rattle.column.specs.Pairs.{Ahead, ahead-start, ahead-edge, countTo, pairs-start, pairs-more, pairs-edge, pairs-all}
 use Rattle.units.specs.The.{the}
 use borrow.Author.Needs.{needs}
@@ -15,7 +13,7 @@ use Rattle.column.proofs.pairs.Tie as tie
 
 abbrev Inv-loop : tie.InvT-loop
 Inv-loop air e k count₀ i₀ j₀ above₀ count i j above =
-    WalkPlace (at air) k e k i j (above .0) × Ahead k e j (above .0) × (count ≡ countTo k air e j i) × (count ≤ i + j)
+    AirPlace k air e i j (above .0) × Ahead k e j (above .0) × (count ≡ countTo k air e j i) × (count ≤ i + j)
 
 abbrev μ-loop : tie.MeasureT-loop
 μ-loop air e k count₀ i₀ j₀ above₀ count i j above = (k - i) + (k - j)
@@ -24,13 +22,13 @@ loop-holds : tie.Need-loop-holds Inv-loop μ-loop
 loop-holds c =
     let spans = c .before .before .pre in
     let a = c .before .before .args in
-    (place-start (column-within spans), ahead-start spans, sym (pairs-start (a .k) (a .air .now) (a .e .now)), search needs)
+    (place-start spans, ahead-start spans, sym (pairs-start (a .k) (a .air .now) (a .e .now)), search needs)
 
 add-air-requires : tie.Need-add-air-requires Inv-loop μ-loop
 add-air-requires c κs =
     let start : tie.Start Inv-loop μ-loop = search in
     let l = the (tie.At-loop Inv-loop μ-loop) (search) .loop in
-    omega (arith, passed-fits (column-within (start .pre)) (l .inv .0))
+    omega (arith, above-fits (start .pre) (l .inv .0))
 
 loop-again : tie.Need-loop-again Inv-loop μ-loop
 loop-again c =
@@ -38,7 +36,7 @@ loop-again c =
     let l = the (tie.At-loop Inv-loop μ-loop) (search) .loop in
     let ends = the (tie.After-add-air Inv-loop μ-loop) (search) .add-air .ensures in
     let more = the (tie.After-shared Inv-loop μ-loop) (search) .shared .ensures in (
-      pass-cell (column-within (start .pre)) (l .inv .0) ends (omega arith) (c .if1 .taken),
+      pass-layer (start .pre) (l .inv .0) ends (omega arith) (c .if1 .taken),
       λ _. c .if1 .taken,
       pairs-more (start .pre) (l .inv .0) ends (omega arith) (l .inv .1) (l .inv .2) more,
       omega (arith, more),
@@ -51,7 +49,7 @@ loop-again-2 c =
     let ends = the (tie.After-add-air Inv-loop μ-loop) (search) .add-air .ensures in
     let more = the (tie.After-shared Inv-loop μ-loop) (search) .shared .ensures in
     let counted = pairs-more (start .pre) (l .inv .0) ends (omega arith) (l .inv .1) (l .inv .2) more in (
-      pass-edge (column-within (start .pre)) (l .inv .0) (omega arith),
+      pass-edge (start .pre) (l .inv .0) ends (omega arith) (c .if1 .left),
       ahead-edge (start .pre) (omega arith) (l .inv .1),
       pairs-edge (start .pre) (l .inv .0) ends (omega arith) (l .inv .1) (c .if1 .left) counted,
       omega (arith, more),

@@ -25,7 +25,7 @@ returns c =
     let line : tie.After-tracer-between = search needs in
     let copied : tie.After-copy = search needs in
     copied .copy .ensures ∙
-    gas-by (s .pre) (ratios .fill-ratios .ensures) (slopes .fill-slopes .ensures) (search needs) (line .tracer-between .ensures)
+    gas-by (s .pre) (ratios .fill-ratios .ensures) (slopes .fill-slopes .ensures) (search needs) (search needs) (search needs) (line .tracer-between .ensures)
 
 pub move-gas-spec : {M : Type 1} → statement M
 move-gas-spec =
