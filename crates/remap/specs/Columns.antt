@@ -2,7 +2,7 @@
 use Prim.Native.Nat.{ℕ, zero, suc, _+_, _*_, _≤_, _<_}
 use mathlib.Core.List.{List}
 use mathlib.Core.Logic.{⊎-elim}
-use mathlib.Core.Path.{_≡_, refl, sym, ap, _∙_}
+use mathlib.Core.Path.{_≡_, refl, sym, ap, ap₂, _∙_}
 use native.Mathlib.Nat.{mul-le-mul, mul-le-mul-right, eq-or-lt-of-le}
 use native.Mathlib.Numerals.{add-one}
 use native.Mathlib.Omega.{arith}
@@ -34,6 +34,13 @@ cell-room {l} {c} {cells} {k} need {i} h =
 unfoldable pub columnSet : ℕ → List ℕ → ℕ → (ℕ → ℕ) → ℕ → List ℕ
 columnSet cells l c f zero = l
 columnSet cells l c f (suc n) = set (columnSet cells l c f n) (n * cells + c) (f n)
+
+-- the same, where f and g agree
+pub set-ext : (cells : ℕ) (l : List ℕ) (c : ℕ) (f g : ℕ → ℕ) (n : ℕ) → ((i : ℕ) → i < n → f i ≡ g i) → columnSet cells l c f n ≡ columnSet cells l c g n
+unfolding columnSet
+set-ext cells l c f g zero same = refl
+set-ext cells l c f g (suc n) same =
+    ap₂ (λ (x : List ℕ) (y : ℕ). set x (n * cells + c) y) (set-ext cells l c f g n (λ i h. same i (omega arith))) (same n (omega arith))
 
 module _ (cells : ℕ) (l : List ℕ) (c : ℕ) (f : ℕ → ℕ) where
   pub set-none : columnSet cells l c f 0 ≡ l

@@ -1,41 +1,45 @@
--- All columns remapped, of the air and of one tracer.
-use Prim.Native.Nat.{ℕ, suc, _+_, _-_, _*_, _/_, _%_, _≤_, _<_}
-use mathlib.Core.List.{List}
-use mathlib.Core.Bool.{Bool, _||_}
-use mathlib.Core.Path.{_≡_, sym, ap, ap₂, _∙_}
+-- All columns remapped, of the air and of all tracers: what `move_columns` requires and ensures, and its loop.
+use Prim.Native.Nat.{ℕ, zero, suc, _+_, _-_, _*_, _/_, _%_, _≤_, _<_}
+use mathlib.Core.List.{List, _++_}
+use mathlib.Core.Path.{_≡_, refl, sym, ap, ap₂, _∙_}
+use native.Mathlib.Nat.{zero-mul, mul-le-mul}
 use native.Mathlib.Numerals.{add-one}
 use native.Mathlib.Omega.{arith}
-use lib.Dec.{eqb}
-use lib.ListN.{length}
-use Rattle.model.specs.Limits.{totalLimit}
-use Rattle.model.specs.Basic.{at, tab, sum}
-use Rattle.model.specs.Remap.{airAbove, newAir, newTracer, layers}
-use Rattle.model.specs.Laws.Basic.{sum-tab, sum-columns, term-le-sum}
+use lib.ListN.{length, take}
+use lib.Seq.{take-add, take-all}
+use Rattle.model.specs.Limits.{totalLimit, mostLayers, mostLayerCells, mostTracers}
+use Rattle.model.specs.Basic.{at, part, sum, joined, tabFrom, tab}
 use Rattle.model.specs.Scheme.{mismatch}
+use Rattle.model.specs.Remap.{airAbove, newAir, newTracer, layers}
+use Rattle.model.specs.Walk.{budget}
+use Rattle.model.specs.Laws.Basic.{sum-tab, sum-columns, term-le-sum}
+use Rattle.model.specs.Laws.Entries.{joined-more, joined-ext}
 use Rattle.model.specs.Laws.Column.{Edges}
+use Rattle.units.specs.EachTracer.{length-gas}
 use Rattle.line.specs.Line.{IsNewAir, Served}
 use Rattle.column.specs.Column.{firsts}
-use Rattle.column.specs.Gas.{ColumnGasNeed, IsRemapped}
 use Rattle.remap.specs.Columns.{ColumnNeed, columnOf, columnSet}
 use Rattle.remap.specs.Served.{ReadNeed, IsColumn, ColumnsNeed, columnSum, read-need, column-spans, column-served, column-edges}
-use Rattle.remap.specs.Upto.{Upto, column-left, upto-more}
+use Rattle.remap.specs.Upto.{Upto, column-left, upto-none, upto-more, upto-all}
+use Rattle.remap.specs.Gas.{capAt, layerNew, IsGasMoved}
+use Rattle.remap.specs.Tracers.{gasOf, ColumnTracersNeed, AreTracersMoved}
 
 -- what cell c of layer i shall have
 abbrev pub airNew : ℕ → ℕ → List ℕ → List ℕ → ℕ → ℕ → ℕ
 airNew k cells table air i c = newAir table (columnSum k cells air c) i
 
-abbrev pub capAt : ℕ → ℕ → Bool
-capAt cells c = eqb c 0 || eqb (suc c) cells
-
 abbrev pub gasNew : ℕ → ℕ → List ℕ → List ℕ → List ℕ → ℕ → ℕ → ℕ
-gasNew k cells table air gas i c =
-    newTracer table (columnSum k cells air c) (layers mismatch (capAt cells c) k (columnOf k cells air c) (columnOf k cells gas c)) i
+gasNew k cells table air gas i c = layerNew k cells table (columnOf k cells air c) gas c i
 
+-- the air, a tracer and all tracers, when all columns are remapped
 abbrev pub airMoved : ℕ → ℕ → List ℕ → List ℕ → List ℕ
 airMoved k cells table air = tab (k * cells) (λ i. airNew k cells table air (i / cells) (i % cells))
 
 abbrev pub gasMoved : ℕ → ℕ → List ℕ → List ℕ → List ℕ → List ℕ
 gasMoved k cells table air gas = tab (k * cells) (λ i. gasNew k cells table air gas (i / cells) (i % cells))
+
+abbrev pub allMoved : ℕ → ℕ → ℕ → List ℕ → List ℕ → List ℕ → List ℕ
+allMoved n k cells table air tracers = joined (tab n (λ t. gasMoved k cells table air (gasOf k cells tracers t)))
 
 -- every column's edges serve
 pub record ColumnsAirNeed (air table : List ℕ) (cells k : ℕ) : Type 0 where
@@ -43,10 +47,26 @@ pub record ColumnsAirNeed (air table : List ℕ) (cells k : ℕ) : Type 0 where
   pub columns : ColumnsNeed air table cells k
   pub edges : (c : ℕ) → c < cells → Edges k table (columnSum k cells air c)
 
-pub record ColumnsGasNeed (gas air table : List ℕ) (cells k : ℕ) : Type 0 where
+pub record ColumnsTracersNeed (tracers air table : List ℕ) (cells k n : ℕ) : Type 0 where
   pub moves : ColumnsAirNeed air table cells k
-  pub long : length gas ≡ k * cells
-  pub total : sum (k * cells) (at gas) ≤ totalLimit
+  pub few : n ≤ mostTracers
+  pub long : length tracers ≡ n * (k * cells)
+  pub totals : (t : ℕ) → t < n → sum (k * cells) (at (gasOf k cells tracers t)) ≤ totalLimit
+
+-- all columns are remapped; the walks, one for each tracer and column, take no more steps than their budgets together, each one less than its own
+pub record AreMoved (tracers air table : List ℕ) (cells k n : ℕ) (newTracers newAir : List ℕ) (steps : ℕ) : Type 0 where
+  pub tracersAre : newTracers ≡ allMoved n k cells table air tracers
+  pub airIs : newAir ≡ airMoved k cells table air
+  pub most : steps ≤ n * cells * budget k
+  pub exact : steps + n * cells ≡ n * cells * budget k
+
+-- the first c columns are
+pub record MovedUpto (tracers air table : List ℕ) (cells k n c : ℕ) (nowTracers nowAir : List ℕ) (steps : ℕ) : Type 0 where
+  pub airUpto : Upto k cells (airNew k cells table air) air c nowAir
+  pub long : length nowTracers ≡ length tracers
+  pub each :
+      (t : ℕ) → t < n → Upto k cells (gasNew k cells table air (gasOf k cells tracers t)) (gasOf k cells tracers t) c (gasOf k cells nowTracers t)
+  pub made : steps + n * c ≡ n * c * budget k
 
 -- ---- the air
 module _
@@ -64,63 +84,119 @@ module _
         airIn = λ i p. rw (upto .left i c p (omega arith) h) (read-need (need .columns) h .airIn i p);
       }
 
-  same : columnOf k cells now c ≡ columnOf k cells air c
-  same = column-left (need .columns .long) h upto
-
   module _ {a e : List ℕ} (is : IsColumn now table c cells k a e) where
-    edges-now : Edges k table (columnSum k cells now c)
-    edges-now = rw same (need .edges c h)
-
-    pub air-served : Served k e
-    air-served = column-served (need .columns .fit) (need .columns .some) is edges-now
-
-    pub air-more : {new next : List ℕ} → IsNewAir k e new → next ≡ columnSet cells now c (at new) k → Upto k cells (airNew k cells table air) air (c + 1) next
-    air-more {new} made stored =
-        upto-more (need .columns .long) h upto (at new) stored
-        (λ i p.
-        made .is i p ∙ ap₂ _-_ (is .edgesAre .is (suc i) p) (is .edgesAre .is i (omega arith)) ∙
-        ap (λ (l : List ℕ). newAir table (airAbove l k) i) same)
-
--- ---- a tracer
-module _
-    {gas air table : List ℕ} {cells k : ℕ} (need : ColumnsGasNeed gas air table cells k) {c : ℕ} (h : c < cells)
-    {now : List ℕ} (upto : Upto k cells (gasNew k cells table air gas) gas c now) where
-  pub gas-room : ColumnNeed now c cells k
-  gas-room = record { fit = need .moves .columns .fit; few = need .moves .columns .few; place = h; long = upto .long ∙ need .long }
-
-  same-gas : columnOf k cells now c ≡ columnOf k cells gas c
-  same-gas = column-left (need .long) h upto
-
-  module _ {a e : List ℕ} (is : IsColumn air table c cells k a e) (old : List ℕ) (loaded : firsts k old ≡ columnOf k cells now c) where
-    column-total : sum k (at old) ≤ totalLimit
-    column-total =
-        let own : sum k (at old) ≡ sum k (λ i. at gas (i * cells + c)) =
-        sym (sum-tab k (at old)) ∙ ap (λ (l : List ℕ). sum k (at l)) (loaded ∙ same-gas) ∙ sum-tab k (λ i. at gas (i * cells + c)) in
-        let whole = sum-columns k cells (at gas) in
-        let term : sum k (λ i. at gas (i * cells + c)) ≤ sum cells (λ c. sum k (λ i. at gas (i * cells + c))) =
-        term-le-sum cells (λ c. sum k (λ i. at gas (i * cells + c))) c h in
-        omega (arith, own, whole, term, need .total)
-
-    pub gas-need :
-        {q size : List ℕ} {rising : List Bool} {new : List ℕ} → k ≤ length old → k ≤ length q → k ≤ length size → k ≤ length rising →
-        k ≤ length new → ColumnGasNeed k a old q size rising e new
-    gas-need roomGas roomRatios roomSize roomRising room =
+    -- the air of column c is as it was
+    column-old : IsColumn air table c cells k a e
+    column-old =
+        let same = column-left (need .columns .long) h upto in
         record {
-          spans = column-spans (need .moves .columns .fit) (need .moves .columns .some) is (need .moves .edges c h);
-          total = column-total;
-          roomGas = roomGas;
-          roomRatios = roomRatios;
-          roomSize = roomSize;
-          roomRising = roomRising;
-          room = room;
+          roomAir = is .roomAir;
+          roomEdges = is .roomEdges;
+          airIs = is .airIs ∙ same;
+          least = is .least;
+          most = is .most;
+          edgesAre = rw same at (is .edgesAre);
         }
 
-    pub gas-more : {cap : Bool} {new next : List ℕ} → cap ≡ eqb c 0 || eqb (c + 1) cells → IsRemapped cap k a old e new →
-        next ≡ columnSet cells now c (at new) k → Upto k cells (gasNew k cells table air gas) gas (c + 1) next
-    gas-more {cap} {new} cap-is made stored =
-        upto-more (need .long) h upto (at new) stored
-        (λ i p.
-        made .is table (column-edges (need .moves .columns .fit) (need .moves .columns .some) is (need .moves .edges c h)) i p ∙
-        ap₂ (λ (x y : List ℕ). newTracer table (airAbove x k) (layers mismatch cap k x y) i) (is .airIs) (loaded ∙ same-gas) ∙
-        ap (λ (b : Bool). newTracer table (columnSum k cells air c) (layers mismatch b k (columnOf k cells air c) (columnOf k cells gas c)) i)
-        (cap-is ∙ ap (λ (n : ℕ). eqb c 0 || eqb n cells) (add-one c)))
+    pub air-served : Served k e
+    air-served = column-served (need .columns .fit) (need .columns .some) column-old (need .edges c h)
+
+    air-more : {new next : List ℕ} → IsNewAir k e new → next ≡ columnSet cells now c (at new) k → Upto k cells (airNew k cells table air) air (c + 1) next
+    air-more {new} made stored =
+        let edges = column-old .edgesAre in
+        upto-more (need .columns .long) h upto (at new) stored
+        (λ i p. made .is i p ∙ ap₂ _-_ (edges .is (suc i) p) (edges .is i (omega arith)))
+
+-- ---- a tracer
+column-total :
+    {gas : List ℕ} {cells k c : ℕ} {new : ℕ → ℕ → ℕ} {now : List ℕ} → length gas ≡ k * cells → c < cells → Upto k cells new gas c now →
+    sum (k * cells) (at gas) ≤ totalLimit → sum k (at (columnOf k cells now c)) ≤ totalLimit
+column-total {gas} {cells} {k} {c} {new} {now} long h upto total =
+    let own : sum k (at (columnOf k cells now c)) ≡ sum k (λ i. at gas (i * cells + c)) =
+    ap (λ (l : List ℕ). sum k (at l)) (column-left long h upto) ∙ sum-tab k (λ i. at gas (i * cells + c)) in
+    let whole = sum-columns k cells (at gas) in
+    let term : sum k (λ i. at gas (i * cells + c)) ≤ sum cells (λ c. sum k (λ i. at gas (i * cells + c))) =
+    term-le-sum cells (λ c. sum k (λ i. at gas (i * cells + c))) c h in
+    omega arith
+
+gas-more :
+    {gas air table : List ℕ} {cells k c : ℕ} {now a e next : List ℕ} → length gas ≡ k * cells → c < cells → IsColumn air table c cells k a e →
+    Upto k cells (gasNew k cells table air gas) gas c now → IsGasMoved now a e c cells k next → Upto k cells (gasNew k cells table air gas) gas (c + 1) next
+gas-more {gas} {air} {table} {cells} {k} {c} {now} {a} long h is upto moved =
+    upto-more long h upto (layerNew k cells table (firsts k a) now c) (moved .is table (column-edges is))
+    (λ i p.
+    ap₂ (λ (x y : List ℕ). newTracer table (airAbove x k) (layers mismatch (capAt cells c) k x y) i) (is .airIs) (column-left long h upto))
+
+-- ---- all tracers, and the air
+-- amounts are their parts joined
+parts-joined : (n m : ℕ) (l : List ℕ) → take (n * m) l ≡ joined (tab n (λ t. part l (t * m) m))
+parts-joined zero m l = unfold joined tabFrom in rw zero-mul
+parts-joined (suc n) m l =
+    let more : suc n * m ≡ n * m + m = omega arith in
+    ap (λ (i : ℕ). take i l) more ∙ take-add (n * m) m l ∙
+    ap (λ (x : List ℕ). x ++ part l (n * m) m) (parts-joined n m l) ∙
+    sym (joined-more n (λ t. part l (t * m) m)) ∙ ap (λ (i : ℕ). joined (tab i (λ t. part l (t * m) m))) (add-one n)
+
+module _ {tracers air table : List ℕ} {cells k n : ℕ} (need : ColumnsTracersNeed tracers air table cells k n) where
+  gas-long : {t : ℕ} → t < n → length (gasOf k cells tracers t) ≡ k * cells
+  gas-long h = length-gas tracers n (k * cells) (need .long) h
+
+  pub moved-none : MovedUpto tracers air table cells k n 0 tracers air 0
+  moved-none =
+      record {
+        airUpto = upto-none (need .moves .columns .long);
+        long = refl;
+        each = λ t h. upto-none (gas-long h);
+        made = omega arith;
+      }
+
+  module _
+      {c : ℕ} (h : c < cells) {nowTracers nowAir : List ℕ} {steps : ℕ}
+      (upto : MovedUpto tracers air table cells k n c nowTracers nowAir steps) where
+    -- the sum of the steps fits
+    pub all-steps : (s : ℕ) → s + n ≡ n * budget k → steps + s ≤ mostTracers * mostLayerCells * budget mostLayers
+    all-steps s made =
+        let walks : n * suc c ≤ mostTracers * mostLayerCells =
+        mul-le-mul {n₂ = mostTracers} {m₂ = mostLayerCells} (need .few) (omega (arith, need .moves .columns .few)) in
+        let most : n * suc c * budget k ≤ mostTracers * mostLayerCells * budget mostLayers =
+        mul-le-mul {n₂ = mostTracers * mostLayerCells} {m₂ = budget mostLayers} walks (omega (arith, need .moves .columns .fit)) in
+        omega (arith, upto .made)
+
+    module _ {a e : List ℕ} (is : IsColumn nowAir table c cells k a e) where
+      old : IsColumn air table c cells k a e
+      old = column-old (need .moves) h (upto .airUpto) is
+
+      pub tracers-need : ColumnTracersNeed nowTracers a e c cells k n
+      tracers-need =
+          record {
+            spans = column-spans (need .moves .columns .fit) (need .moves .columns .some) old (need .moves .edges c h);
+            place = h;
+            fewCells = need .moves .columns .few;
+            fewTracers = need .few;
+            long = upto .long ∙ need .long;
+            totals = λ t p. column-total (gas-long p) h (upto .each t p) (need .totals t p);
+          }
+
+      pub moved-more : {nextTracers new nextAir : List ℕ} (s : ℕ) → AreTracersMoved nowTracers a e c cells k n nextTracers → s + n ≡ n * budget k →
+          IsNewAir k e new → nextAir ≡ columnSet cells nowAir c (at new) k → MovedUpto tracers air table cells k n (c + 1) nextTracers nextAir (steps + s)
+      moved-more s tracersMoved steps-are made stored =
+          record {
+            airUpto = air-more (need .moves) h (upto .airUpto) is made stored;
+            long = tracersMoved .long ∙ upto .long;
+            each = λ t p. gas-more (gas-long p) h old (upto .each t p) (tracersMoved .each t p);
+            made = omega (arith, upto .made);
+          }
+
+  pub moved-all : {c : ℕ} {nowTracers nowAir : List ℕ} {steps : ℕ} → cells ≤ c → MovedUpto tracers air table cells k n c nowTracers nowAir steps →
+      AreMoved tracers air table cells k n nowTracers nowAir steps
+  moved-all {c} {nowTracers} all upto =
+      let done : c ≡ cells = omega (arith, upto .airUpto .inside) in
+      let exact = rw done at (upto .made) in
+      record {
+        tracersAre =
+            sym (take-all (n * (k * cells)) nowTracers (omega (arith, upto .long, need .long))) ∙ parts-joined n (k * cells) nowTracers ∙
+            joined-ext n _ _ (λ t h. upto-all (gas-long h) (need .moves .some) all (upto .each t h));
+        airIs = upto-all (need .moves .columns .long) (need .moves .some) all (upto .airUpto);
+        most = omega (arith, exact);
+        exact = exact;
+      }

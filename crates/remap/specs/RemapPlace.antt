@@ -16,8 +16,7 @@ use Rattle.units.specs.Agrees.{accepted-agrees}
 use Rattle.places.specs.declared.Placed.{Placed}
 use Rattle.places.specs.Walk.{Left, IsPlaced, Like, none}
 use Rattle.remap.specs.Served.{ColumnsNeed, AreServed}
-use Rattle.remap.specs.Moved.{ColumnsAirNeed, airMoved}
-use Rattle.remap.specs.Tracers.{ColumnsTracersNeed, allMoved}
+use Rattle.remap.specs.Moved.{ColumnsAirNeed, ColumnsTracersNeed, AreMoved}
 
 -- the place behind the table: some column's edges do not serve
 abbrev pub fromServing : List ℕ → List Place
@@ -60,7 +59,7 @@ module _ (w : World) {cells : ℕ} (e : cells ≡ layerCells (w .grid)) {table :
 
 -- ---- the call, once its places are passed
 module _ {w : World} {table : List ℕ} {p : Placed} (found : ColumnsFound w table p) {cells : ℕ} (e : cells ≡ layerCells (w .grid)) where
-  pub air-need : ColumnsAirNeed (w .air) table cells (w .grid .K)
+  air-need : ColumnsAirNeed (w .air) table cells (w .grid .K)
   unfolding column
   air-need =
       record {
@@ -78,10 +77,9 @@ module _ {w : World} {table : List ℕ} {p : Placed} (found : ColumnsFound w tab
         totals = rw e (found .fits .totals);
       }
 
-  pub remap-agrees : {newAir newTracers : List ℕ} → numberOf (p .answer) ≡ 0 →
-      newAir ≡ airMoved (w .grid .K) cells table (w .air) →
-      newTracers ≡ allMoved (w .grid .N) (w .grid .K) cells table (w .air) (w .tracers) →
+  pub remap-agrees : {newTracers newAir : List ℕ} {steps : ℕ} → numberOf (p .answer) ≡ 0 →
+      AreMoved (w .tracers) (w .air) table cells (w .grid .K) (w .grid .N) newTracers newAir steps →
       Agrees w (remap table) (p .answer) (withAmounts w newAir newTracers)
   unfolding remapped remappedAir remappedGas column
-  remap-agrees zero isAir isTracers =
-      accepted-agrees (none (found .left)) zero (found .counted) (ap₂ (withAmounts w) (rw e at isAir) (rw e at isTracers))
+  remap-agrees zero moved =
+      accepted-agrees (none (found .left)) zero (found .counted) (ap₂ (withAmounts w) (rw e at (moved .airIs)) (rw e at (moved .tracersAre)))

@@ -88,9 +88,10 @@ module _
         most = λ j h. rw (is .edgesAre .is j (omega arith), is .edgesAre .is (suc j) (omega arith)) (edges .most j h);
       }
 
-  -- the edges, of the loaded air
-  pub column-edges : AreEdges table (airAbove (firsts k a) k) k e
-  column-edges = rw (is .airIs) (is .edgesAre)
+-- the edges, of the loaded air
+pub column-edges :
+    {air table : List ℕ} {c cells k : ℕ} {a e : List ℕ} → IsColumn air table c cells k a e → AreEdges table (airAbove (firsts k a) k) k e
+column-edges is = rw (is .airIs) (is .edgesAre)
 
 -- ---- all columns
 pub record ColumnsNeed (air table : List ℕ) (cells k : ℕ) : Type 0 where
@@ -157,7 +158,7 @@ module _ {air table : List ℕ} {cells k : ℕ} (need : ColumnsNeed air table ce
             inside = omega arith;
             serve = every-more c (servesAt k cells table air) ∙ ap₂ _&&_ (upto .serve) serves-here;
             counted =
-                ap₂ _+_ (upto .counted) (pairs .is table (rw (is .airIs) (is .edgesAre)) ∙ ap (columnCount k table) (is .airIs)) ∙
+                ap₂ _+_ (upto .counted) (pairs .is table (column-edges is) ∙ ap (columnCount k table) (is .airIs)) ∙
                 sym (sum-more c (countAt k cells table air));
             few = omega (arith, upto .few, pairs .most, need .fit);
           }

@@ -1,59 +1,119 @@
--- All tracers remapped, one after the other.
+-- All tracers in one column: what `move_column` requires and ensures, and its loop, which lends each tracer its part of the amounts.
 use Prim.Native.Nat.{ℕ, suc, _+_, _*_, _-_, _≤_, _<_}
-use mathlib.Core.List.{List, _++_}
-use mathlib.Core.Path.{_≡_, ap, _∙_}
-use native.Mathlib.Nat.{add-sub-cancel-left, mul-le-mul, mul-le-mul-right}
+use mathlib.Core.List.{List}
+use mathlib.Core.Logic.{⊎-elim}
+use mathlib.Core.Path.{_≡_, refl, sym, ap, _∙_}
+use native.Mathlib.Nat.{mul-le-mul, mul-le-mul-right, eq-or-lt-of-le}
 use native.Mathlib.Omega.{arith}
 use borrow.Rule.Slice.PartMut.{putMid}
-use lib.ListN.{length, take, drop}
+use lib.ListN.{length}
 use Rattle.model.specs.Limits.{totalLimit, mostLayers, mostLayerCells, mostCells, mostTracers, mostAmounts}
-use Rattle.model.specs.Basic.{at, part, sum, joined, tab}
-use Rattle.model.specs.Laws.Basic.{length-tab}
-use Rattle.units.specs.EachTracer.{Changes, changedUpTo, gas-inside, length-gas, whole-kept, whole-more}
-use Rattle.remap.specs.Moved.{ColumnsAirNeed, ColumnsGasNeed, gasMoved}
+use Rattle.model.specs.Basic.{at, part, written, sum}
+use Rattle.model.specs.Walk.{budget}
+use Rattle.model.specs.Laws.Basic.{length-rewritten, part-rewritten, part-not-rewritten}
+use Rattle.units.specs.EachTracer.{length-gas}
+use Rattle.substep.specs.Lent.{part-lent, put-back}
+use Rattle.column.specs.Gas.{Spans}
+use Rattle.remap.specs.Columns.{columnOf}
+use Rattle.remap.specs.Gas.{GasNeed, IsGasMoved}
 
-pub record ColumnsTracersNeed (tracers air table : List ℕ) (cells k n : ℕ) : Type 0 where
-  pub moves : ColumnsAirNeed air table cells k
-  pub few : n ≤ mostTracers
+-- tracer t's part of all amounts
+abbrev pub gasOf : ℕ → ℕ → List ℕ → ℕ → List ℕ
+gasOf k cells tracers t = part tracers (t * (k * cells)) (k * cells)
+
+pub record ColumnTracersNeed (tracers air e : List ℕ) (c cells k n : ℕ) : Type 0 where
+  pub spans : Spans k air e
+  pub place : c < cells
+  pub fewCells : cells ≤ mostLayerCells
+  pub fewTracers : n ≤ mostTracers
   pub long : length tracers ≡ n * (k * cells)
-  pub totals : (t : ℕ) → t < n → sum (k * cells) (at (part tracers (t * (k * cells)) (k * cells))) ≤ totalLimit
+  pub totals : (t : ℕ) → t < n → sum k (at (columnOf k cells (gasOf k cells tracers t) c)) ≤ totalLimit
 
--- what tracer t shall have, and all of them
-abbrev pub movedOne : ℕ → ℕ → List ℕ → List ℕ → List ℕ → ℕ → List ℕ
-movedOne k cells table air tracers t = gasMoved k cells table air (part tracers (t * (k * cells)) (k * cells))
+-- the column is remapped in each tracer
+pub record AreTracersMoved (tracers air e : List ℕ) (c cells k n : ℕ) (next : List ℕ) : Type 0 where
+  pub long : length next ≡ length tracers
+  pub each : (t : ℕ) → t < n → IsGasMoved (gasOf k cells tracers t) air e c cells k (gasOf k cells next t)
 
-abbrev pub allMoved : ℕ → ℕ → ℕ → List ℕ → List ℕ → List ℕ → List ℕ
-allMoved n k cells table air tracers = joined (tab n (movedOne k cells table air tracers))
+-- in each of the first t, by a walk of one step less than the budget
+pub record TracersUpto (tracers air e : List ℕ) (c cells k n t : ℕ) (now : List ℕ) (steps : ℕ) : Type 0 where
+  pub inside : t ≤ n
+  pub long : length now ≡ length tracers
+  pub done : (u : ℕ) → u < t → IsGasMoved (gasOf k cells tracers u) air e c cells k (gasOf k cells now u)
+  pub left : (u : ℕ) → t ≤ u → u < n → gasOf k cells now u ≡ gasOf k cells tracers u
+  pub made : steps + t ≡ t * budget k
 
--- the first t tracers remapped
-abbrev pub movedUpTo : ℕ → ℕ → ℕ → List ℕ → List ℕ → List ℕ → List ℕ
-movedUpTo t k cells table air tracers = changedUpTo tracers (k * cells) (movedOne k cells table air tracers) t
-
-module _ {tracers air table : List ℕ} {cells k n : ℕ} (need : ColumnsTracersNeed tracers air table cells k n) where
+module _ {tracers air e : List ℕ} {c cells k n : ℕ} (need : ColumnTracersNeed tracers air e c cells k n) where
   abbrev m : ℕ
   m = k * cells
 
-  pub moved-changes : Changes tracers n m (movedOne k cells table air tracers)
-  moved-changes = record { long = need .long; sized = λ t h. length-tab m _ }
+  pub tracers-none : TracersUpto tracers air e c cells k n 0 tracers 0
+  tracers-none =
+      record { inside = omega arith; long = refl; done = λ u h. absurd (omega arith); left = λ u h p. refl; made = omega arith }
 
-  pub tracer-room : {t : ℕ} → t < n → (t * m + m ≤ length tracers) × (t * m + m ≤ mostAmounts)
-  tracer-room {t} h =
-      let below : suc t * m ≤ n * m = mul-le-mul-right m h in
-      let cellsMost : m ≤ mostCells = mul-le-mul {n₂ = mostLayers} {m₂ = mostLayerCells} (need .moves .columns .fit) (need .moves .columns .few) in
-      let most : n * m ≤ mostAmounts = mul-le-mul {n₂ = mostTracers} {m₂ = mostCells} (need .few) cellsMost in
-      (gas-inside tracers n m (need .long) h, omega arith)
+  module _ {t : ℕ} (h : t < n) {now : List ℕ} {steps : ℕ} (upto : TracersUpto tracers air e c cells k n t now steps) where
+    -- where tracer t's part ends, and what is lent of it, `&mut tracers[a..b]` with b = a + m
+    pub tracer-room : (t * m + m ≤ length now) × (t * m + m ≤ mostAmounts)
+    tracer-room =
+        let below : suc t * m ≤ n * m = mul-le-mul-right m h in
+        let cellsMost : m ≤ mostCells = mul-le-mul {n₂ = mostLayers} {m₂ = mostLayerCells} (need .spans .fit) (need .fewCells) in
+        let most : n * m ≤ mostAmounts = mul-le-mul {n₂ = mostTracers} {m₂ = mostCells} (need .fewTracers) cellsMost in
+        (omega (arith, upto .long, need .long), omega arith)
 
-  -- tracer t as it is lent, `&mut tracers[a..e]` with e = a + m, when those before it are remapped
-  module _ {t : ℕ} (h : t < n) {now : List ℕ} (e : now ≡ movedUpTo t k cells table air tracers) where
-    lent-is : part now (t * m) (t * m + m - t * m) ≡ part tracers (t * m) m
-    lent-is = ap (part now (t * m)) (add-sub-cancel-left (t * m) m) ∙ whole-kept moved-changes h e
+    lent-is : part now (t * m) (t * m + m - t * m) ≡ gasOf k cells tracers t
+    lent-is = part-lent now (t * m) m ∙ upto .left t (omega arith) h
 
-    pub tracer-need : ColumnsGasNeed (part now (t * m) (t * m + m - t * m)) air table cells k
-    tracer-need =
-        rw lent-is record { moves = need .moves; long = length-gas tracers n m (need .long) h; total = need .totals t h }
+    pub lent-need : GasNeed (part now (t * m) (t * m + m - t * m)) air e c cells k
+    lent-need =
+        rw lent-is
+        record {
+          column = record { fit = need .spans .fit; few = need .fewCells; place = need .place; long = length-gas tracers n m (need .long) h };
+          spans = need .spans;
+          total = need .totals t h;
+        }
 
-    pub moved-more : {new : List ℕ} → new ≡ gasMoved k cells table air (part now (t * m) (t * m + m - t * m)) →
-        putMid (t * m) (t * m + m - t * m) now new ≡ movedUpTo (t + 1) k cells table air tracers
-    moved-more {new} is =
-        ap (λ (i : ℕ). take (t * m) now ++ (new ++ drop i (drop (t * m) now))) (add-sub-cancel-left (t * m) m) ∙
-        whole-more moved-changes h e (is ∙ ap (gasMoved k cells table air) lent-is)
+    -- the sum of the steps fits
+    pub column-steps : (s : ℕ) → s + 1 ≡ budget k → steps + s ≤ mostTracers * budget mostLayers
+    column-steps s made =
+        let most : suc t * budget k ≤ mostTracers * budget mostLayers =
+        mul-le-mul {n₂ = mostTracers} {m₂ = budget mostLayers} (omega (arith, need .fewTracers)) (omega (arith, need .spans .fit)) in
+        omega (arith, upto .made)
+
+    module _ {new : List ℕ} (moved : IsGasMoved (part now (t * m) (t * m + m - t * m)) air e c cells k new) where
+      size : length new ≡ m
+      size = moved .long ∙ ap length lent-is ∙ length-gas tracers n m (need .long) h
+
+      whole : length now ≡ n * m
+      whole = upto .long ∙ need .long
+
+      abbrev next : List ℕ
+      next = putMid (t * m) (t * m + m - t * m) now new
+
+      back : next ≡ written now (t * m) new
+      back = put-back now new (t * m) m size
+
+      next-own : gasOf k cells next t ≡ new
+      next-own = ap (λ (l : List ℕ). part l (t * m) m) back ∙ part-rewritten now new n m t whole size h
+
+      next-other : (u : ℕ) → (u ≡ t → ⊥) → gasOf k cells next u ≡ gasOf k cells now u
+      next-other u other = ap (λ (l : List ℕ). part l (u * m) m) back ∙ part-not-rewritten now new n m t whole size h u other
+
+      pub tracers-more : (s : ℕ) → s + 1 ≡ budget k → TracersUpto tracers air e c cells k n (t + 1) next (steps + s)
+      tracers-more s made =
+          record {
+            inside = omega arith;
+            long = ap length back ∙ length-rewritten now new n m t whole size h ∙ sym (need .long);
+            done =
+                λ u p.
+                ⊎-elim
+                (λ (q : u ≡ t). rw (q, next-own, ← lent-is) moved)
+                (λ (q : u < t). rw (next-other u (λ (z : u ≡ t). omega arith)) (upto .done u q))
+                (eq-or-lt-of-le (omega arith));
+            left = λ u p q. next-other u (λ (z : u ≡ t). omega arith) ∙ upto .left u (omega arith) q;
+            made = omega (arith, upto .made);
+          }
+
+  pub tracers-all : {t : ℕ} {now : List ℕ} {steps : ℕ} → n ≤ t → TracersUpto tracers air e c cells k n t now steps →
+      AreTracersMoved tracers air e c cells k n now × (steps + n ≡ n * budget k)
+  tracers-all {t} all upto =
+      let e : t ≡ n = omega (arith, upto .inside) in
+      (record { long = upto .long; each = λ u h. upto .done u (omega arith) }, rw e at (upto .made))

@@ -1,15 +1,18 @@
 // The remap of all columns.
 ghost use mathlib.Core.Path.{_≡_};
 ghost use mathlib.Core.Bool.{_||_};
-ghost use Prim.Native.Nat.{_+_, _≤_, _<_};
+ghost use Prim.Native.Nat.{_+_, _*_, _≤_, _<_};
 ghost use lib.Dec.{eqb};
 ghost use lib.ListN.{length};
 ghost use Rattle.model.specs.Basic.{at};
+ghost use Rattle.model.specs.Walk.{budget};
+ghost use Rattle.substep.specs.Pieces.{HasAir, AreRatios};
 ghost use Rattle.column.specs.Column.{firsts};
 ghost use Rattle.remap.specs.Columns.{ColumnNeed, columnOf, columnSet};
 ghost use Rattle.remap.specs.Served.{ReadNeed, IsColumn, ColumnsNeed, AreServed};
-ghost use Rattle.remap.specs.Moved.{ColumnsAirNeed, ColumnsGasNeed, airMoved, gasMoved};
-ghost use Rattle.remap.specs.Tracers.{ColumnsTracersNeed, allMoved};
+ghost use Rattle.remap.specs.Gas.{GasNeed, IsGasMoved};
+ghost use Rattle.remap.specs.Tracers.{ColumnTracersNeed, AreTracersMoved};
+ghost use Rattle.remap.specs.Moved.{ColumnsTracersNeed, AreMoved};
 ghost use Rattle.remap.specs.RemapPlace.{IsRemapPlace};
 ghost use Rattle.model.specs.Step.{remap as remap-call};
 ghost use Rattle.units.specs.Answer.{Agrees};
@@ -25,11 +28,14 @@ use places::Lent;
 use places::Placed;
 use places::common_places;
 use places::not_placed;
+use scheme::ratio;
+use units::Air;
 use units::Answer;
 use units::Grid;
 use units::MOST_EDGES;
 use units::MOST_LAYERS;
 use units::Refusal;
+use units::Tracer;
 use units::layer_cells;
 use units::number;
 
@@ -41,6 +47,29 @@ fn read_column(list: &[u32], c: usize, cells: usize, k: usize, column: &mut [u32
     let mut i = 0;
     while i < k {
         column[i] = list[i * cells + c];
+        i += 1;
+    }
+}
+
+// Copies a tracer's column in the same way, and finds the ratios by the column's air, in one loop.
+fn read_ratios(
+    gas: &[u32],
+    air: &[u32],
+    c: usize,
+    cells: usize,
+    k: usize,
+    column: &mut [u32],
+    q: &mut [u64],
+)
+    requires { ⌜ ColumnNeed (now gas) c cells k × HasAir k (now air) (now column) (now q) ⌝ }
+    ensures { λ r. ⌜ (firsts k (now (column .exit)) ≡ columnOf k cells (now (gas .entry)) c) × AreRatios k (now (air .entry)) (now (column .exit)) (now (q .exit)) ⌝ }
+{
+    let mut i = 0;
+    while i < k {
+        let have = air[i];
+        let amount = gas[i * cells + c];
+        column[i] = amount;
+        q[i] = ratio(Air(have), Tracer(amount));
         i += 1;
     }
 }
@@ -112,67 +141,95 @@ fn is_cap(c: usize, cells: usize) -> bool
     (c == 0) | (c + 1 == cells)
 }
 
-// Remaps one tracer in all columns.
-fn move_tracer(gas: &mut [u32], air: &[u32], table: &[u32], cells: usize, k: usize)
-    requires { ⌜ ColumnsGasNeed (now gas) (now air) (now table) cells k ⌝ }
-    ensures { λ r. ⌜ now (gas .exit) ≡ gasMoved k cells (now (table .entry)) (now (air .entry)) (now (gas .entry)) ⌝ }
+// Remaps one tracer in the column at place c, of which `air` and `e` have the old air and the new edges, and gives the steps of its walk. The lists after k are filled on the way; they are lent, so that they are made once for all tracers.
+fn move_gas(
+    gas: &mut [u32],
+    air: &[u32],
+    e: &[u64],
+    c: usize,
+    cells: usize,
+    k: usize,
+    column: &mut [u32; MOST_LAYERS],
+    q: &mut [u64; MOST_LAYERS],
+    size: &mut [u64; MOST_LAYERS],
+    rising: &mut [bool; MOST_LAYERS],
+    newgas: &mut [u32; MOST_LAYERS],
+) -> usize
+    requires { ⌜ GasNeed (now gas) (now air) (now e) c cells k ⌝ }
+    ensures { λ r. ⌜ IsGasMoved (now (gas .entry)) (now (air .entry)) (now (e .entry)) c cells k (now (gas .exit)) × (r + 1 ≡ budget k) ⌝ }
 {
-    let mut columnair = [0u32; MOST_LAYERS];
-    let mut e = [0u64; MOST_EDGES];
-    let mut columngas = [0u32; MOST_LAYERS];
+    read_ratios(gas, air, c, cells, k, column, q);
+    let cap = is_cap(c, cells);
+    let steps = remap_gas(air, column, cap, e, k, q, size, rising, newgas);
+    write_column(newgas, gas, c, cells, k);
+    steps
+}
+
+// Remaps the n tracers in that column, one after the other, and gives the steps of their walks.
+fn move_column(
+    tracers: &mut [u32],
+    air: &[u32],
+    e: &[u64],
+    c: usize,
+    cells: usize,
+    k: usize,
+    n: usize,
+) -> usize
+    requires { ⌜ ColumnTracersNeed (now tracers) (now air) (now e) c cells k n ⌝ }
+    ensures { λ r. ⌜ AreTracersMoved (now (tracers .entry)) (now (air .entry)) (now (e .entry)) c cells k n (now (tracers .exit)) × (r + n ≡ n * budget k) ⌝ }
+{
+    let mut column = [0u32; MOST_LAYERS];
     let mut q = [0u64; MOST_LAYERS];
     let mut size = [0u64; MOST_LAYERS];
     let mut rising = [false; MOST_LAYERS];
     let mut newgas = [0u32; MOST_LAYERS];
-    let mut c = 0;
-    while c < cells {
-        read_edges(air, table, c, cells, k, &mut columnair, &mut e);
-        read_column(gas, c, cells, k, &mut columngas);
-        let cap = is_cap(c, cells);
-        remap_gas(
-            &columnair,
-            &columngas,
-            cap,
-            &e,
+    let mut steps = 0;
+    let mut t = 0;
+    while t < n {
+        let a = t * (k * cells);
+        let b = a + k * cells;
+        steps += move_gas(
+            &mut tracers[a..b],
+            air,
+            e,
+            c,
+            cells,
             k,
+            &mut column,
             &mut q,
             &mut size,
             &mut rising,
             &mut newgas,
         );
-        write_column(&newgas, gas, c, cells, k);
-        c += 1;
+        t += 1;
     }
+    steps
 }
 
-// Remaps the air in all columns.
-fn move_air(air: &mut [u32], table: &[u32], cells: usize, k: usize)
-    requires { ⌜ ColumnsAirNeed (now air) (now table) cells k ⌝ }
-    ensures { λ r. ⌜ now (air .exit) ≡ airMoved k cells (now (table .entry)) (now (air .entry)) ⌝ }
+// Remaps all columns, one after the other, and gives the steps of all walks. A column's air is written last: the walks go by what it was.
+fn move_columns(
+    tracers: &mut [u32],
+    air: &mut [u32],
+    table: &[u32],
+    cells: usize,
+    k: usize,
+    n: usize,
+) -> usize
+    requires { ⌜ ColumnsTracersNeed (now tracers) (now air) (now table) cells k n ⌝ }
+    ensures { λ r. ⌜ AreMoved (now (tracers .entry)) (now (air .entry)) (now (table .entry)) cells k n (now (tracers .exit)) (now (air .exit)) r ⌝ }
 {
     let mut columnair = [0u32; MOST_LAYERS];
     let mut e = [0u64; MOST_EDGES];
+    let mut steps = 0;
     let mut c = 0;
     while c < cells {
         read_edges(air, table, c, cells, k, &mut columnair, &mut e);
+        steps += move_column(tracers, &columnair, &e, c, cells, k, n);
         new_air(&e, k, &mut columnair);
         write_column(&columnair, air, c, cells, k);
         c += 1;
     }
-}
-
-// Remaps the n tracers, one after the other.
-fn move_tracers(tracers: &mut [u32], air: &[u32], table: &[u32], cells: usize, k: usize, n: usize)
-    requires { ⌜ ColumnsTracersNeed (now tracers) (now air) (now table) cells k n ⌝ }
-    ensures { λ r. ⌜ now (tracers .exit) ≡ allMoved n k cells (now (table .entry)) (now (air .entry)) (now (tracers .entry)) ⌝ }
-{
-    let mut t = 0;
-    while t < n {
-        let a = t * (k * cells);
-        let e = a + k * cells;
-        move_tracer(&mut tracers[a..e], air, table, cells, k);
-        t += 1;
-    }
+    steps
 }
 
 // Places 1 to 4, 11 and 12; the columns start at cell 0.
@@ -213,7 +270,6 @@ pub fn remap(g: Grid, air: &mut [u32], tracers: &mut [u32], ledger: &[u32], tabl
     let cells = layer_cells(g) as usize;
     let k = g.k as usize;
     let n = g.n as usize;
-    move_tracers(tracers, air, table, cells, k, n);
-    move_air(air, table, cells, k);
+    move_columns(tracers, air, table, cells, k, n);
     answer
 }

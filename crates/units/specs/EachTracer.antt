@@ -2,10 +2,10 @@
 use Prim.Native.Nat.{ℕ, suc, _+_, _*_, _≤_, _<_}
 use mathlib.Core.List.{List, [], _++_, append-assoc, append-nil}
 use mathlib.Core.Path.{_≡_, sym, ap, _∙_}
-use native.Mathlib.Nat.{zero-mul, add-zero, mul-le-mul-right}
+use native.Mathlib.Nat.{zero-mul, mul-le-mul-right}
 use native.Mathlib.Omega.{arith}
 use lib.ListN.{length, length-append, length-drop, take, drop, take-append-drop, drop-of-length-le}
-use lib.Seq.{drop-drop, drop-append-add, take-append-add}
+use lib.Seq.{drop-drop, drop-append-add}
 use Rattle.model.specs.Basic.{part, written, joined, tabFrom, tab}
 use Rattle.model.specs.Laws.Basic.{length-part, length-tab, getD-tab, length-joined}
 use Rattle.model.specs.Laws.Entries.{joined-more, written-middle, part-part}
@@ -68,19 +68,7 @@ module _ {tracers : List ℕ} {n m : ℕ} {each : ℕ → List ℕ} (changes : C
         ap (λ (i : ℕ). drop (i + first) (done ++ drop (t * m) tracers)) (sym (length-done t (omega arith))) ∙
         drop-append-add done (drop (t * m) tracers) first ∙ drop-drop first (t * m) tracers
 
-    rest : drop (t * m) now ≡ drop (t * m) tracers
-    rest = rw add-zero at (dropped 0)
-
-    front : take (t * m) now ≡ done
-    front =
-        ap (take (t * m)) e ∙
-        ap (λ (i : ℕ). take i (done ++ drop (t * m) tracers)) (sym (length-done t (omega arith)) ∙ sym (add-zero _)) ∙
-        take-append-add done (drop (t * m) tracers) 0 ∙ append-nil done
-
-    -- its amounts, and a part of them, are what they were
-    pub whole-kept : part now (t * m) m ≡ part tracers (t * m) m
-    whole-kept = ap (take m) rest
-
+    -- a part of its amounts is what it was
     pub part-kept : (first width : ℕ) → first + width ≤ m → part now (t * m + first) width ≡ part (part tracers (t * m) m) first width
     part-kept first width inside =
         ap (take width) (dropped first) ∙ sym (part-part tracers (t * m) m first width (gas-inside tracers n m (changes .long) h) inside)
@@ -88,14 +76,7 @@ module _ {tracers : List ℕ} {n m : ℕ} {each : ℕ → List ℕ} (changes : C
     more : done ++ (each t ++ behind) ≡ changedUpTo tracers m each (t + 1)
     more = sym (append-assoc done (each t) behind) ∙ ap (λ (l : List ℕ). l ++ behind) (sym (joined-more t each))
 
-    -- all of them changed, or a part of them
-    pub whole-more : {new : List ℕ} → new ≡ each t → take (t * m) now ++ (new ++ drop m (drop (t * m) now)) ≡ changedUpTo tracers m each (t + 1)
-    whole-more is =
-        ap (λ (l : List ℕ). take (t * m) now ++ (l ++ drop m (drop (t * m) now))) is ∙
-        ap (λ (l : List ℕ). l ++ (each t ++ drop m (drop (t * m) now))) front ∙
-        ap (λ (l : List ℕ). done ++ (each t ++ l)) (ap (drop m) rest ∙ past) ∙
-        more
-
+    -- that part written as it shall be
     pub part-more : (new : List ℕ) (first : ℕ) → first + length new ≤ m → written (part tracers (t * m) m) first new ≡ each t →
         written now (t * m + first) new ≡ changedUpTo tracers m each (t + 1)
     part-more new first inside is =

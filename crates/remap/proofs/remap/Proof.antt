@@ -1,8 +1,8 @@
--- `remap::remap` meets its contract: its places, then all tracers and the air.
+-- `remap::remap` meets its contract: its places, then all columns.
 use mathlib.Core.Path.{sym, _∙_}
 use Rattle.units.specs.Grid.{worldOf, in-range}
 use Rattle.places.specs.Walk.{itself, refuses}
-use Rattle.remap.specs.RemapPlace.{ColumnsFound, air-need, tracers-need, remap-agrees}
+use Rattle.remap.specs.RemapPlace.{ColumnsFound, tracers-need, remap-agrees}
 use borrow.Author.Needs.{needs}
 use Rattle.remap.proofs.remap.Statement.{statement}
 use Rattle.remap.proofs.remap.Tie as tie
@@ -23,26 +23,19 @@ found c =
 layer-cells-requires : tie.Need-layer-cells-requires
 layer-cells-requires c κs = in-range _ (found c .fits .grid)
 
-move-tracers-requires : tie.Need-move-tracers-requires
-move-tracers-requires c κs =
+move-columns-requires : tie.Need-move-columns-requires
+move-columns-requires c κs =
     let cells : tie.After-layer-cells = search in
     let accepted : tie.Then1 = search in
     tracers-need (found accepted) (cells .layer-cells .ensures .0)
 
-move-air-requires : tie.Need-move-air-requires
-move-air-requires c κs =
-    let cells : tie.After-layer-cells = search in
-    let accepted : tie.Then1 = search in
-    air-need (found accepted) (cells .layer-cells .ensures .0)
-
 returns-2 : tie.Need-returns-2
 returns-2 c =
-    let air : tie.After-move-air = search in
-    let tracers : tie.After-move-tracers = search in
+    let moved : tie.After-move-columns = search in
     let cells : tie.After-layer-cells = search in
     let accepted : tie.Then1 = search in
     let zero = sym (accepted .before .number .ensures) ∙ accepted .if1 .taken in
-    remap-agrees (found accepted) (cells .layer-cells .ensures .0) zero (air .move-air .ensures) (tracers .move-tracers .ensures)
+    remap-agrees (found accepted) (cells .layer-cells .ensures .0) zero (moved .move-columns .ensures)
 
 pub remap-spec : {M : Type 1} → statement M
 remap-spec =
@@ -57,8 +50,7 @@ remap-spec =
     (λ c. search needs)  -- cast-cells
     (λ c. search needs)  -- cast-k
     (λ c. search needs)  -- cast-n
-    move-tracers-requires
-    move-air-requires
+    move-columns-requires
     (λ c. search needs)  -- same-length-3
     (λ c. search needs)  -- same-length-4
     returns-2)
