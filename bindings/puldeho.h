@@ -1,5 +1,5 @@
 /*
- * Puldeho, the transport core of the tracer console, for C (C99 or later) and C++: version 0.3.0.
+ * Puldeho, the transport core of the tracer console, for C (C99 or later) and C++: version 0.4.0.
  * Made by tools/bindings from the tables of bindings/: not to be edited.
  *
  * To compile and link, on x86-64 Linux: cc program.c $(pkg-config --cflags --libs puldeho)
@@ -40,9 +40,9 @@
  *   puldeho_raw_emission                  464
  *   puldeho_raw_withdrawal                400
  *   puldeho_raw_zonal                  25,536
- *   puldeho_raw_long_zonal             18,672
+ *   puldeho_raw_long_zonal             18,656
  *   puldeho_raw_meridional             93,968
- *   puldeho_raw_remap                  17,856
+ *   puldeho_raw_remap                  17,824
  *   puldeho_raw_total                     432
  *   puldeho_raw_cell                      400
  *   puldeho_raw_add_emitter               720
@@ -59,11 +59,11 @@
 #include <stdint.h>
 #include <string.h>
 
-#define PULDEHO_VERSION "0.3.0"
+#define PULDEHO_VERSION "0.4.0"
 #define PULDEHO_VERSION_MAJOR 0
-#define PULDEHO_VERSION_MINOR 3
+#define PULDEHO_VERSION_MINOR 4
 #define PULDEHO_VERSION_PATCH 0
-#define PULDEHO_ABI puldeho_abi_0_3
+#define PULDEHO_ABI puldeho_abi_0_4
 
 /* the most air of a cell; the least is 1 */
 #define PULDEHO_AIR_LIMIT 65535
@@ -303,6 +303,16 @@ static inline size_t puldeho_remap_table_length(struct puldeho_grid grid)
     return ((size_t)grid.k + 1) * 2;
 }
 
+/* The most steps of a remap call: N*C*2*K, which is 1,623,040 on the largest grid, 72 x 44 x
+ * 32 x 8. The remap goes down each column once for each tracer; a step passes one edge or one
+ * old layer and adds at most one layer's amount or piece, and 2*K steps always reach the last
+ * edge. Proved for every accepted remap, whatever table, air and amounts. Not counted is what
+ * is done beside these steps, such as tests, edges, slopes and the count of pairs. */
+static inline size_t puldeho_most_remap_steps(struct puldeho_grid grid)
+{
+    return (size_t)grid.n * puldeho_cells_in_layer(grid) * 2 * (size_t)grid.k;
+}
+
 /* What the functions below give for a place that the grid has not. Every call refuses it, with 5; test for it
  * before you use the number as an index. */
 #define PULDEHO_NO_CELL UINT32_MAX
@@ -501,9 +511,10 @@ static inline enum puldeho_refusal puldeho_meridional(
 
 /*
  * Remaps all columns to the edges of a table of K + 1 pairs a, b, lent as 2*(K + 1) numbers.
- * Writes air and tracers. Refusals, in order: 1 2 3 4 11 12. overlaps: the pairs of an old and
- * a new layer that share air, over all columns. table has puldeho_remap_table_length(grid)
- * numbers.
+ * Makes at most 2*K steps for each column and tracer, in all at most the grid's
+ * most_remap_steps. Writes air and tracers. Refusals, in order: 1 2 3 4 11 12. overlaps: the
+ * pairs of an old and a new layer that share air, over all columns. table has
+ * puldeho_remap_table_length(grid) numbers.
  */
 PULDEHO_MUST_USE PULDEHO_NOT_NULL(1) PULDEHO_LIST(read_only, 2, 3)
 static inline enum puldeho_refusal puldeho_remap(

@@ -195,10 +195,10 @@ static void refusals(void)
     expect_list("refusals, tracers after", tracers, first_tracers);
 }
 
-/* Lengths and cell numbers of a larger grid, and places that it has not. */
+/* Lengths and cell numbers of a larger grid, and places that it has not; the most steps of a remap on two others. */
 static void numbers(void)
 {
-    struct puldeho_grid grid = {6, 3, 2, 5};
+    struct puldeho_grid grid = {6, 3, 2, 5}, largest = {72, 44, 32, 8}, small = {4, 1, 3, 1};
     expect_number("length of air", (uint32_t)puldeho_air_length(grid), 40);
     expect_number("length of tracers", (uint32_t)puldeho_tracers_length(grid), 200);
     expect_number("length of the ledger", (uint32_t)puldeho_ledger_length(grid), 5 * PULDEHO_LEDGER_BLOCK);
@@ -206,6 +206,8 @@ static void numbers(void)
     expect_number("length of long zonal fluxes", (uint32_t)puldeho_long_zonal_fluxes_length(grid), 6);
     expect_number("length of meridional fluxes", (uint32_t)puldeho_meridional_fluxes_length(grid), 24);
     expect_number("length of a table", (uint32_t)puldeho_remap_table_length(grid), 6);
+    expect_number("the most steps of a remap on the largest grid", (uint32_t)puldeho_most_remap_steps(largest), 1623040);
+    expect_number("the most steps of a remap on a small grid", (uint32_t)puldeho_most_remap_steps(small), 36);
     expect_number("the last cell of the last row", puldeho_cell_number(grid, 1, 2, 5), 38);
     expect_number("a south cap", puldeho_south_cap(grid, 1), 20);
     expect_number("a north cap", puldeho_north_cap(grid, 1), 39);

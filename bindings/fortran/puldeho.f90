@@ -1,4 +1,4 @@
-! Puldeho, the transport core of the tracer console, for Fortran 2003 and later: version 0.3.0.
+! Puldeho, the transport core of the tracer console, for Fortran 2003 and later: version 0.4.0.
 ! Made by tools/bindings from the tables of bindings/: not to be edited.
 !
 ! To compile and link: gfortran $(pkg-config --variable=fortran puldeho) program.f90 $(pkg-config --libs puldeho)
@@ -22,7 +22,7 @@ module puldeho
   implicit none
   private
 
-  character(len=*), parameter, public :: puldeho_version = "0.3.0"
+  character(len=*), parameter, public :: puldeho_version = "0.4.0"
 
   ! the most air of a cell; the least is 1
   integer(c_int32_t), parameter, public :: puldeho_air_limit = 65535
@@ -99,6 +99,7 @@ module puldeho
   public :: puldeho_long_zonal_fluxes_length
   public :: puldeho_meridional_fluxes_length
   public :: puldeho_remap_table_length
+  public :: puldeho_most_remap_steps
 
   ! The grid: W columns round the globe (4 to 72), R rows from south to north (1 to 44), K layers from the top
   ! down (1 to 32), N tracers (1 to 8).
@@ -165,8 +166,8 @@ module puldeho
 
   ! Does nothing. A library of another version, whose functions may take other arguments, has no such name.
   interface
-    subroutine puldeho_abi_0_3() bind(c)
-    end subroutine puldeho_abi_0_3
+    subroutine puldeho_abi_0_4() bind(c)
+    end subroutine puldeho_abi_0_4
   end interface
 
   ! The proved functions. Each returns refusal * 2**32 + count.
@@ -578,7 +579,7 @@ contains
     integer(c_int32_t), intent(out) :: refusal
     type(puldeho_world) :: loaded
 
-    call puldeho_abi_0_3()
+    call puldeho_abi_0_4()
     call copy_lists(loaded, grid, air, tracers)
     refusal = refusal_of(puldeho_raw_load( &
         loaded%grid%w, loaded%grid%r, loaded%grid%k, loaded%grid%n, loaded%air, size(loaded%air, &
@@ -705,8 +706,9 @@ contains
     if (present(substeps)) substeps = count_of(returned)
   end subroutine world_meridional
 
-  ! Remaps all columns to the edges of a table of K + 1 pairs a, b, lent as 2*(K + 1) numbers. Refusals, in
-  ! order: 1 2 3 4 11 12.
+  ! Remaps all columns to the edges of a table of K + 1 pairs a, b, lent as 2*(K + 1) numbers. Makes at most
+  ! 2*K steps for each column and tracer, in all at most the grid's most_remap_steps. Refusals, in order: 1 2
+  ! 3 4 11 12.
   ! overlaps: the pairs of an old and a new layer that share air, over all columns.
   subroutine world_remap(world, table, refusal, overlaps)
     class(puldeho_world), intent(inout) :: world
@@ -1183,6 +1185,18 @@ contains
 
     length = (grid%k + 1)*2
   end function puldeho_remap_table_length
+
+  ! The most steps of a remap call: N*C*2*K, which is 1,623,040 on the largest grid, 72 x 44 x 32 x 8. The
+  ! remap goes down each column once for each tracer; a step passes one edge or one old layer and adds at most
+  ! one layer's amount or piece, and 2*K steps always reach the last edge. Proved for every accepted remap,
+  ! whatever table, air and amounts. Not counted is what is done beside these steps, such as tests, edges,
+  ! slopes and the count of pairs.
+  pure function puldeho_most_remap_steps(grid) result(most)
+    type(puldeho_grid), intent(in) :: grid
+    integer(c_int32_t) :: most
+
+    most = grid%n*puldeho_cells_in_layer(grid)*2*grid%k
+  end function puldeho_most_remap_steps
 
   ! Why a call was refused: the condition of a refusal, in words.
   pure function puldeho_refusal_text(refusal) result(text)

@@ -1,5 +1,5 @@
 ! The Fortran module: words that say why a call is refused, a world that is kept and brought back, a load that is refused,
-! long sweeps, emitters, readings of a world that is only read, lengths and cell numbers.
+! long sweeps, emitters, readings of a world that is only read, lengths, cell numbers and the most steps of a remap.
 ! The exit status is not 0 if anything differs.
 program test
   use, intrinsic :: iso_fortran_env, only: int64
@@ -148,6 +148,9 @@ contains
         puldeho_long_zonal_fluxes_length(other), puldeho_meridional_fluxes_length(other), &
         puldeho_remap_table_length(other)] /= [40, 200, 6, 6, 24, 6])) &
         error stop "a length differs"
+    if (puldeho_most_remap_steps(puldeho_grid(72, 44, 32, 8)) /= 1623040 &
+        .or. puldeho_most_remap_steps(puldeho_grid(4, 1, 3, 1)) /= 36) &
+        error stop "the most steps of a remap differ"
     if (any([puldeho_cell_number(other, 1, 2, 5), puldeho_south_cap(other, 1), puldeho_north_cap(other, 1)] /= [38, 20, 39])) &
         error stop "a cell number differs"
     absent = [puldeho_cell_number(other, 2, 0, 0), puldeho_cell_number(other, 0, 3, 0), puldeho_cell_number(other, 0, 0, 6), &

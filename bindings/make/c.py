@@ -1,6 +1,6 @@
 """The C header, bindings/puldeho.h, and the calls of the C reader of scripts, bindings/c/calls.c."""
-from tables import GRID, MADE, OWN, RAW, WHY_SIZE, WORLD, constant, described, exports, filled, in_terms, is_list, is_wide, is_written, largest
-from tables import length_name, length_text, own, world_lists, wrapped
+from tables import GRID, MADE, OWN, RAW, WHY_SIZE, WORLD, bound_text, constant, described, exports, filled, in_terms, is_list, is_wide, is_written
+from tables import largest, length_name, length_text, own, world_lists, wrapped
 
 TYPES = {"u32": "uint32_t ", "u64": "uint64_t ", "&[u32]": "const uint32_t *", "&mut [u32]": "uint32_t *", "&[i32]": "const int32_t *"}
 TAKEN = {"u32": "take_u32", "&[u32]": "take_u32s", "&[i32]": "take_i32s"}
@@ -96,11 +96,10 @@ def why(call):
     return "PULDEHO_NOT_NULL(1) %s\nenum puldeho_refusal puldeho_why_%s(\n    %s);\n" % (lists, call.name, ",\n    ".join(listed))
 
 
-def length(lent):
-    """The function that gives the length of a list."""
-    terms = in_terms(lent.length, "(size_t)grid.%s", "puldeho_cells_in_layer(grid)").replace("*", " * ")
-    return "\n%s\nstatic inline size_t puldeho_%s(struct puldeho_grid grid)\n{\n    return %s;\n}\n" % (
-        comment(length_text(lent)), length_name(lent), terms)
+def number(name, formula, text):
+    """The function that gives a number of the grid, such as the length of a list."""
+    terms = in_terms(formula, "(size_t)grid.%s", "puldeho_cells_in_layer(grid)").replace("*", " * ")
+    return "\n%s\nstatic inline size_t puldeho_%s(struct puldeho_grid grid)\n{\n    return %s;\n}\n" % (comment(text), name, terms)
 
 
 def field(lent):
@@ -182,7 +181,8 @@ def header(tables):
         "OWNLISTS": "".join(own_list(l, tables) for l in owned),
         "SAMELENGTHS": "\n        || ".join(map(other_length, lists)),
         "COPIES": "".join(map(copied, lists)),
-        "LENGTHS": "".join(map(length, tables.lists)),
+        "LENGTHS": "".join(number(length_name(l), l.length, length_text(l)) for l in tables.lists),
+        "BOUNDS": "".join(number(b.name, b.most, bound_text(b, tables)) for b in tables.bounds),
         "RAWS": "\n".join(map(raw, tables.calls)),
         "CALLS": "".join(map(prototype, tables.calls)),
         "BODIES": "".join(map(function, tables.calls)),

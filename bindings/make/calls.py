@@ -44,7 +44,7 @@ SHAPES = {
 
 
 class Lengths:
-    """How long the lists are that go with a grid, and their shapes as arrays."""
+    """How long the lists are that go with a grid, their shapes as arrays, and bounds on what a call does."""
 
     __slots__ = ()
 
@@ -52,7 +52,7 @@ class Lengths:
     def cells_in_layer(self):
         """C, the cells of a layer: its R*W cells and the two caps."""
         return 2 + self.r * self.w
-@LENGTHS@
+@LENGTHS@@BOUNDS@
 
 class Calls:
     """The calls, each over the world's lists."""

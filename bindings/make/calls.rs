@@ -29,8 +29,8 @@ pub const VERSION: &str = "@VERSION@";
 
 @LIMITS@
 @REFUSALS@
-/// How long the lists are that go with a grid.
-impl Grid {@LENGTHS@}
+/// How long the lists are that go with a grid, and bounds on what a call does.
+impl Grid {@LENGTHS@@BOUNDS@}
 
 /// A world that owns its lists, made by an accepted load, so that a later call is refused for its own arguments only.
 /// Two are equal if all that they have is equal, also what a later version adds; to compare amounts, compare the lists.

@@ -2,8 +2,8 @@
 import sys
 import textwrap
 
-from tables import GRID, MADE, RAW, WHY_SIZE, WORLD, abi, constant, exports, filled, in_terms, is_list, is_wide, is_written, largest, length_name
-from tables import length_text, own, world_lists, wrapped
+from tables import GRID, MADE, RAW, WHY_SIZE, WORLD, abi, bound_text, constant, exports, filled, in_terms, is_list, is_wide, is_written, largest
+from tables import length_name, length_text, own, world_lists, wrapped
 
 TYPES = {"u32": "integer(c_int32_t)", "u64": "integer(c_int64_t)"}
 WIDTH = 120  # of a comment
@@ -125,14 +125,13 @@ def field(lent):
     return "%s\n    integer(c_int32_t), allocatable :: %s(:)\n" % (wrapped(text, 110, "    ! "), lent.name)
 
 
-def length(lent):
-    """The function that gives the length of a list."""
-    terms = in_terms(lent.length, "grid%%%s", "puldeho_cells_in_layer(grid)")
-    name = "puldeho_" + length_name(lent)
+def number(name, formula, text, result):
+    """The function that gives a number of the grid, such as the length of a list."""
+    terms = in_terms(formula, "grid%%%s", "puldeho_cells_in_layer(grid)")
     return (
-        "\n{0}\n  pure function {1}(grid) result(length)\n    type(puldeho_grid), intent(in) :: grid\n"
-        "    integer(c_int32_t) :: length\n\n    length = {2}\n  end function {1}\n"
-    ).format(wrapped(length_text(lent), 110, "  ! "), name, terms)
+        "\n{0}\n  pure function puldeho_{1}(grid) result({3})\n    type(puldeho_grid), intent(in) :: grid\n"
+        "    integer(c_int32_t) :: {3}\n\n    {3} = {2}\n  end function puldeho_{1}\n"
+    ).format(wrapped(text, 110, "  ! "), name, terms, result)
 
 
 def texts(tables, field):
@@ -164,7 +163,7 @@ def module(tables):
             "%s\n  integer(c_int32_t), parameter, public :: puldeho_%s = %d\n" % (wrapped(l.what, 110, "  ! "), l.name.lower(), l.number)
             for l in tables.limits
         ),
-        "NAMES": "".join("  public :: puldeho_%s\n" % length_name(lent) for lent in tables.lists),
+        "NAMES": "".join("  public :: puldeho_%s\n" % name for name in [length_name(l) for l in tables.lists] + [b.name for b in tables.bounds]),
         "REFUSALS": "".join(
             "%s\n  integer(c_int32_t), parameter, public :: puldeho_refusal_%s = %d\n" % (
                 wrapped(r.condition, 110, "  ! "), constant(r.name).lower(), r.number)
@@ -192,7 +191,8 @@ def module(tables):
         "ALLOCATED": " .and. ".join("allocated(world%%%s)" % l.name for l in lists),
         "WHYSIZE": str(WHY_SIZE),
         "CALLS": "".join(map(method, later)),
-        "LENGTHS": "".join(map(length, tables.lists)),
+        "LENGTHS": "".join(number(length_name(l), l.length, length_text(l), "length") for l in tables.lists),
+        "BOUNDS": "".join(number(b.name, b.most, bound_text(b, tables), "most") for b in tables.bounds),
         "CONDITIONS": texts(tables, "condition"),
         "REMEDIES": texts(tables, "remedy"),
     }))

@@ -200,7 +200,7 @@ contains
     cell = puldeho_no_cell
     if (layer >= 0 .and. layer < grid%k) cell = (layer + 1)*puldeho_cells_in_layer(grid) - 1
   end function puldeho_north_cap
-@LENGTHS@
+@LENGTHS@@BOUNDS@
   ! Why a call was refused: the condition of a refusal, in words.
   pure function puldeho_refusal_text(refusal) result(text)
     integer(c_int32_t), intent(in) :: refusal

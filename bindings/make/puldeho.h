@@ -117,7 +117,7 @@ static inline size_t puldeho_cells_in_layer(struct puldeho_grid grid)
 {
     return 2 + (size_t)grid.r * grid.w;
 }
-@LENGTHS@
+@LENGTHS@@BOUNDS@
 /* What the functions below give for a place that the grid has not. Every call refuses it, with 5; test for it
  * before you use the number as an index. */
 #define PULDEHO_NO_CELL UINT32_MAX

@@ -1,6 +1,6 @@
 """The Python package's made part, bindings/python/puldeho/calls.py."""
-from tables import MADE, WHY_SIZE, WORLD, abi, constant, filled, full_name, in_terms, is_wide, largest, length_name, length_text, own, world_lists
-from tables import wrapped
+from tables import MADE, WHY_SIZE, WORLD, abi, bound_text, constant, filled, full_name, in_terms, is_wide, largest, length_name, length_text, own
+from tables import world_lists, wrapped
 
 
 def table(tables, field):
@@ -8,11 +8,10 @@ def table(tables, field):
     return "".join('    Refusal.%s: "%s",\n' % (constant(r.name), getattr(r, field)) for r in tables.refusals)
 
 
-def length(lent):
-    """The property that gives the length of a list."""
-    terms = in_terms(lent.length, "self.%s", "self.cells_in_layer").replace("*", " * ")
-    return "\n    @property\n    def %s(self):\n%s\n        return %s\n" % (
-        length_name(lent), wrapped('"""%s"""' % length_text(lent), 110, "        "), terms)
+def number(name, formula, text):
+    """The property that gives a number of the grid, such as the length of a list."""
+    terms = in_terms(formula, "self.%s", "self.cells_in_layer").replace("*", " * ")
+    return "\n    @property\n    def %s(self):\n%s\n        return %s\n" % (name, wrapped('"""%s"""' % text, 110, "        "), terms)
 
 
 def shape(lent):
@@ -66,7 +65,8 @@ def calls(tables):
         "READS": "".join(map(reading, owned)),
         "SIGNATURES": "".join(map(signature, tables.calls)),
         "WIDE": ", ".join('"%s"' % call.name for call in tables.calls if is_wide(call)),
-        "LENGTHS": "".join(length(lent) + shape(lent) for lent in tables.lists),
+        "LENGTHS": "".join(number(length_name(l), l.length, length_text(l)) + shape(l) for l in tables.lists),
+        "BOUNDS": "".join(number(b.name, b.most, bound_text(b, tables)) for b in tables.bounds),
         "SHAPES": "".join('    ("%s", "%s"): "%s_shape",\n' % (l.owner, l.name, full_name(l)) for l in tables.lists),
         "METHODS": "".join(method(call) for call in tables.calls if call.name != "load"),
     })

@@ -1,6 +1,6 @@
 """The Rust wrapper's made part, bindings/rust/src/calls.rs, and the comparison's calls, compare/src/library.rs."""
-from tables import GRID, MADE, RAW, WHY_SIZE, WORLD, abi, exports, filled, in_terms, is_list, is_wide, is_written, largest, length_name, length_text
-from tables import own, world_lists
+from tables import GRID, MADE, RAW, WHY_SIZE, WORLD, abi, bound_text, exports, filled, in_terms, is_list, is_wide, is_written, largest, length_name
+from tables import length_text, own, world_lists
 
 POINTERS = {"&[u32]": ("*const u32", "as_ptr"), "&mut [u32]": ("*mut u32", "as_mut_ptr"), "&[i32]": ("*const i32", "as_ptr")}
 
@@ -25,10 +25,10 @@ def refusals(tables):
     ) % (cases, names, texts("condition"), texts("remedy"))
 
 
-def length(lent):
-    """The method that gives the length of a list."""
-    terms = in_terms(lent.length, "self.%s as usize", "self.cells_in_layer()").replace("*", " * ")
-    return "\n    /// %s\n    pub fn %s(self) -> usize {\n        %s\n    }\n" % (length_text(lent), length_name(lent), terms)
+def number(name, formula, text):
+    """The method that gives a number of the grid, such as the length of a list."""
+    terms = in_terms(formula, "self.%s as usize", "self.cells_in_layer()").replace("*", " * ")
+    return "\n    /// %s\n    pub fn %s(self) -> usize {\n        %s\n    }\n" % (text, name, terms)
 
 
 def extern(call):
@@ -105,7 +105,8 @@ def wrapper(tables):
         "ABI": abi(tables),
         "LIMITS": "".join("/// %s\npub const %s: u32 = %d;\n" % (l.what[0].upper() + l.what[1:], l.name, l.number) for l in tables.limits),
         "REFUSALS": refusals(tables),
-        "LENGTHS": "".join(map(length, tables.lists)),
+        "LENGTHS": "".join(number(length_name(l), l.length, length_text(l)) for l in tables.lists),
+        "BOUNDS": "".join(number(b.name, b.most, bound_text(b, tables)) for b in tables.bounds),
         "FIELDS": "".join("    %s: Vec<u32>,\n" % l.name for l in lists),
         "GIVEN": ", ".join("%s: impl Into<Vec<u32>>" % l.name for l in asked),
         "MADEOF": ", ".join(made),

@@ -1,4 +1,4 @@
-"""The tables of bindings/: calls, lists, limits, refusals, stacks, version. Each is read, and held to the crates that it speaks of."""
+"""The tables of bindings/: calls, lists, bounds, limits, refusals, stacks, version. Each is read, and held to the crates that it speaks of."""
 import re
 import sys
 import textwrap
@@ -9,9 +9,10 @@ Count = namedtuple("Count", "name type text")
 Export = namedtuple("Export", "name returns")
 Call = namedtuple("Call", "name parameters world refusals count does")
 Lent = namedtuple("Lent", "owner kind name shape length what")
+Bound = namedtuple("Bound", "name counted call most what")
 Refusal = namedtuple("Refusal", "number name condition cause remedy")
 Limit = namedtuple("Limit", "name number what")
-Tables = namedtuple("Tables", "calls lists limits refusals programs stack version")
+Tables = namedtuple("Tables", "calls lists bounds limits refusals programs stack version")
 
 GRID = ("w", "r", "k", "n")
 # The limit of bindings/limits.txt that is the largest of each of the grid's numbers.
@@ -142,6 +143,31 @@ def length_name(lent):
     return full_name(lent) + "_length"
 
 
+def proved_number(theorem):
+    """The number that a theorem of the model, named as FILE NAME, ends with."""
+    path, _, name = theorem.partition(" ")
+    text = open("crates/model/specs/%s.antt" % path, encoding="utf-8").read()
+    found = re.search(r"^pub %s : [^\n]* ≡ (\d+)$" % re.escape(name), text, re.MULTILINE)
+    return int(found.group(1)) if found else None
+
+
+def read_bounds(calls, lists, limits):
+    """The table of the bounds. Each must fit the 32-bit numbers of Fortran on every grid, and be the model's number on the largest."""
+    bounds, known = [], {call.name for call in calls}
+    taken = known | {length_name(lent) for lent in lists}
+    for call, counted, most, theorem, what in rows("bindings/bounds.txt", 5):
+        name = "most_%s_%s" % (call, counted)
+        if call not in known or not re.fullmatch("[a-z]+(_[a-z]+)*", counted) or name in taken:
+            sys.exit("bindings/bounds.txt: %s: no such call, or the name is no word, is taken, or stands twice" % name)
+        if not re.fullmatch(r"([wrknc]|[1-9]\d*)(\*([wrknc]|[1-9]\d*))*", most) or on_largest(most, limits) >= 2**31:
+            sys.exit("bindings/bounds.txt: %s: no product of w, r, k, n, c and numbers, or too large: %s" % (name, most))
+        if proved_number(theorem) != on_largest(most, limits):
+            sys.exit("bindings/bounds.txt: %s: %s is about another number" % (name, theorem))
+        taken.add(name)
+        bounds.append(Bound(name, counted, call, most, what))
+    return bounds
+
+
 def read_refusals():
     """The table of the refusals, those of the calls apart from those of the runner program."""
     found = [Refusal(int(number), *rest) for number, *rest in rows("bindings/refusals.txt", 5)]
@@ -204,7 +230,8 @@ def read_tables():
     check_refusals(calls, refusals)
     version = open("bindings/version.txt", encoding="utf-8").read().strip()
     limits = list(read_limits())
-    return Tables(calls, read_lists(calls, limits), limits, refusals, programs, read_stack(calls), version)
+    lists = read_lists(calls, limits)
+    return Tables(calls, lists, read_bounds(calls, lists, limits), limits, refusals, programs, read_stack(calls), version)
 
 
 # What the makers of the languages share.
@@ -233,17 +260,34 @@ def in_terms(length, letter, cells):
     return re.sub(r"\b[wrknc]\b", written, length)
 
 
+def largest_grid(limits):
+    """The grid's numbers on the largest grid."""
+    numbers = {limit.name: limit.number for limit in limits}
+    return {letter: numbers[MOST[letter]] for letter in GRID}
+
+
+def on_largest(formula, limits):
+    """A formula in the grid's letters, on the largest grid."""
+    most = largest_grid(limits)
+    return eval(formula, {}, dict(most, c=2 + most["r"] * most["w"]))
+
+
 def largest(lent, tables):
     """A list's length on the largest grid."""
-    numbers = {limit.name: limit.number for limit in tables.limits}
-    most = {letter: numbers[MOST[letter]] for letter in GRID}
-    return eval(lent.length, {}, dict(most, c=2 + most["r"] * most["w"]))
+    return on_largest(lent.length, tables.limits)
 
 
 def length_text(lent):
     """A list's length and what stands in it, in words."""
     whose = "" if lent.owner == "world" else " of a %s call" % lent.owner
     return "The length of %s%s: %s. In it: %s." % (lent.name, whose, lent.length.upper(), lent.what)
+
+
+def bound_text(bound, tables):
+    """A bound, on the largest grid too, and what is counted, in words."""
+    grid = " x ".join(map(str, largest_grid(tables.limits).values()))
+    most = bound.most.upper(), format(on_largest(bound.most, tables.limits), ",")
+    return "The most %s of a %s call: %s, which is %s on the largest grid, %s. %s" % (bound.counted, bound.call, *most, grid, bound.what)
 
 
 def wrapped(text, width, before):

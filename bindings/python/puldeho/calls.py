@@ -4,10 +4,10 @@ import enum
 
 __all__ = ["Refusal", "AIR_LIMIT", "TOTAL_LIMIT", "ZONAL_LIMIT", "MERIDIONAL_LIMIT", "MOST_SUBSTEPS", "TABLE_LIMIT", "TABLE_SCALE", "MOST_COLUMNS", "MOST_ROWS", "MOST_LAYERS", "MOST_TRACERS", "MOST_EMITTERS", "LEDGER_BLOCK"]
 
-VERSION = "0.3.0"
+VERSION = "0.4.0"
 # The shared library of this version. Another version's functions may take other arguments.
-SONAME = "libpuldeho.so.0.3"
-ABI = "puldeho_abi_0_3"
+SONAME = "libpuldeho.so.0.4"
+ABI = "puldeho_abi_0_4"
 
 # The most air of a cell; the least is 1
 AIR_LIMIT = 65535
@@ -138,7 +138,7 @@ SHAPES = {
 
 
 class Lengths:
-    """How long the lists are that go with a grid, and their shapes as arrays."""
+    """How long the lists are that go with a grid, their shapes as arrays, and bounds on what a call does."""
 
     __slots__ = ()
 
@@ -223,6 +223,15 @@ class Lengths:
         """The shape of such an array of numpy; one of one dimension serves too."""
         return (self.k + 1, 2,)
 
+    @property
+    def most_remap_steps(self):
+        """The most steps of a remap call: N*C*2*K, which is 1,623,040 on the largest grid, 72 x 44 x 32 x 8.
+        The remap goes down each column once for each tracer; a step passes one edge or one old layer and adds
+        at most one layer's amount or piece, and 2*K steps always reach the last edge. Proved for every
+        accepted remap, whatever table, air and amounts. Not counted is what is done beside these steps, such
+        as tests, edges, slopes and the count of pairs."""
+        return self.n * self.cells_in_layer * 2 * self.k
+
 
 class Calls:
     """The calls, each over the world's lists."""
@@ -263,8 +272,9 @@ class Calls:
         return self._make("meridional", layer, fluxes)
 
     def remap(self, table):
-        """Remaps all columns to the edges of a table of K + 1 pairs a, b, lent as 2*(K + 1) numbers. Returns
-        the pairs of an old and a new layer that share air, over all columns. Refusals, in order: 1 2 3 4 11
+        """Remaps all columns to the edges of a table of K + 1 pairs a, b, lent as 2*(K + 1) numbers. Makes at
+        most 2*K steps for each column and tracer, in all at most the grid's most_remap_steps. Returns the
+        pairs of an old and a new layer that share air, over all columns. Refusals, in order: 1 2 3 4 11
         12."""
         return self._make("remap", table)
 

@@ -38,14 +38,14 @@ extern "C" {
 /// Does nothing, and is linked with the library of this version only: another one's functions may take other arguments.
 pub(crate) fn same_version() {
     extern "C" {
-        fn puldeho_abi_0_3();
+        fn puldeho_abi_0_4();
     }
     // SAFETY: it takes nothing and does nothing.
-    unsafe { puldeho_abi_0_3() }
+    unsafe { puldeho_abi_0_4() }
 }
 
 /// The version of the library that this wrapper was made for.
-pub const VERSION: &str = "0.3.0";
+pub const VERSION: &str = "0.4.0";
 
 /// The most air of a cell; the least is 1
 pub const AIR_LIMIT: u32 = 65535;
@@ -178,7 +178,7 @@ impl Refusal {
     }
 }
 
-/// How long the lists are that go with a grid.
+/// How long the lists are that go with a grid, and bounds on what a call does.
 impl Grid {
     /// The length of air: K*C. In it: the air of every cell; layer k starts at k*C.
     pub fn air_length(self) -> usize {
@@ -213,6 +213,11 @@ impl Grid {
     /// The length of table of a remap call: (K + 1)*2. In it: pair j is a at 2*j and b at 2*j + 1; edge j = a + floor(b*P/65536), P the air of the column.
     pub fn remap_table_length(self) -> usize {
         (self.k as usize + 1) * 2
+    }
+
+    /// The most steps of a remap call: N*C*2*K, which is 1,623,040 on the largest grid, 72 x 44 x 32 x 8. The remap goes down each column once for each tracer; a step passes one edge or one old layer and adds at most one layer's amount or piece, and 2*K steps always reach the last edge. Proved for every accepted remap, whatever table, air and amounts. Not counted is what is done beside these steps, such as tests, edges, slopes and the count of pairs.
+    pub fn most_remap_steps(self) -> usize {
+        self.n as usize * self.cells_in_layer() * 2 * self.k as usize
     }
 }
 
@@ -318,7 +323,7 @@ impl World {
         raw::meridional(self.grid, &mut self.air, &mut self.tracers, &self.ledger, layer, fluxes)
     }
 
-    /// Remaps all columns to the edges of a table of K + 1 pairs a, b, lent as 2*(K + 1) numbers.
+    /// Remaps all columns to the edges of a table of K + 1 pairs a, b, lent as 2*(K + 1) numbers. Makes at most 2*K steps for each column and tracer, in all at most the grid's most_remap_steps.
     ///
     /// It gives the pairs of an old and a new layer that share air, over all columns.
     ///
@@ -730,7 +735,7 @@ pub mod raw {
         })
     }
 
-    /// Remaps all columns to the edges of a table of K + 1 pairs a, b, lent as 2*(K + 1) numbers.
+    /// Remaps all columns to the edges of a table of K + 1 pairs a, b, lent as 2*(K + 1) numbers. Makes at most 2*K steps for each column and tracer, in all at most the grid's most_remap_steps.
     ///
     /// Count: the pairs of an old and a new layer that share air, over all columns. Refusals, in order: 1 2 3 4 11 12.
     pub fn remap(

@@ -155,6 +155,18 @@ fn lengths_and_cell_numbers() {
 }
 
 #[test]
+fn the_most_steps_of_a_remap() {
+    let largest = Grid {
+        w: 72,
+        r: 44,
+        k: 32,
+        n: 8,
+    };
+    assert_eq!(largest.most_remap_steps(), 1_623_040);
+    assert_eq!(Grid { k: 3, ..GRID }.most_remap_steps(), 36);
+}
+
+#[test]
 fn m1() {
     let (mut air, mut tracers) = (AIR, TRACERS);
     let fluxes = [0, 50, 0, 0];
