@@ -485,23 +485,40 @@ static uint32_t pairs_of(const uint32_t *air, const uint32_t *table, size_t laye
     return count;
 }
 
-/* A tracer's column, remapped. */
-static void remap_gas(uint32_t *gas, const uint32_t *air, const int64_t *edge, int cap, size_t layer, size_t k)
+/* Where a new layer's lower edge lies: in an old layer, with so much of its air above the edge. */
+typedef struct {
+    size_t layer;
+    int64_t above;
+} place;
+
+/* The places of a column's lower edges, which all tracers share. */
+static void places_of(place *at, const uint32_t *air, const int64_t *edge, size_t k)
+{
+    int64_t upper = 0;
+    for (size_t i = 0, j = 0; j < k; j++) {
+        while (upper + air[i] < edge[j + 1])
+            upper += air[i++];
+        at[j] = (place){i, edge[j + 1] - upper};
+    }
+}
+
+/* A tracer's column, remapped. gcc vectorises the mismatches only where the loop does not test `cap`. */
+static void remap_gas(uint32_t *gas, const uint32_t *air, const place *at, int cap, size_t layer, size_t k)
 {
     uint32_t t[MOST_K];
-    int64_t q[MOST_K], d[MOST_K] = {0}, above = 0, whole = 0, last = 0;
-    for (size_t i = 0; i < k; i++)
+    int64_t q[MOST_K], d[MOST_K] = {0}, whole[MOST_K], total = 0, last = 0;
+    for (size_t i = 0; i < k; i++) {
         t[i] = gas[i * layer];
-    for (size_t i = 0; i < k; i++)
         q[i] = ratio(air[i], t[i]);
-    for (size_t i = 1; i + 1 < k && !cap; i++)
-        d[i] = mismatch(q[i - 1], q[i], q[i + 1]);
-    for (size_t i = 0, j = 0; j < k; j++) {
-        while (above + air[i] < edge[j + 1]) {
-            above += air[i];
-            whole += t[i++];
-        }
-        int64_t next = whole + low_piece(d[i], air[i], t[i], edge[j + 1] - above);
+        whole[i] = total;
+        total += t[i];
+    }
+    if (!cap)
+        for (size_t i = 1; i + 1 < k; i++)
+            d[i] = mismatch(q[i - 1], q[i], q[i + 1]);
+    for (size_t j = 0; j < k; j++) {
+        size_t i = at[j].layer;
+        int64_t next = whole[i] + low_piece(d[i], air[i], t[i], at[j].above);
         gas[j * layer] = (uint32_t)(next - last);
         last = next;
     }
@@ -511,12 +528,14 @@ static void remap_gas(uint32_t *gas, const uint32_t *air, const int64_t *edge, i
 static void remap_column(const world *g, uint32_t *air, uint32_t *tracers, const uint32_t *table, int cap)
 {
     int64_t edge[MOST_K + 1];
+    place at[MOST_K];
     uint32_t old[MOST_K];
     edges_of(edge, air, table, g->layer, g->k);
     for (size_t i = 0; i < g->k; i++)
         old[i] = air[i * g->layer];
+    places_of(at, old, edge, g->k);
     for (size_t t = 0; t < g->n; t++)
-        remap_gas(tracers + t * g->cells, old, edge, cap, g->layer, g->k);
+        remap_gas(tracers + t * g->cells, old, at, cap, g->layer, g->k);
     for (size_t j = 0; j < g->k; j++)
         air[j * g->layer] = (uint32_t)(edge[j + 1] - edge[j]);
 }

@@ -1,5 +1,5 @@
 //! The proved library beside plain C and plain Rust of the same calls, on the same inputs.
-//! benchmark [--quick] [--times]: tables on standard output, progress on standard error.
+//! benchmark [--quick] [--times] [--only CALL]: tables on standard output, progress on standard error.
 
 mod day;
 mod growth;
@@ -27,33 +27,35 @@ struct Amount {
     rounds: usize,
     days: usize,
     times: bool,
+    /// The one call that is timed, where it is named.
+    only: Option<&'static str>,
 }
 
 fn amount(arguments: &[String]) -> Amount {
-    let has = |name: &str| arguments.iter().any(|argument| argument == name);
-    let known = ["--quick", "--times"];
-    if let Some(other) = arguments
-        .iter()
-        .find(|argument| !known.contains(&argument.as_str()))
-    {
-        panic!("{other} is not one of {known:?}");
-    }
-    let times = has("--times");
-    if has("--quick") {
-        Amount {
-            lists: 200,
-            rounds: 16,
-            days: 4,
-            times,
-        }
-    } else {
-        Amount {
-            lists: 2_000,
-            rounds: 64,
-            days: 16,
-            times,
+    let (mut quick, mut times, mut only) = (false, false, None);
+    let mut rest = arguments.iter().map(String::as_str);
+    while let Some(argument) = rest.next() {
+        match argument {
+            "--quick" => quick = true,
+            "--times" => times = true,
+            "--only" => only = Some(call_named(rest.next())),
+            other => panic!("{other} is not one of --quick, --times, --only CALL"),
         }
     }
+    let (lists, rounds, days) = if quick { (200, 16, 4) } else { (2_000, 64, 16) };
+    Amount {
+        lists,
+        rounds,
+        days,
+        times,
+        only,
+    }
+}
+
+fn call_named(name: Option<&str>) -> &'static str {
+    let names = works::KINDS.map(|kind| kind.name);
+    let found = names.iter().find(|known| Some(**known) == name);
+    found.unwrap_or_else(|| panic!("--only takes one of {names:?}"))
 }
 
 /// Compares the versions on seeded lists of calls, limits and refusals among them.
@@ -121,7 +123,8 @@ fn ratios(name: &str, rounds: &Rounds, calls: usize, times: bool) {
 fn each_call(title: &str, grid: Grid, numbers: usize, amount: &Amount) {
     println!("\n## {title}\n\nThe library's time as a part of the other version's.\n");
     header("Call", amount.times);
-    for kind in &works::KINDS {
+    let asked = |kind: &&works::Kind| amount.only.is_none_or(|name| name == kind.name);
+    for kind in works::KINDS.iter().filter(asked) {
         eprintln!("{title}: {}", kind.name);
         let mut work = works::work(3, grid, kind.calls, numbers);
         inputs::let_stand(&mut work.start, kind.standing);
@@ -267,6 +270,9 @@ fn main() {
         5_000_000,
         &amount,
     );
+    if amount.only.is_some() {
+        return;
+    }
     a_day(&amount);
     long_beside_zonal(&amount);
     share_of_tests(&amount);

@@ -548,28 +548,46 @@ fn pairs_of(column: &Column, k: usize) -> Option<u64> {
     Some(count)
 }
 
-/// A tracer's column, remapped.
-fn remap_gas(gas: &mut [u32], column: &Column, cap: bool, c: usize, layer: usize, k: usize) {
-    let (air, edges) = (&column.air[..k], &column.edges[..=k]);
+/// Where a new layer's lower edge lies: in an old layer, with so much of its air above the edge.
+#[derive(Clone, Copy, Default)]
+struct Place {
+    layer: usize,
+    above: i64,
+}
+
+/// The places of a column's lower edges, which all tracers share.
+fn places_of(at: &mut [Place], column: &Column) {
+    let (mut layer, mut upper) = (0, 0);
+    for (at, &edge) in at.iter_mut().zip(&column.edges[1..]) {
+        while upper + i64::from(column.air[layer]) < edge {
+            upper += i64::from(column.air[layer]);
+            layer += 1;
+        }
+        let above = edge - upper;
+        *at = Place { layer, above };
+    }
+}
+
+/// A tracer's column, remapped: `gas` begins with its top cell.
+fn remap_gas(gas: &mut [u32], air: &[u32; MOST_K], at: &[Place], cap: bool, layer: usize) {
+    let k = at.len();
     let (mut t, mut q, mut d) = ([0; MOST_K], [0; MOST_K], [0; MOST_K]);
-    for (i, &m) in air.iter().enumerate() {
-        t[i] = gas[c + i * layer];
-        q[i] = ratio(m, t[i]);
+    let (mut whole, mut total, mut last) = ([0; MOST_K], 0, 0);
+    for i in 0..k {
+        t[i] = gas[i * layer];
+        q[i] = ratio(air[i], t[i]);
+        whole[i] = total;
+        total += i64::from(t[i]);
     }
     if !cap {
         for i in 1..k.max(2) - 1 {
             d[i] = mismatch(q[i - 1], q[i], q[i + 1]);
         }
     }
-    let (mut i, mut above, mut whole, mut last) = (0, 0, 0, 0);
-    for (j, &edge) in edges[1..].iter().enumerate() {
-        while above + i64::from(air[i]) < edge {
-            above += i64::from(air[i]);
-            whole += i64::from(t[i]);
-            i += 1;
-        }
-        let next = whole + low_piece(d[i], air[i], t[i], edge - above);
-        gas[c + j * layer] = (next - last) as u32;
+    for (j, at) in at.iter().enumerate() {
+        let i = at.layer;
+        let next = whole[i] + low_piece(d[i], air[i], t[i], at.above);
+        gas[j * layer] = (next - last) as u32;
         last = next;
     }
 }
@@ -590,11 +608,13 @@ pub fn remap(
     for c in 0..layer {
         count += pairs_of(&column_at(air, table, c, layer), k).ok_or(12u32)?;
     }
+    let mut at = [Place::default(); MOST_K];
     for c in 0..layer {
         let column = column_at(air, table, c, layer);
+        places_of(&mut at[..k], &column);
         let cap = c == 0 || c + 1 == layer;
         for gas in tracers.chunks_exact_mut(world.cells) {
-            remap_gas(gas, &column, cap, c, layer, k);
+            remap_gas(&mut gas[c..], &column.air, &at[..k], cap, layer);
         }
         for (j, pair) in column.edges[..=k].windows(2).enumerate() {
             air[c + j * layer] = (pair[1] - pair[0]) as u32;
