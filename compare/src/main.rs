@@ -15,6 +15,7 @@ mod ledgers;
 mod library;
 mod long;
 mod reached;
+mod readout;
 mod records;
 mod runner;
 mod worlds;
@@ -150,6 +151,7 @@ fn compare_calls(lists: u64) {
     let mut seen: BTreeMap<(&str, u32), u64> = BTreeMap::new();
     let mut long = long::Situations::default();
     let mut emitters = emitters::Situations::default();
+    let mut readout = readout::Situations::default();
     for list in 0..lists {
         let size = if list * 10 < lists * 6 {
             0
@@ -179,6 +181,7 @@ fn compare_calls(lists: u64) {
             }
             long.add(&world, &call, &after, want.number);
             emitters.add(&world, &call, &after, want);
+            readout.add(&world, &call, &after, want);
             world = after;
             *seen.entry((library::name(&call), want.number)).or_default() += 1;
         }
@@ -189,8 +192,10 @@ fn compare_calls(lists: u64) {
     }
     long.print();
     emitters.print();
+    readout.print();
     if lists >= FULL {
-        all_reached(&seen, long.missing().chain(emitters.missing()));
+        let unmet = long.missing().chain(emitters.missing());
+        all_reached(&seen, unmet.chain(readout.missing()));
     }
 }
 

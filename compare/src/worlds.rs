@@ -233,8 +233,29 @@ pub fn call(random: &mut Random, world: &World) -> Call {
     match random.below(10) {
         0 | 1 => long_call(random, world),
         2..=4 => ledgers::call(random, world),
+        5 if random.one_in(2) => remap_at_old_edges(random, world),
         _ => recorded_call(random, world),
     }
+}
+
+/// A remap to the edges of one column, often a cap's, each now and then one unit off.
+fn remap_at_old_edges(random: &mut Random, world: &World) -> Call {
+    let g = &world.grid;
+    let (places, layers) = (
+        2 + u64::from(g.r) * u64::from(g.w),
+        u64::from(g.k).clamp(1, 40),
+    );
+    let place = [0, places - 1, random.below(places)][random.below(3) as usize] as usize;
+    let mut edge = 0;
+    let mut table = vec![0, 0];
+    for layer in 1..layers as usize {
+        let cell = place + (layer - 1) * places as usize;
+        edge += u64::from(world.air.get(cell).copied().unwrap_or(1));
+        let off = if random.one_in(6) { random.below(3) } else { 1 };
+        table.extend([(edge + off).saturating_sub(1).min(2_097_120) as u32, 0]);
+    }
+    table.extend([0, 65_536]);
+    Call::Remap { table }
 }
 
 fn long_call(random: &mut Random, world: &World) -> Call {

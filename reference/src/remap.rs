@@ -1,6 +1,7 @@
 //! "Remap of all columns."
 
 use crate::grid::{amount_of, World, MOST_AIR};
+use crate::readout;
 use crate::refusal;
 use crate::scheme::{mismatch, piece_from_low_end, ratio};
 
@@ -65,21 +66,6 @@ fn places(air: &[i64], edges: &[i64]) -> Vec<Place> {
     edges.iter().map(place_of).collect()
 }
 
-/// The number of old layers that share a positive amount of air with the new layer between
-/// two edges.
-fn pieces_between(from: &Place, to: &Place) -> u64 {
-    (to.whole - from.whole) as u64 + u64::from(to.rest > 0)
-}
-
-/// "Its count is the number of pieces handled. It is free here, between K and 2K − 1 for each
-/// column, summed over columns." Here a piece is an old and a new layer that share air.
-fn pieces(places: &[Place]) -> u64 {
-    places
-        .windows(2)
-        .map(|pair| pieces_between(&pair[0], &pair[1]))
-        .sum()
-}
-
 /// Each layer's mismatch in a column. "High side is down." "Caps (in a remap too), and the top
 /// and bottom layers in a remap, have D = 0."
 pub(crate) fn mismatches(air: &[i64], tracer: &[i64], is_cap: bool) -> Vec<i64> {
@@ -142,7 +128,8 @@ fn write_differences(amounts: &mut [u32], cell: usize, layer_cells: usize, at_ed
     }
 }
 
-/// The remap, from the check of its table on.
+/// The remap, from the check of its table on. Its count is document 02's (readout.rs), "summed
+/// over columns".
 pub fn remap(world: &mut World, table: &[u32]) -> Result<u64, u32> {
     let grid = world.grid;
     let layer_cells = grid.layer_cells();
@@ -156,8 +143,8 @@ pub fn remap(world: &mut World, table: &[u32]) -> Result<u64, u32> {
     for cell in 0..layer_cells {
         let air = column(&world.air, cell, layer_cells);
         let edges = edges(table, air.iter().sum());
+        count += readout::count(&air, &edges);
         let places = places(&air, &edges);
-        count += pieces(&places);
         for t in 0..grid.n as usize {
             let tracer = column(world.tracer(t), cell, layer_cells);
             let at_edges = tracer_from_top(&air, &tracer, grid.is_cap(cell), &places);

@@ -1,8 +1,12 @@
 //! A text front end: lines that set a raw world, call and show.
 
+use crate::readout::{self, Pair};
 use crate::walk::{self, State};
 use crate::{call, Call, Grid, World};
 use std::str::FromStr;
+
+/// What is wrong with a line `walk` or `pairs` if no remap accepts such a column.
+const NO_COLUMN: &str = "no remap accepts this column";
 
 /// What `run` gives: the lines printed, and the error if a line is bad.
 pub struct Outcome {
@@ -64,6 +68,7 @@ fn run_line(world: &mut World, line: &str) -> Result<String, String> {
             return Ok(show_list("ledger", &world.ledger));
         }
         "walk" => return walk_lines(world, arguments),
+        "pairs" => return pair_lines(world, arguments),
         _ => {
             let answer = call(world, &read_call(name, arguments)?);
             return Ok(format!("{} {} {}\n", name, answer.number, answer.count));
@@ -82,7 +87,7 @@ fn walk_lines(world: &World, arguments: &[&str]) -> Result<String, String> {
         }
         _ => None,
     };
-    let states = states.ok_or("no column to walk down")?;
+    let states = states.ok_or(NO_COLUMN)?;
     let mut lines = format!("walk {}\n", walk::steps(&states));
     for State {
         layers,
@@ -93,6 +98,18 @@ fn walk_lines(world: &World, arguments: &[&str]) -> Result<String, String> {
     } in states
     {
         lines.push_str(&format!("{layers} {above} {amount} {edges} {mark}\n"));
+    }
+    Ok(lines)
+}
+
+/// The pairs of an old and a new layer of one column, whose air is the list of the line `air`:
+/// their number, then a line for each.
+fn pair_lines(world: &World, arguments: &[&str]) -> Result<String, String> {
+    let table: Vec<u32> = numbers(arguments)?;
+    let pairs = readout::pairs_by_table(&world.air, &table).ok_or(NO_COLUMN)?;
+    let mut lines = format!("pairs {}\n", pairs.len());
+    for Pair { old, new, from, to } in pairs {
+        lines.push_str(&format!("{old} {new} {from} {to}\n"));
     }
     Ok(lines)
 }

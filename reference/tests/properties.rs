@@ -131,6 +131,7 @@ fn expect_remap_range_and_count(before: &World, after: &World, count: u64) {
         }
     }
     assert_eq!(count, pairs);
+    // "The old bounds then follow from it."
     let (k, c) = (u64::from(grid.k), columns as u64);
     assert!(k * c <= count && count <= (2 * k - 1) * c);
 }

@@ -82,6 +82,41 @@ fn a_grid_line_gives_an_empty_ledger() {
 }
 
 #[test]
+fn pairs_of_a_column() {
+    let script = "air 100 100 100\n\
+                  pairs 0 0 150 0 200 0 0 65536\n\
+                  air 70\n\
+                  pairs 0 0 0 65536\n\
+                  show\n";
+    let outcome = run(script);
+    assert_eq!(outcome.error, None);
+    assert_eq!(
+        outcome.lines,
+        "pairs 4\n0 0 0 100\n1 0 100 150\n1 1 150 200\n2 2 200 300\n\
+         pairs 1\n0 0 0 70\nair 70\ntracers\n"
+    );
+}
+
+/// Lengths that don't fit, refusal 11, refusal 12.
+#[test]
+fn pairs_of_no_column_print_what_walk_prints() {
+    let error = Some("line 4: no remap accepts this column".to_string());
+    for table in [
+        "",
+        "0 0 0 65536",
+        "0 0 150 0 200 0 0 65535",
+        "0 0 200 0 200 0 0 65536",
+    ] {
+        for line in ["walk 0", "pairs"] {
+            let lists = "load\nair 100 100 100\ntracers 0 100 200";
+            let outcome = run(&format!("{lists}\n{line} {table}\nload\n"));
+            assert_eq!(outcome.lines, "load 1 0\n");
+            assert_eq!(outcome.error, error, "{line} {table}");
+        }
+    }
+}
+
+#[test]
 fn a_bad_line_is_named() {
     for bad in [
         "lode",
@@ -102,6 +137,8 @@ fn a_bad_line_is_named() {
         "remove_emitter 0 0 0",
         "tick",
         "units_a_tick 0 0",
+        "pairs",
+        "pairs x",
     ] {
         let outcome = run(&format!("load\n# fine\n{bad}\nload\n"));
         assert_eq!(outcome.lines, "load 1 0\n");

@@ -6,30 +6,7 @@ use common::*;
 use reference::walk::{states, states_by_table, steps, Column, State};
 use reference::{script, tracer_above_edges};
 
-/// One tracer of a column, with its new edges.
-struct Case {
-    air: Vec<u32>,
-    tracer: Vec<u32>,
-    edges: Vec<i64>,
-}
-
-fn signed(amounts: &[u32]) -> Vec<i64> {
-    amounts.iter().map(|&amount| i64::from(amount)).collect()
-}
-
-impl Case {
-    /// K.
-    fn layers(&self) -> usize {
-        self.air.len()
-    }
-
-    /// Every edge as an a; the last pair is (0, 65,536).
-    fn table(&self) -> Vec<u32> {
-        let inner = &self.edges[..self.layers()];
-        let pairs = inner.iter().flat_map(|&edge| [edge as u32, 0]);
-        pairs.chain([0, 65_536]).collect()
-    }
-
+impl ColumnCase {
     fn states(&self, is_cap: bool) -> Vec<State> {
         let column = Column::new(&signed(&self.air), &signed(&self.tracer), is_cap);
         states(&column, &self.edges)
@@ -40,64 +17,11 @@ impl Case {
         let (air, tracer) = (signed(&self.air), signed(&self.tracer));
         tracer_above_edges(&air, &tracer, is_cap, &self.edges)
     }
-
-    /// The air above each old layer, and at last that of the whole column.
-    fn ends(&self) -> Vec<i64> {
-        let mut ends = vec![0];
-        for (k, &air) in self.air.iter().enumerate() {
-            ends.push(ends[k] + i64::from(air));
-        }
-        ends
-    }
-}
-
-/// K + 1 edges from 0 to the column's air, each 1 to 65,535 above the one before it.
-fn random_edges(random: &mut Random, ends: &[i64]) -> Vec<i64> {
-    let layers = ends.len() as i64 - 1;
-    let total = ends[ends.len() - 1];
-    let kind = random.next() % 8;
-    let mut edges = vec![0];
-    for j in 1..=layers {
-        let (before, left) = (edges[edges.len() - 1], layers - j);
-        let least = (before + 1).max(total - 65_535 * left);
-        let most = (before + 65_535).min(total - left);
-        let fitting: Vec<i64> = (ends.iter().copied())
-            .filter(|end| (least..=most).contains(end))
-            .collect();
-        let choice = if kind < 6 { kind } else { random.next() % 6 };
-        let edge = match (choice, fitting.len()) {
-            (0 | 1, 1..) => fitting[0],
-            (2, 1..) => fitting[random.next() as usize % fitting.len()],
-            (3, _) => least,
-            (4, _) => (least + random.between(0, 3)).min(most),
-            _ => random.between(least, most),
-        };
-        edges.push(edge);
-    }
-    edges
-}
-
-fn random_case(random: &mut Random, layers: usize) -> Case {
-    let air = random_air(random, layers);
-    let tracer = random_tracer(random, &air);
-    let mut case = Case {
-        air,
-        tracer,
-        edges: Vec::new(),
-    };
-    case.edges = random_edges(random, &case.ends());
-    case
-}
-
-/// The random columns of K layers, the same in every test.
-fn random_cases(layers: usize) -> Vec<Case> {
-    let mut random = Random::new(30 + layers as u64);
-    (0..400).map(|_| random_case(&mut random, layers)).collect()
 }
 
 /// The test on the random columns of every K from 1 to 32, each as a row's and as a cap's.
-fn for_random_cases(test: impl Fn(&Case, bool)) {
-    for case in (1..=32).flat_map(random_cases) {
+fn for_random_cases(test: impl Fn(&ColumnCase, bool)) {
+    for case in (1..=32).flat_map(random_columns) {
         test(&case, false);
         test(&case, true);
     }
@@ -115,7 +39,7 @@ fn state(layers: usize, above: i64, amount: i64, edges: usize, mark: i64) -> Sta
 
 #[test]
 fn m9_by_hand() {
-    let m9 = Case {
+    let m9 = ColumnCase {
         air: vec![100, 100, 100],
         tracer: vec![0, 100, 200],
         edges: vec![0, 150, 200, 300],
@@ -236,7 +160,7 @@ fn random_columns_have_all_places_of_edges() {
     for layers in 1..=32 {
         let (mut at_an_end, mut inside, mut together, mut far_apart) = (0, 0, 0, 0);
         let (mut all_at_ends, mut at_the_limits) = (0, 0);
-        for case in random_cases(layers) {
+        for case in random_columns(layers) {
             let ends = case.ends();
             let inner = &case.edges[1..layers];
             at_an_end += inner.iter().filter(|edge| ends.contains(edge)).count();
@@ -262,7 +186,7 @@ fn random_columns_have_all_places_of_edges() {
 
 /// The steps of a walk with the other rule, an edge after the layer that ends at it: the last
 /// layer is passed too.
-fn steps_by_the_other_rule(case: &Case) -> usize {
+fn steps_by_the_other_rule(case: &ColumnCase) -> usize {
     let ends = case.ends();
     let (mut layers, mut edges, mut steps) = (0, 0, 0);
     while edges < case.layers() {
@@ -303,7 +227,7 @@ fn no_walk_where_no_remap_is_accepted() {
     assert_eq!(walk(&[], &[], &[0, 65_536]), None);
     for line in ["walk", "walk 2 0 0 0 65536", "walk 0 0 0 0 65535"] {
         let script = format!("air 9\ntracers 1\n{line}\n");
-        let error = Some("line 3: no column to walk down".to_string());
+        let error = Some("line 3: no remap accepts this column".to_string());
         assert_eq!(script::run(&script).error, error);
     }
 }

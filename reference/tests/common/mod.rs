@@ -1,4 +1,4 @@
-//! Helpers of the tests: a generator of numbers, worlds, calls and table rows.
+//! Helpers of the tests: a generator of numbers, worlds, calls, table rows and columns.
 #![allow(dead_code)]
 
 use reference::{call, Answer, Call, Grid, World};
@@ -445,4 +445,85 @@ pub fn random_call(random: &mut Random, world: &World) -> Call {
             cell: random_index(random, cells),
         },
     }
+}
+
+/// One tracer of a column, with its new edges.
+#[derive(Debug)]
+pub struct ColumnCase {
+    pub air: Vec<u32>,
+    pub tracer: Vec<u32>,
+    pub edges: Vec<i64>,
+}
+
+pub fn signed(amounts: &[u32]) -> Vec<i64> {
+    amounts.iter().map(|&amount| i64::from(amount)).collect()
+}
+
+impl ColumnCase {
+    /// K.
+    pub fn layers(&self) -> usize {
+        self.air.len()
+    }
+
+    /// Every edge as an a; the last pair is (0, 65,536).
+    pub fn table(&self) -> Vec<u32> {
+        let inner = &self.edges[..self.layers()];
+        let pairs = inner.iter().flat_map(|&edge| [edge as u32, 0]);
+        pairs.chain([0, 65_536]).collect()
+    }
+
+    /// The air above each old layer, and at last that of the whole column.
+    pub fn ends(&self) -> Vec<i64> {
+        let mut ends = vec![0];
+        for (k, &air) in self.air.iter().enumerate() {
+            ends.push(ends[k] + i64::from(air));
+        }
+        ends
+    }
+}
+
+/// K + 1 edges from 0 to the column's air, each 1 to 65,535 above the one before it.
+fn random_edges(random: &mut Random, ends: &[i64]) -> Vec<i64> {
+    let layers = ends.len() as i64 - 1;
+    let total = ends[ends.len() - 1];
+    let kind = random.next() % 8;
+    let mut edges = vec![0];
+    for j in 1..=layers {
+        let (before, left) = (edges[edges.len() - 1], layers - j);
+        let least = (before + 1).max(total - 65_535 * left);
+        let most = (before + 65_535).min(total - left);
+        let fitting: Vec<i64> = (ends.iter().copied())
+            .filter(|end| (least..=most).contains(end))
+            .collect();
+        let choice = if kind < 6 { kind } else { random.next() % 6 };
+        let edge = match (choice, fitting.len()) {
+            (0 | 1, 1..) => fitting[0],
+            (2, 1..) => fitting[random.next() as usize % fitting.len()],
+            (3, _) => least,
+            (4, _) => (least + random.between(0, 3)).min(most),
+            _ => random.between(least, most),
+        };
+        edges.push(edge);
+    }
+    edges
+}
+
+fn random_column(random: &mut Random, layers: usize) -> ColumnCase {
+    let air = random_air(random, layers);
+    let tracer = random_tracer(random, &air);
+    let mut case = ColumnCase {
+        air,
+        tracer,
+        edges: Vec::new(),
+    };
+    case.edges = random_edges(random, &case.ends());
+    case
+}
+
+/// The random columns of K layers, the same in every test.
+pub fn random_columns(layers: usize) -> Vec<ColumnCase> {
+    let mut random = Random::new(30 + layers as u64);
+    (0..400)
+        .map(|_| random_column(&mut random, layers))
+        .collect()
 }
