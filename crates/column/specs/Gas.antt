@@ -76,7 +76,24 @@ pub record IsRemapped (cap : Bool) (k : ℕ) (air gas e r : List ℕ) (steps : �
       at r j ≡ newTracer table (airAbove (firsts k air) k) (layers mismatch cap k (firsts k air) (firsts k gas)) j
 
 -- ---- pairs
--- r counts the pairs of an old and a new layer that share air, whatever table the edges are of
+-- old layer i ends at `lower`, and those above it before the edge, which lies in the column
+pub record EndNeed (air : List ℕ) (i lower edge : ℕ) : Type 0 where
+  pub layers : ℕ
+  pub fit : layers ≤ 32
+  pub room : layers ≤ length air
+  pub most : (t : ℕ) → t < layers → at air t ≤ airLimit
+  pub inside : i < layers
+  pub is : lower ≡ sum (i + 1) (at air)
+  pub above : sum i (at air) < edge
+  pub within : edge ≤ sum layers (at air)
+
+-- old layer i, which ends at `lower`, is the first that ends at the edge or past it
+pub record IsEnd (air : List ℕ) (edge i lower : ℕ) : Type 0 where
+  pub is : lower ≡ sum (i + 1) (at air)
+  pub above : sum i (at air) < edge
+  pub reached : edge ≤ lower
+
+-- r is exactly the number of pairs of an old and a new layer that share air, whatever table the edges are of
 pub record IsPairs (k : ℕ) (air e : List ℕ) (r : ℕ) : Type 0 where
   pub is : (table : List ℕ) → AreEdges table (airAbove (firsts k air) k) k e → r ≡ columnCount k table (firsts k air)
   pub most : r ≤ 2 * k

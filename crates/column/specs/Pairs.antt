@@ -1,163 +1,162 @@
--- The pairs of an old and a new layer that share air, as the walk counts them:
--- those of the new layers passed, and of this one with the old layers passed.
-use Prim.Native.Nat.{ℕ, zero, suc, _+_, _-_, _≤_, _<_, min, max}
+-- The inner edges that a column's old and new layers have in common, as `pairs` finds them, and by them the pairs that share air.
+-- Assumes what `Spans` says of the lists.
+use Prim.Native.Nat.{ℕ, suc, _+_, _*_, _-_, _≤_, _<_}
 use mathlib.Core.List.{List}
-use mathlib.Core.Bool.{Bool, true, false}
+use mathlib.Core.Bool.{Bool, true, false, false≢true}
 use mathlib.Core.Logic.{⊎-elim}
 use mathlib.Core.Path.{_≡_, refl, sym, ap, ap₂, _∙_}
-use native.Mathlib.Nat.{eq-or-lt-of-le}
 use native.Mathlib.Numerals.{add-one}
 use native.Mathlib.Omega.{arith}
-use borrow.Author.Tests.{lt-ltb, le-ltb, ltb-true, ltb-false}
-use lib.Dec.{ltb}
-use Rattle.model.specs.Basic.{at, sum, howMany}
-use Rattle.model.specs.Remap.{airAbove, shareAir, columnCount}
-use Rattle.model.specs.Laws.Basic.{sum-none, sum-more, sum-ext, sum-fewer, at-tab}
+use borrow.Author.Tests.{eqb-true, eq-eqb}
+use lib.Dec.{eqb}
+use Rattle.model.specs.Limits.{airLimit}
+use Rattle.model.specs.Basic.{at, sum, some, distance}
+use Rattle.model.specs.Remap.{airAbove, edge, columnCount, commonEdges}
+use Rattle.model.specs.Laws.Basic.{le-or-lt, some-true, some-at, some-ext, sum-none, sum-more, sum-ext, sum-le, sum-same, sum-fewer, steps-rise, at-tab}
+use Rattle.model.specs.Laws.Count.{bit, how-many-bits, column-count-is}
 use Rattle.column.specs.Column.{firsts, AreEdges}
-use Rattle.column.specs.Gas.{Spans, IsPairs}
-use Rattle.column.specs.Walk.{last-is, AirPlace, above-is}
+use Rattle.column.specs.Gas.{Spans, EndNeed, IsEnd, IsPairs}
+use Rattle.column.specs.Walk.{last-is}
 
--- ---- how many
-how-many-ext : (n : ℕ) (p q : ℕ → Bool) → ((t : ℕ) → t < n → p t ≡ q t) → howMany n p ≡ howMany n q
-unfolding howMany
-how-many-ext zero p q same = refl
-how-many-ext (suc n) p q same =
-    ap₂ (λ (b : Bool) (m : ℕ). elim b [ true ↦ suc m | false ↦ m ]) (same n (omega arith)) (how-many-ext n p q (λ t h. same t (omega arith)))
+-- ---- the search for a layer's end
+module _ {air : List ℕ} {from start edge : ℕ} (need : EndNeed air from start edge) where
+  -- a layer that ends before the edge is not the last
+  pub not-last : (i : ℕ) {lower : ℕ} → lower ≡ sum (i + 1) (at air) → lower < edge → i + 1 < need .layers
+  not-last i is lt =
+      ⊎-elim
+      (λ (h : need .layers ≤ i + 1). absurd (omega (arith, is, lt, need .within, sum-fewer (at air) (need .layers) (i + 1) h)))
+      (λ (h : i + 1 < need .layers). h)
+      (le-or-lt (need .layers) (i + 1))
 
--- past m none
-how-many-past : (n m : ℕ) (p : ℕ → Bool) → m ≤ n → ((t : ℕ) → m ≤ t → t < n → p t ≡ false) → howMany n p ≡ howMany m p
-unfolding howMany
-how-many-past zero m p h none = let e : 0 ≡ m = omega arith in ap (λ (i : ℕ). howMany i p) e
-how-many-past (suc n) m p h none =
-    ⊎-elim
-    (λ (e : m ≡ suc n). ap (λ (i : ℕ). howMany i p) (sym e))
-    (λ (lt : m < suc n).
-    ap (λ (b : Bool). elim b [ true ↦ suc (howMany n p) | false ↦ howMany n p ]) (none n (omega arith) (omega arith)) ∙
-    how-many-past n m p (omega arith) (λ t a b. none t a (omega arith)))
-    (eq-or-lt-of-le h)
+  pub edge-fits : edge ≤ airLimit * 32
+  edge-fits =
+      let each = sum-le (need .layers) (at air) (λ t. airLimit) (need .most) in
+      omega (arith, each, sum-same (need .layers) airLimit, need .fit, need .within)
 
-how-many-zero : (p : ℕ → Bool) → howMany 0 p ≡ 0
-unfolding howMany
-how-many-zero p = refl
+-- ---- the inner edges in common
+-- 1 where new edge j + 1 lies where an old layer ends, else 0
+abbrev pub commonAt : ℕ → List ℕ → List ℕ → ℕ → ℕ
+commonAt k air e j = bit (some (k - 1) (λ i. eqb (sum (suc i) (at air)) (at e (suc j))))
 
-how-many-none : (n : ℕ) (p : ℕ → Bool) → ((t : ℕ) → t < n → p t ≡ false) → howMany n p ≡ 0
-how-many-none n p none = how-many-past n 0 p (omega arith) (λ t a b. none t b) ∙ how-many-zero p
+-- those of the first j inner edges are counted; layer i, which ends at `lower`, is to be looked at next
+pub record CommonUpto (k : ℕ) (air e : List ℕ) (common i lower j : ℕ) : Type 0 where
+  pub within : j < k
+  pub inside : i < k
+  pub is : lower ≡ sum (i + 1) (at air)
+  pub above : sum i (at air) < at e (j + 1)
+  pub counted : common ≡ sum j (commonAt k air e)
+  pub few : common ≤ j
 
--- one more, where the test is `x < y`
-how-many-more : (n x y : ℕ) (p : ℕ → Bool) → p n ≡ ltb x y → howMany (n + 1) p ≡ howMany n p + min 1 (y - x)
-unfolding howMany
-how-many-more n x y p is = ap (λ (i : ℕ). howMany i p) (add-one n) ∙ ap with-one is ∙ go (ltb x y) refl
-  where
-    with-one : Bool → ℕ
-    with-one b = elim b [ true ↦ suc (howMany n p) | false ↦ howMany n p ]
-
-    go : (b : Bool) → ltb x y ≡ b → with-one b ≡ howMany n p + min 1 (y - x)
-    go true e = omega (arith, ltb-true x y e)
-    go false e = omega (arith, ltb-false x y e)
-
--- ---- old layer i and new layer j share air
-abbrev top : List ℕ → List ℕ → ℕ → ℕ → ℕ
-top air e j i = max (sum i (at air)) (at e j)
-
-abbrev end : List ℕ → List ℕ → ℕ → ℕ → ℕ
-end air e j i = min (sum (i + 1) (at air)) (at e (j + 1))
-
-abbrev pub sharesAt : List ℕ → List ℕ → ℕ → ℕ → Bool
-sharesAt air e j i = ltb (top air e j i) (end air e j i)
-
--- the pairs of the first j new layers
-abbrev pub pairsTo : ℕ → List ℕ → List ℕ → ℕ → ℕ
-pairsTo k air e j = sum j (λ t. howMany k (sharesAt air e t))
-
--- what the walk has counted, with n old layers compared with new layer j
-abbrev pub countTo : ℕ → List ℕ → List ℕ → ℕ → ℕ → ℕ
-countTo k air e j n = pairsTo k air e j + howMany n (sharesAt air e j)
-
-pub pairs-start : (k : ℕ) (air e : List ℕ) → countTo k air e 0 0 ≡ 0
-pairs-start k air e = ap₂ _+_ (sum-none _) (how-many-zero _)
-
--- an old layer that ends at or before the upper edge, and one that starts at or past the lower
-module _ (air : List ℕ) (e : List ℕ) (j t : ℕ) where
-  ends-before : sum (t + 1) (at air) ≤ at e j → sharesAt air e j t ≡ false
-  ends-before h = le-ltb (top air e j t) (end air e j t) (omega arith)
-
-  starts-past : at e (j + 1) ≤ sum t (at air) → sharesAt air e j t ≡ false
-  starts-past h = le-ltb (top air e j t) (end air e j t) (omega arith)
-
--- the lower edge of new layer j lies past the air passed
-abbrev pub Ahead : ℕ → List ℕ → ℕ → ℕ → Type 0
-Ahead k e j passed = j < k → passed < at e (j + 1)
-
-module _ {k : ℕ} {air : List ℕ} {e : List ℕ} (spans : Spans k air e) where
+module _ {k : ℕ} {air e : List ℕ} (spans : Spans k air e) where
   rises-next : (j : ℕ) → j < k → at e j < at e (j + 1)
   rises-next j h = rw add-one (spans .rises j h)
 
-  pub ahead-start : Ahead k e 0 0
-  ahead-start h = omega (arith, rises-next 0 h, spans .first)
+  pub common-none : {lower : ℕ} → lower ≡ 0 + at air 0 → CommonUpto k air e 0 0 lower 0
+  common-none is =
+      record {
+        within = spans .some;
+        inside = spans .some;
+        is = omega (arith, is, sum-more 0 (at air), sum-none (at air));
+        above = omega (arith, sum-none (at air), rises-next 0 (spans .some), spans .first);
+        counted = sym (sum-none _);
+        few = omega arith;
+      }
 
-  pub ahead-edge : {j passed : ℕ} → j < k → Ahead k e j passed → Ahead k e (j + 1) passed
-  ahead-edge {j} h ahead q = omega (arith, ahead h, rises-next (j + 1) q)
+  module _ {common i lower j : ℕ} (upto : CommonUpto k air e common i lower j) (h : j + 1 < k) where
+    edge-inside : at e (j + 1) < sum k (at air)
+    edge-inside =
+        omega (arith, rises-next (j + 1) h, steps-rise k (at e) (λ j p. omega (arith, spans .rises j p)) (j + 1 + 1) (omega arith), last-is spans)
 
-module _ {k : ℕ} {air : List ℕ} {e : List ℕ} (spans : Spans k air e) {i j passed : ℕ} (p : AirPlace k air e i j passed) where
-  -- the old layers above end before here
-  none-above : (x : ℕ) → passed ≤ at e x → howMany i (sharesAt air e x) ≡ 0
-  none-above x h =
-      how-many-none i _ (λ t q. ends-before air e x t (omega (arith, sum-fewer (at air) (t + 1) i (omega arith), above-is spans p)))
+    pub end-need : EndNeed air i lower (at e (j + 1))
+    end-need =
+        record {
+          layers = k;
+          fit = spans .fit;
+          room = spans .roomAir;
+          most = spans .most;
+          inside = upto .inside;
+          is = upto .is;
+          above = upto .above;
+          within = omega (arith, edge-inside);
+        }
 
-  -- old layer i ends at `lower`
-  module _ {lower : ℕ} (ends : lower ≡ passed + at air i) (h : j < k) (ahead : Ahead k e j passed) where
-    lower-is : lower ≡ sum (i + 1) (at air)
-    lower-is = omega (arith, ends, above-is spans p, sum-more i (at air))
+    module _ {i' lower' : ℕ} (end : IsEnd air (at e (j + 1)) i' lower') where
+      end-inside : i' < k
+      end-inside =
+          ⊎-elim
+          (λ (p : k ≤ i'). absurd (omega (arith, end .above, edge-inside, sum-fewer (at air) k i' p)))
+          (λ (p : i' < k). p)
+          (le-or-lt k i')
 
-    -- the two layers at which the walk stands
-    here : sharesAt air e j i ≡ ltb (at e j) lower
-    here = go (ltb (at e j) lower) refl
-      where
-        go : (b : Bool) → ltb (at e j) lower ≡ b → sharesAt air e j i ≡ b
-        go true u =
-            let past : at e j < lower = ltb-true _ _ u in
-            let some = spans .least i (p .inside) in
-            lt-ltb (top air e j i) (end air e j i) (omega (arith, lower-is, above-is spans p, ahead h, rises-next spans j h))
-        go false u =
-            let before : lower ≤ at e j = ltb-false _ _ u in
-            le-ltb (top air e j i) (end air e j i) (omega (arith, lower-is))
+      -- an old layer ends at the edge if that one does
+      ends-there : (t : ℕ) → sum (suc t) (at air) ≡ at e (j + 1) → lower' ≡ at e (j + 1)
+      ends-there t is =
+          ⊎-elim
+          (λ (p : i' ≤ t). omega (arith, is, end .is, end .reached, sum-fewer (at air) (i' + 1) (suc t) (omega arith)))
+          (λ (p : t < i'). absurd (omega (arith, is, end .above, sum-fewer (at air) (suc t) i' p)))
+          (le-or-lt i' t)
 
-    pub pairs-more :
-        {count more : ℕ} → count ≡ countTo k air e j i → more ≡ min 1 (lower - at e j) →
-        count + more ≡ countTo k air e j (i + 1)
-    pairs-more is more = omega (arith, is, more, how-many-more i (at e j) lower (sharesAt air e j) here)
+      met : lower' ≤ at e (j + 1) → sum (suc i') (at air) ≡ at e (j + 1)
+      met p = ap (λ (n : ℕ). sum n (at air)) (sym (add-one i')) ∙ omega (arith, end .is, end .reached)
 
-    -- past the lower edge there is nothing left to count in new layer j, and nothing yet in the next
-    pub pairs-edge : {count : ℕ} → at e (j + 1) ≤ lower → count ≡ countTo k air e j (i + 1) → count ≡ countTo k air e (j + 1) i
-    pairs-edge le is =
-        let none : (t : ℕ) → i + 1 ≤ t → t < k → sharesAt air e j t ≡ false =
-        λ t a b. starts-past air e j t (omega (arith, sum-fewer (at air) (i + 1) t a, lower-is)) in
-        let rest = how-many-past k (i + 1) (sharesAt air e j) (omega (arith, p .inside)) none in
-        omega (arith, is, rest, sum-more j (λ t. howMany k (sharesAt air e t)), none-above (j + 1) (omega (arith, ahead h)))
+      not-bottom : lower' ≤ at e (j + 1) → i' < k - 1
+      not-bottom p =
+          ⊎-elim
+          (λ (q : k ≤ i' + 1). absurd (omega (arith, end .is, edge-inside, sum-fewer (at air) k (i' + 1) q)))
+          (λ (q : i' + 1 < k). omega arith)
+          (le-or-lt k (i' + 1))
 
-  -- the model's count
-  share-is :
-      (table : List ℕ) → AreEdges table (airAbove (firsts k air) k) k e → (x t : ℕ) → x < k → t < k →
-      sharesAt air e x t ≡ shareAir table (firsts k air) (airAbove (firsts k air) k) x t
-  unfolding shareAir
-  share-is table are x t hx ht =
-      λ n.
-      ltb (max (upto t (omega arith) n) (are .is x (omega arith) n))
-      (min ((ap (λ (i : ℕ). sum i (at air)) (add-one t) ∙ upto (suc t) ht) n) ((ap (at e) (add-one x) ∙ are .is (suc x) hx) n))
-    where
-      upto : (t : ℕ) → t ≤ k → sum t (at air) ≡ airAbove (firsts k air) t
-      upto t q = sum-ext t (at air) (at (firsts k air)) (λ u r. sym (at-tab k (at air) u (omega arith)))
+      here : commonAt k air e j ≡ 1 - distance lower' (at e (j + 1))
+      here = rw (← add-one j) (go (some (k - 1) (λ i. eqb (sum (suc i) (at air)) (at e (j + 1)))) refl)
+        where
+          go : (b : Bool) → some (k - 1) (λ i. eqb (sum (suc i) (at air)) (at e (j + 1))) ≡ b → bit b ≡ 1 - distance lower' (at e (j + 1))
+          go true found =
+              let t = some-at (k - 1) _ found in
+              omega (arith, ends-there (t .0) (eqb-true _ _ (t .2)))
+          go false none =
+              ⊎-elim
+              (λ (p : lower' ≤ at e (j + 1)). absurd (false≢true (sym none ∙ some-true (k - 1) _ i' (not-bottom p) (eq-eqb _ _ (met p)))))
+              (λ (p : at e (j + 1) < lower'). omega arith)
+              (le-or-lt lower' (at e (j + 1)))
 
-  pub pairs-all : {count : ℕ} → j ≡ k → count ≡ countTo k air e j i → count ≤ i + j → IsPairs k air e count
-  unfolding columnCount
-  pairs-all done is small =
-      let at-end = ap (at e) done ∙ last-is spans in
-      let none = none-above j (omega (arith, above-is spans p, at-end, sum-fewer (at air) i k (omega (arith, p .inside)))) in
+      pub common-more : {more : ℕ} → more ≡ 1 - distance lower' (at e (j + 1)) → CommonUpto k air e (common + more) i' lower' (j + 1)
+      common-more is =
+          record {
+            within = h;
+            inside = end-inside;
+            is = end .is;
+            above = omega (arith, end .above, rises-next (j + 1) h);
+            counted = omega (arith, is, here, upto .counted, sum-more j (commonAt k air e));
+            few = omega (arith, is, upto .few);
+          }
+
+  -- ---- the model's count
+  upto-is : (i : ℕ) → i ≤ k → sum i (at air) ≡ airAbove (firsts k air) i
+  upto-is i h = sum-ext i (at air) (at (firsts k air)) (λ t p. sym (at-tab k (at air) t (omega arith)))
+
+  module _ (table : List ℕ) (are : AreEdges table (airAbove (firsts k air) k) k e) where
+    common-edges : sum (k - 1) (commonAt k air e) ≡ commonEdges k table (firsts k air)
+    unfolding commonEdges
+    common-edges =
+        sum-ext (k - 1) _ _ (λ j h.
+        ap bit (some-ext (k - 1) _ _ (λ i p. ap₂ eqb (upto-is (suc i) (omega arith)) (are .is (suc j) (omega arith))))) ∙
+        sym (how-many-bits (k - 1) _)
+
+    pairs-and-common : columnCount k table (firsts k air) + commonEdges k table (firsts k air) ≡ 2 * k - 1
+    pairs-and-common =
+        column-count-is k table (firsts k air)
+        (λ i h. rw (at-tab k (at air) i h) (spans .least i h))
+        (sym (are .is 0 (omega arith)) ∙ spans .first)
+        (sym (are .is k (omega arith)) ∙ spans .last)
+        (λ j h. rw (← are .is j (omega arith), ← are .is (suc j) h) (spans .rises j h))
+        (spans .some)
+
+  pub pairs-all : {common i lower j r : ℕ} → k ≤ j + 1 → CommonUpto k air e common i lower j → r + common ≡ 2 * k - 1 → IsPairs k air e r
+  pairs-all {j = j} done upto rest =
+      let all : j ≡ k - 1 = omega (arith, upto .within) in
       record {
         is =
             λ table are.
-            is ∙ omega (arith, none) ∙
-            ap (pairsTo k air e) done ∙
-            sum-ext k _ _ (λ x hx. how-many-ext k _ _ (λ t ht. share-is table are x t hx ht));
-        most = omega (arith, p .inside);
+            omega (arith, rest, upto .counted, ap (λ (n : ℕ). sum n (commonAt k air e)) all, common-edges table are, pairs-and-common table are);
+        most = omega (arith, rest);
       }

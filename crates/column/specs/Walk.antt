@@ -1,21 +1,19 @@
--- A column as a line of cells, whose low end is the column's top: the walk through its air alone, in which pairs are counted; what a tracer's walk needs of it, and what it gives.
+-- A column as a line of cells, whose low end is the column's top: what a tracer's walk needs of it, and what it gives.
 -- Assumes what `Spans` and `ColumnGasNeed` say of the lists.
-use Prim.Native.Nat.{ℕ, suc, _+_, _*_, _-_, _≤_, _<_}
+use Prim.Native.Nat.{ℕ, suc, _+_, _-_, _≤_, _<_}
 use mathlib.Core.List.{List}
 use mathlib.Core.Bool.{Bool}
 use mathlib.Core.Logic.{⊎-elim}
-use mathlib.Core.Path.{_≡_, refl, sym, ap, ap₂, _∙_}
+use mathlib.Core.Path.{_≡_, sym, ap, ap₂, _∙_}
 use native.Mathlib.Nat.{mod-eq-of-lt}
-use native.Mathlib.Numerals.{add-one}
 use native.Mathlib.Omega.{arith}
-use Rattle.model.specs.Limits.{airLimit}
 use Rattle.model.specs.Basic.{at, sum}
-use Rattle.model.specs.Scheme.{mismatch, plain}
-use Rattle.model.specs.Remap.{ColumnLayer, airAbove, edge, amountAbove}
-use Rattle.model.specs.Walk.{Walk, walk, layerOf, columnWalk, budget}
-use Rattle.model.specs.Laws.Basic.{le-or-lt, sum-ext, sum-tab, sum-le, sum-same}
+use Rattle.model.specs.Scheme.{mismatch}
+use Rattle.model.specs.Remap.{airAbove, edge, amountAbove}
+use Rattle.model.specs.Walk.{layerOf, columnWalk, budget}
+use Rattle.model.specs.Laws.Basic.{le-or-lt, sum-ext, sum-tab}
 use Rattle.model.specs.Long.{lineAir}
-use Rattle.model.specs.Laws.Walk.{Stands, stands, walk-start, walk-more, step-edge, step-layer, walk-same, walk-not-before}
+use Rattle.model.specs.Laws.Walk.{walk-same, walk-not-before}
 use Rattle.line.specs.Line.{cellAt, LineNeed, lineWalk, IsWalk}
 use Rattle.line.specs.Tracer.{between-is}
 use Rattle.column.specs.Column.{firsts, AreEdges}
@@ -25,80 +23,6 @@ use Rattle.column.specs.Slopes.{layer-is, layers-are, slope-small}
 module _ {k : ℕ} {air e : List ℕ} (spans : Spans k air e) where
   pub last-is : at e k ≡ sum k (at air)
   last-is = spans .last ∙ sum-tab k (at air)
-
--- ---- the walk through the air alone, as the pairs are counted in it
-abbrev airLayer : List ℕ → ℕ → ColumnLayer
-airLayer air i = record { air = at air i; tracer = 0; slope = plain }
-
-abbrev airWalk : ℕ → List ℕ → List ℕ → ℕ → Walk
-airWalk k air e = walk (airLayer air) (at e) k
-
--- after i + j steps it stands in layer i, with the air of the layers above passed, past edge j
-pub record AirPlace (k : ℕ) (air e : List ℕ) (i j above : ℕ) : Type 0 where
-  pub inside : i < k
-  pub within : j ≤ k
-  pub layers : airWalk k air e (i + j) .layers ≡ i
-  pub passed : airWalk k air e (i + j) .above ≡ above
-  pub edges : airWalk k air e (i + j) .edges ≡ j
-
-module _ {k : ℕ} {air e : List ℕ} (spans : Spans k air e) where
-  stands-air : (s : ℕ) → Stands (airLayer air) k (at e) k s (airWalk k air e s)
-  stands-air =
-      stands (airLayer air) k (spans .some) (spans .least) (at e) k (spans .first) (λ j h. omega (arith, spans .rises j h))
-      (omega (arith, last-is spans))
-
-  -- the place after a step, from what the step gives
-  place-is :
-      {i j above : ℕ} {w : Walk} → airWalk k air e (i + j) ≡ w → w .layers ≡ i → w .above ≡ above → w .edges ≡ j →
-      AirPlace k air e i j above
-  place-is {i} {j} is isLayers isAbove isEdges =
-      let here = rw is at (stands-air (i + j)) in
-      record {
-        inside = omega (arith, here .layer, isLayers);
-        within = omega (arith, here .edge, isEdges);
-        layers = ap (λ (w : Walk). w .layers) is ∙ isLayers;
-        passed = ap (λ (w : Walk). w .above) is ∙ isAbove;
-        edges = ap (λ (w : Walk). w .edges) is ∙ isEdges;
-      }
-
-  pub place-start : AirPlace k air e 0 0 0
-  place-start = place-is (walk-start (airLayer air) (at e) k) refl refl refl
-
-  module _ {i j above : ℕ} (p : AirPlace k air e i j above) where
-    abbrev w : Walk
-    w = airWalk k air e (i + j)
-
-    pub above-is : above ≡ sum i (at air)
-    above-is = sym (p .passed) ∙ stands-air (i + j) .above ∙ ap (λ (n : ℕ). sum n (at air)) (p .layers)
-
-    pub above-fits : above ≤ airLimit * k
-    above-fits =
-        let each = sum-le i (at air) (λ t. airLimit) (λ t h. spans .most t (omega (arith, p .inside))) in
-        omega (arith, above-is, each, sum-same i airLimit, p .inside)
-
-    -- layer i ends at `lower`
-    module _ {lower : ℕ} (ends : lower ≡ above + at air i) (h : j < k) where
-      end : w .above + at air (w .layers) ≡ lower
-      end = ap₂ (λ (x y : ℕ). x + at air y) (p .passed) (p .layers) ∙ sym ends
-
-      due : at e (suc (w .edges)) ≡ at e (j + 1)
-      due = ap (λ (n : ℕ). at e (suc n)) (p .edges) ∙ ap (at e) (sym (add-one j))
-
-      pub pass-layer : lower < at e (j + 1) → AirPlace k air e (i + 1) j lower
-      pass-layer lt =
-          let next : i + 1 + j ≡ suc (i + j) = omega arith in
-          place-is
-          (ap (airWalk k air e) next ∙ walk-more (airLayer air) (at e) k (i + j) ∙
-          step-layer (airLayer air) (at e) k w (rw (p .edges) h) (omega (arith, end, due, lt)))
-          (ap suc (p .layers) ∙ sym (add-one i)) end (p .edges)
-
-      pub pass-edge : at e (j + 1) ≤ lower → AirPlace k air e i (j + 1) above
-      pass-edge le =
-          let next : i + (j + 1) ≡ suc (i + j) = omega arith in
-          place-is
-          (ap (airWalk k air e) next ∙ walk-more (airLayer air) (at e) k (i + j) ∙
-          step-edge (airLayer air) (at e) k w (rw (p .edges) h) (omega (arith, end, due, le)))
-          (p .layers) (p .passed) (ap suc (p .edges) ∙ sym (add-one j))
 
 -- ---- a tracer's walk
 module _

@@ -2,14 +2,15 @@
 // A list's first k entries count, of a list of edges the first k + 1. `air` holds air, `gas` and `newgas` a tracer, `size` and `rising` the layers' mismatches.
 ghost use mathlib.Core.Path.{_≡_};
 ghost use mathlib.Core.Bool.{_&&_};
-ghost use Prim.Native.Nat.{_+_, _-_, _*_, _/_, _≤_, _<_, min};
+ghost use Prim.Native.Nat.{_+_, _-_, _*_, _/_, _≤_, _<_};
 ghost use lib.ListN.{length};
 ghost use lib.Dec.{leb};
 ghost use Rattle.model.specs.Limits.{tableLimit, tableScale, mostLayers};
+ghost use Rattle.model.specs.Basic.{distance};
 ghost use Rattle.model.specs.Step.{tableFits};
 ghost use Rattle.scheme.specs.Leaves.{mismatchOf};
 ghost use Rattle.column.specs.Column.{EdgesNeed, AreEdges};
-ghost use Rattle.column.specs.Gas.{mismatchUnless, SlopesNeed, AreSlopes, Spans, IsPairs, ColumnGasNeed, IsRemapped};
+ghost use Rattle.column.specs.Gas.{mismatchUnless, SlopesNeed, AreSlopes, Spans, EndNeed, IsEnd, IsPairs, ColumnGasNeed, IsRemapped};
 use line::tracer_between;
 use scheme::mismatch;
 use units::Air;
@@ -117,31 +118,53 @@ pub fn remap_gas(
     tracer_between(air, gas, size, rising, k, e, k, newgas)
 }
 
-// 1 where old layer i ends past the upper edge of new layer j, so that they share air, else 0.
-fn shared(upper: u64, lower: AirSum) -> u32
-    ensures { λ r. ⌜ r ≡ min 1 (lower .0 - upper) ⌝ }
-{
-    if upper < lower.0 { 1 } else { 0 }
+// An old layer, and where it ends.
+struct LayerEnd {
+    layer: usize,
+    place: AirSum,
 }
 
-// How many pairs of an old and a new layer share air, counted in a walk through the air alone, by the same steps.
+// The first old layer that ends at an edge in the column or past it, looked for from layer `from` on, which ends at `start`.
+fn layer_end(air: &[u32], from: usize, start: AirSum, edge: u64) -> LayerEnd
+    requires { ⌜ EndNeed (now air) from (start .0) edge ⌝ }
+    ensures { λ r. ⌜ IsEnd (now (air .entry)) edge (r .layer) (r .place .0) ⌝ }
+{
+    let mut layer = from;
+    let mut place = start;
+    while place.0 < edge {
+        layer += 1;
+        let have = air[layer];
+        place = add_air(place, Air(have));
+    }
+    LayerEnd { layer, place }
+}
+
+// 1 where a layer ends at the edge, else 0.
+fn at_edge(edge: u64, place: AirSum) -> u32
+    ensures { λ r. ⌜ r ≡ 1 - distance (place .0) edge ⌝ }
+{
+    if place.0 == edge { 1 } else { 0 }
+}
+
+// How many pairs of an old and a new layer share air: exactly 2k - 1 less the inner edges that old and new layers have in common.
+// The inner edges are looked for from the top down, in one walk through the column's air.
 pub fn pairs(air: &[u32], e: &[u64], k: usize) -> u32
     requires { ⌜ Spans k (now air) (now e) ⌝ }
     ensures { λ r. ⌜ IsPairs k (now (air .entry)) (now (e .entry)) r ⌝ }
 {
-    let mut count: u32 = 0;
-    let mut i = 0;
+    let inner = k - 1;
+    let mut common: u32 = 0;
+    let mut layer = 0;
+    let top = air[0];
+    let mut place = add_air(AirSum(0), Air(top));
     let mut j = 0;
-    let mut above = AirSum(0);
-    while j < k {
-        let lower = add_air(above, Air(air[i]));
-        count += shared(e[j], lower);
-        if lower.0 < e[j + 1] {
-            above = lower;
-            i += 1;
-            continue;
-        }
+    while j < inner {
+        let edge = e[j + 1];
+        let end = layer_end(air, layer, place, edge);
+        layer = end.layer;
+        place = end.place;
+        common += at_edge(edge, place);
         j += 1;
     }
-    count
+    2 * (inner as u32) + 1 - common
 }

@@ -16,3 +16,4 @@ pub mod Demand3
 pub mod Corollaries
 pub mod Inventory
 pub mod Budget
+pub mod Readout

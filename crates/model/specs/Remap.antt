@@ -1,11 +1,11 @@
--- Document 01, "Remap of all columns". High side is down, so a layer's low end is its top.
+-- Document 01, "Remap of all columns", with its count by document 02, Slip 4. High side is down, so a layer's low end is its top.
 -- A column's old air and tracer amounts are lists of K numbers; a table is one flat list a, b, a, b, ..
 use Prim.Native.Nat.{ℕ, suc, _+_, _*_, _-_, _/_, _%_, min, max}
 use mathlib.Core.List.{List, [], _∷_}
 use mathlib.Core.Bool.{Bool, true, false, _&&_, _||_}
 use lib.Dec.{leb, ltb, eqb}
 use Rattle.model.specs.Limits.{airLimit, tableScale}
-use Rattle.model.specs.Basic.{at, sum, tab, every, howMany}
+use Rattle.model.specs.Basic.{at, sum, tab, every, some, howMany}
 use Rattle.model.specs.World.{Grid, World, layerCells, worldCells, layerStart, moved}
 use Rattle.model.specs.Scheme.{Mismatch, Rule, ruleOf, ratio, plain, lowPiece}
 
@@ -69,9 +69,14 @@ unfoldable pub shareAir : List ℕ → List ℕ → ℕ → ℕ → ℕ → Bool
 shareAir table air P j k =
     ltb (max (airAbove air k) (edge table P j)) (min (airAbove air (suc k)) (edge table P (suc j)))
 
--- "Its count is the number of pieces handled": here the pairs of an old and a new layer that share some air
+-- (02) "The count becomes exactly the number of pairs of an old and a new layer that share some air, summed over columns.": of one column
 unfoldable pub columnCount : ℕ → List ℕ → List ℕ → ℕ
 columnCount K table air = sum K (λ j. howMany K (shareAir table air (airAbove air K) j))
+
+-- The inner edges that a column's old and new layers have in common: of the new edges between the first and the last, how many lie where an old layer ends. No call uses it; the law of the count in closed form does
+unfoldable pub commonEdges : ℕ → List ℕ → List ℕ → ℕ
+commonEdges K table air =
+    howMany (K - 1) (λ j. some (K - 1) (λ k. eqb (airAbove air (suc k)) (edge table (airAbove air K) (suc j))))
 
 -- A list of one amount for each layer k and each cell place c
 abbrev pub overCells : Grid → (ℕ → ℕ → ℕ) → List ℕ
@@ -92,7 +97,7 @@ unfoldable pub remappedGas : Rule → Grid → List ℕ → List ℕ → List �
 remappedGas rule g table air gas =
     overCells g (λ k c. newTracer table (columnAir g air c) (layers rule (isCap g c) (g .K) (column g air c) (column g gas c)) k)
 
--- "in some column", "summed over columns": the world's remap, when it serves, and its count
+-- "in some column", (02) "summed over columns", the caps' two among them: the world's remap, when it serves, and its count
 unfoldable pub remapServes : World → List ℕ → Bool
 remapServes w table =
     every (layerCells (w .grid)) (λ c. edgesServe (w .grid .K) table (columnAir (w .grid) (w .air) c))

@@ -121,7 +121,7 @@ servesAt k cells table air c = edgesServe k table (columnSum k cells air c)
 abbrev pub countAt : ℕ → ℕ → List ℕ → List ℕ → ℕ → ℕ
 countAt k cells table air c = columnCount k table (columnOf k cells air c)
 
--- ok says whether every column's edges serve; then the count is the columns' counts added up
+-- ok says whether every column's edges serve; then the count is exactly the columns' counts added up
 pub record AreServed (air table : List ℕ) (cells k : ℕ) (ok : Bool) (count : ℕ) : Type 0 where
   pub is : ok ≡ every cells (servesAt k cells table air)
   pub counted : ok ≡ true → count ≡ sum cells (countAt k cells table air)

@@ -104,7 +104,7 @@ fn read_edges(
     fill_edges(table, p, k, e);
 }
 
-// Whether every column's edges serve; then the count of pairs in all columns.
+// Whether every column's edges serve; then the count: exactly the pairs of an old and a new layer that share air, in all columns, the caps' two included.
 struct Serving {
     ok: bool,
     count: u32,
@@ -258,7 +258,7 @@ fn remap_place(g: Grid, air: &[u32], tracers: &[u32], ledger: &[u32], table: &[u
     }
 }
 
-// Remaps all columns, in the air and in all tracers.
+// Remaps all columns, in the air and in all tracers. Its count is exactly the number of pairs of an old and a new layer that share some air, summed over columns.
 pub fn remap(g: Grid, air: &mut [u32], tracers: &mut [u32], ledger: &[u32], table: &[u32]) -> Answer
     ensures { λ x. ⌜ Agrees (worldOf g (now (air .entry)) (now (tracers .entry)) (now (ledger .entry))) (remap-call (now (table .entry))) x (worldOf g (now (air .exit)) (now (tracers .exit)) (now (ledger .entry))) ⌝ }
 {

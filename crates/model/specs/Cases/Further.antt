@@ -38,10 +38,10 @@ abbrev withTracer : ℕ → ℕ → World
 withTracer c amount = world least hundreds (set (replicate 6 0) c amount)
 
 -- grid 4, 1, 2, 1 with the same air in every cell, and a table of three pairs of which the second is (a, b)
-abbrev twoLayers : ℕ → World
+abbrev pub twoLayers : ℕ → World
 twoLayers air = world (grid 4 1 2 1) (replicate 12 air) (replicate 12 1)
 
-abbrev middle : ℕ → ℕ → Call
+abbrev pub middle : ℕ → ℕ → Call
 middle a b = remap (0 ∷ 0 ∷ a ∷ b ∷ 0 ∷ 65536 ∷ [])
 
 -- two rows, two layers and two tracers: a layer of ten amounts, south cap, row 0, row 1, north cap

@@ -197,6 +197,11 @@ unfolding every
 every-ext zero p q h = refl
 every-ext (suc n) p q h = ap₂ _&&_ (every-ext n p q (λ i r. h i (omega arith))) (h n (omega arith))
 
+pub some-ext : (n : ℕ) (p q : ℕ → Bool) → ((i : ℕ) → i < n → p i ≡ q i) → some n p ≡ some n q
+unfolding some
+some-ext zero p q h = refl
+some-ext (suc n) p q h = ap₂ _||_ (some-ext n p q (λ i r. h i (omega arith))) (h n (omega arith))
+
 pub some-true : (n : ℕ) (p : ℕ → Bool) (i : ℕ) → i < n → p i ≡ true → some n p ≡ true
 unfolding some
 some-true zero p i h e = absurd (omega arith)

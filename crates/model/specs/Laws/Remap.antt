@@ -1,6 +1,6 @@
 -- What an accepted remap keeps: the sums over all cells as sums over the columns, each column by the laws of Column.antt.
 -- Assumes a world that calls reach, and of the table what the places 11 and 12 test.
-use Prim.Native.Nat.{ℕ, _+_, _*_, _-_, _/_, _%_, _≤_, _<_}
+use Prim.Native.Nat.{ℕ, _+_, _*_, _/_, _%_, _≤_, _<_}
 use mathlib.Core.List.{List}
 use mathlib.Core.Bool.{Bool, true, _&&_, true≢false}
 use mathlib.Core.Path.{_≡_, sym, _∙_, ap, ap₂}
@@ -17,16 +17,14 @@ use Rattle.model.specs.Scheme.{Rule, ruleOf}
 use Rattle.model.specs.Range.{layerInRange}
 use Rattle.model.specs.Step.{remap, firstOf, meaning, ownPlaces, refusal}
 use Rattle.model.specs.Lists.{Alike}
-use Rattle.model.specs.Laws.Basic.{every-at, sum-ext, sum-le, sum-same, sum-columns, length-tab, at-tab}
+use Rattle.model.specs.Laws.Basic.{every-at, sum-ext, sum-columns, length-tab, at-tab}
 use Rattle.model.specs.Laws.Substep.{AirIn, air-bounds}
 use Rattle.model.specs.Laws.World.{gas-moved}
-use Rattle.model.specs.Laws.Step.{Fits, passed, accepted-passed}
-use Rattle.model.specs.Laws.Grid.{in-range}
+use Rattle.model.specs.Laws.Step.{passed, accepted-passed}
 use Rattle.model.specs.Laws.Scheme.{Limited, rule-limited}
 use Rattle.model.specs.Laws.Fractions.{Monotone, rule-monotone}
 use Rattle.model.specs.Laws.Keeps.{air-alike, MeaningKeeps}
 use Rattle.model.specs.Laws.Moved.{Even, KeepsAir, KeepsGas, moved-kept, moved-alike}
-use Rattle.model.specs.Laws.Count.{column-count}
 use Rattle.model.specs.Laws.Column.{Edges, edges-serve, new-air-least, new-air-sum, new-tracer-sum, new-tracer-even, new-layer-in-range}
 
 -- ---- cells by layer k and place c
@@ -203,17 +201,3 @@ remap-keeps table =
             apart = λ own other. absurd (true≢false other);
           };
     }
-
--- "between K and 2K − 1 for each column, summed over columns"
-pub remap-count :
-    (table : List ℕ) (w : World) → Fits w → refusal w (remap table) ≡ 0 →
-    (layerCells (w .grid) * w .grid .K ≤ remapCount w table) × (remapCount w table ≤ layerCells (w .grid) * (2 * w .grid .K - 1))
-unfolding remapCount
-remap-count table w fits e =
-    let places = layerCells (w .grid) in
-    let K = w .grid .K in
-    let each : (c : ℕ) → c < places → (K ≤ columnCount K table (column (w .grid) (w .air) c)) × (columnCount K table (column (w .grid) (w .air) c) ≤ 2 * K - 1) =
-    λ c h. column-count K table _ (column-has (w .grid) table (w .air) (fits .air) (remap-edges table w e) c h) (remap-edges table w e c h) (in-range (w .grid) (fits .grid) .lowK) in (
-      rw (sum-same places K) at (sum-le places (λ c. K) _ (λ c h. each c h .0)),
-      rw (sum-same places (2 * K - 1)) at (sum-le places _ (λ c. 2 * K - 1) (λ c h. each c h .1)),
-    )
