@@ -1,5 +1,5 @@
 /*
- * Puldeho, the transport core of the tracer console, for C (C99 or later) and C++: version 0.4.0.
+ * Puldeho, the transport core of the tracer console, for C (C99 or later) and C++: version 0.4.1.
  * Made by tools/bindings from the tables of bindings/: not to be edited.
  *
  * To compile and link, on x86-64 Linux: cc program.c $(pkg-config --cflags --libs puldeho)
@@ -59,10 +59,10 @@
 #include <stdint.h>
 #include <string.h>
 
-#define PULDEHO_VERSION "0.4.0"
+#define PULDEHO_VERSION "0.4.1"
 #define PULDEHO_VERSION_MAJOR 0
 #define PULDEHO_VERSION_MINOR 4
-#define PULDEHO_VERSION_PATCH 0
+#define PULDEHO_VERSION_PATCH 1
 #define PULDEHO_ABI puldeho_abi_0_4
 
 /* the most air of a cell; the least is 1 */
@@ -438,6 +438,18 @@ static inline enum puldeho_refusal puldeho_copy(struct puldeho_world *to, const 
     return PULDEHO_ACCEPTED;
 }
 
+/* The count of a remap, overlaps, so that two builds can be compared by hand. It is exactly the number of pairs of an old
+ * and a new layer that share some air, summed over columns: all C columns, the two of the caps included. Layers that only
+ * touch share no air, and the tracers, however many, have no part in it. A column of air 100, 100, 100 from the top down
+ * with the new edges 0, 150, 200, 300 has four pairs, layers counted from 0:
+ *   old 0 and new 0    the air from   0 to 100
+ *   old 1 and new 0    the air from 100 to 150
+ *   old 1 and new 1    the air from 150 to 200
+ *   old 2 and new 2    the air from 200 to 300
+ * That is 2*K - 1 = 5 less the one inner edge that old and new layers have in common, at 200. So it is in each column:
+ * 2*K - 1 less its common inner edges, K at least. In a world with W = 4, R = 1, K = 3 and air 100 in every cell, the
+ * table 0, 0, 150, 0, 200, 0, 0, 65536 has the count 6*4 = 24. */
+
 /* The calls. A refused one changes nothing; puldeho_why_NAME, below, says more about why. */
 
 /*
@@ -512,9 +524,9 @@ static inline enum puldeho_refusal puldeho_meridional(
 /*
  * Remaps all columns to the edges of a table of K + 1 pairs a, b, lent as 2*(K + 1) numbers.
  * Makes at most 2*K steps for each column and tracer, in all at most the grid's
- * most_remap_steps. Writes air and tracers. Refusals, in order: 1 2 3 4 11 12. overlaps: the
- * pairs of an old and a new layer that share air, over all columns. table has
- * puldeho_remap_table_length(grid) numbers.
+ * most_remap_steps. Writes air and tracers. Refusals, in order: 1 2 3 4 11 12. overlaps:
+ * exactly the number of pairs of an old and a new layer that share some air, summed over
+ * columns. table has puldeho_remap_table_length(grid) numbers.
  */
 PULDEHO_MUST_USE PULDEHO_NOT_NULL(1) PULDEHO_LIST(read_only, 2, 3)
 static inline enum puldeho_refusal puldeho_remap(

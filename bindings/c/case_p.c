@@ -195,6 +195,20 @@ static void refusals(void)
     expect_list("refusals, tracers after", tracers, first_tracers);
 }
 
+/* The remap's count: the column that the header writes out, six times. */
+static void readout(void)
+{
+    uint32_t air[18], tracers[18] = {0}, overlaps = 0;
+    const uint32_t table[8] = {0, 0, 150, 0, 200, 0, 0, 65536};
+    struct puldeho_grid grid = {.w = 4, .r = 1, .k = 3, .n = 1};
+    for (size_t i = 0; i < 18; i++)
+        air[i] = 100;
+    struct puldeho_world world = puldeho_world_over(grid, air, 18, tracers, 18);
+    expect("load of three layers", puldeho_load(&world), PULDEHO_ACCEPTED);
+    expect("remap", puldeho_remap(&world, table, 8, &overlaps), PULDEHO_ACCEPTED);
+    expect_number("its count", overlaps, 24);
+}
+
 /* Lengths and cell numbers of a larger grid, and places that it has not; the most steps of a remap on two others. */
 static void numbers(void)
 {
@@ -256,6 +270,7 @@ int main(void)
     added_again();
     own_ledger();
     lengths();
+    readout();
     refusals();
     return differences == 0 ? 0 : 1;
 }

@@ -1,4 +1,4 @@
-! Puldeho, the transport core of the tracer console, for Fortran 2003 and later: version 0.4.0.
+! Puldeho, the transport core of the tracer console, for Fortran 2003 and later: version 0.4.1.
 ! Made by tools/bindings from the tables of bindings/: not to be edited.
 !
 ! To compile and link: gfortran $(pkg-config --variable=fortran puldeho) program.f90 $(pkg-config --libs puldeho)
@@ -22,7 +22,7 @@ module puldeho
   implicit none
   private
 
-  character(len=*), parameter, public :: puldeho_version = "0.4.0"
+  character(len=*), parameter, public :: puldeho_version = "0.4.1"
 
   ! the most air of a cell; the least is 1
   integer(c_int32_t), parameter, public :: puldeho_air_limit = 65535
@@ -709,7 +709,7 @@ contains
   ! Remaps all columns to the edges of a table of K + 1 pairs a, b, lent as 2*(K + 1) numbers. Makes at most
   ! 2*K steps for each column and tracer, in all at most the grid's most_remap_steps. Refusals, in order: 1 2
   ! 3 4 11 12.
-  ! overlaps: the pairs of an old and a new layer that share air, over all columns.
+  ! overlaps: exactly the number of pairs of an old and a new layer that share some air, summed over columns.
   subroutine world_remap(world, table, refusal, overlaps)
     class(puldeho_world), intent(inout) :: world
     integer(c_int32_t), intent(out) :: refusal

@@ -1,5 +1,5 @@
 ! The Fortran module: words that say why a call is refused, a world that is kept and brought back, a load that is refused,
-! long sweeps, emitters, readings of a world that is only read, lengths, cell numbers and the most steps of a remap.
+! long sweeps, emitters, readings of a world that is only read, lengths, cell numbers, the count and the most steps of a remap.
 ! The exit status is not 0 if anything differs.
 program test
   use, intrinsic :: iso_fortran_env, only: int64
@@ -57,6 +57,7 @@ program test
   call world%emission(0, 0, 1000000, refusal)
   call gives(puldeho_accepted)
   call read_only(world)
+  call readout()
   call numbers(puldeho_grid(6, 3, 2, 5))
   print "(a)", "the Fortran module: as it should be"
 
@@ -139,6 +140,17 @@ contains
     call one%why_zonal(0, 0, [0, 100, 0, 0], text)
     if (index(text, "the fluxes themselves must diverge less at this cell") /= len(text) - 51) error stop "the words are cut"
   end subroutine read_only
+
+  ! The remap's count: the column that the C header writes out, six times.
+  subroutine readout()
+    type(puldeho_world) :: three
+    integer :: overlaps, i
+
+    call three%load(puldeho_grid(4, 1, 3, 1), [(100, i = 1, 18)], [(0, i = 1, 18)], refusal)
+    if (refusal /= puldeho_accepted) error stop "three layers are refused"
+    call three%remap([0, 0, 150, 0, 200, 0, 0, 65536], refusal, overlaps)
+    if (refusal /= puldeho_accepted .or. overlaps /= 24) error stop "the count of a remap differs"
+  end subroutine readout
 
   subroutine numbers(other)
     type(puldeho_grid), intent(in) :: other

@@ -4,7 +4,7 @@ import enum
 
 __all__ = ["Refusal", "AIR_LIMIT", "TOTAL_LIMIT", "ZONAL_LIMIT", "MERIDIONAL_LIMIT", "MOST_SUBSTEPS", "TABLE_LIMIT", "TABLE_SCALE", "MOST_COLUMNS", "MOST_ROWS", "MOST_LAYERS", "MOST_TRACERS", "MOST_EMITTERS", "LEDGER_BLOCK"]
 
-VERSION = "0.4.0"
+VERSION = "0.4.1"
 # The shared library of this version. Another version's functions may take other arguments.
 SONAME = "libpuldeho.so.0.4"
 ABI = "puldeho_abi_0_4"
@@ -273,9 +273,9 @@ class Calls:
 
     def remap(self, table):
         """Remaps all columns to the edges of a table of K + 1 pairs a, b, lent as 2*(K + 1) numbers. Makes at
-        most 2*K steps for each column and tracer, in all at most the grid's most_remap_steps. Returns the
-        pairs of an old and a new layer that share air, over all columns. Refusals, in order: 1 2 3 4 11
-        12."""
+        most 2*K steps for each column and tracer, in all at most the grid's most_remap_steps. Returns exactly
+        the number of pairs of an old and a new layer that share some air, summed over columns. Refusals, in
+        order: 1 2 3 4 11 12."""
         return self._make("remap", table)
 
     def total(self, tracer):

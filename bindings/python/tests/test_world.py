@@ -293,6 +293,12 @@ class Grids(unittest.TestCase):
         self.assertEqual((grid.air_shape, grid.tracers_shape), ((2, 20), (5, 2, 20)))
         self.assertEqual((grid.cell_number(1, 2, 5), grid.south_cap(1), grid.north_cap(1)), (38, 20, 39))
 
+    def test_count_of_a_remap(self):
+        grid = puldeho.Grid(w=4, r=1, k=3, n=1)
+        three = puldeho.World(grid, [100] * 18, [0] * 18)
+        three.load()
+        self.assertEqual(three.remap([0, 0, 150, 0, 200, 0, 0, 65536]), 24)
+
     def test_most_steps_of_a_remap(self):
         self.assertEqual(puldeho.Grid(w=72, r=44, k=32, n=8).most_remap_steps, 1623040)
         self.assertEqual(puldeho.Grid(w=4, r=1, k=3, n=1).most_remap_steps, 36)

@@ -45,7 +45,7 @@ pub(crate) fn same_version() {
 }
 
 /// The version of the library that this wrapper was made for.
-pub const VERSION: &str = "0.4.0";
+pub const VERSION: &str = "0.4.1";
 
 /// The most air of a cell; the least is 1
 pub const AIR_LIMIT: u32 = 65535;
@@ -325,7 +325,7 @@ impl World {
 
     /// Remaps all columns to the edges of a table of K + 1 pairs a, b, lent as 2*(K + 1) numbers. Makes at most 2*K steps for each column and tracer, in all at most the grid's most_remap_steps.
     ///
-    /// It gives the pairs of an old and a new layer that share air, over all columns.
+    /// It gives exactly the number of pairs of an old and a new layer that share some air, summed over columns.
     ///
     /// Refusals, in order: 1 2 3 4 11 12.
     pub fn remap(&mut self, table: &[u32]) -> Result<u32, Refusal> {
@@ -737,7 +737,7 @@ pub mod raw {
 
     /// Remaps all columns to the edges of a table of K + 1 pairs a, b, lent as 2*(K + 1) numbers. Makes at most 2*K steps for each column and tracer, in all at most the grid's most_remap_steps.
     ///
-    /// Count: the pairs of an old and a new layer that share air, over all columns. Refusals, in order: 1 2 3 4 11 12.
+    /// Count: exactly the number of pairs of an old and a new layer that share some air, summed over columns. Refusals, in order: 1 2 3 4 11 12.
     pub fn remap(
         grid: Grid,
         air: &mut [u32],

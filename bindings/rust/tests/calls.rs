@@ -155,6 +155,17 @@ fn lengths_and_cell_numbers() {
 }
 
 #[test]
+fn the_count_of_a_remap() {
+    let (mut air, mut tracers) = ([100; 18], [0; 18]);
+    let grid = Grid { k: 3, ..GRID };
+    let table = [0, 0, 150, 0, 200, 0, 0, 65_536];
+    assert_eq!(
+        raw::remap(grid, &mut air, &mut tracers, &NONE, &table),
+        Ok(24)
+    );
+}
+
+#[test]
 fn the_most_steps_of_a_remap() {
     let largest = Grid {
         w: 72,
