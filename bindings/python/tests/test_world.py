@@ -296,7 +296,6 @@ class Grids(unittest.TestCase):
     def test_count_of_a_remap(self):
         grid = puldeho.Grid(w=4, r=1, k=3, n=1)
         three = puldeho.World(grid, [100] * 18, [0] * 18)
-        three.load()
         self.assertEqual(three.remap([0, 0, 150, 0, 200, 0, 0, 65536]), 24)
 
     def test_most_steps_of_a_remap(self):
