@@ -42,7 +42,7 @@
  *   puldeho_raw_zonal                  25,536
  *   puldeho_raw_long_zonal             18,656
  *   puldeho_raw_meridional             93,968
- *   puldeho_raw_remap                  17,824
+ *   puldeho_raw_remap                  17,840
  *   puldeho_raw_total                     432
  *   puldeho_raw_cell                      400
  *   puldeho_raw_add_emitter               720
@@ -307,7 +307,8 @@ static inline size_t puldeho_remap_table_length(struct puldeho_grid grid)
  * 32 x 8. The remap goes down each column once for each tracer; a step passes one edge or one
  * old layer and adds at most one layer's amount or piece, and 2*K steps always reach the last
  * edge. Proved for every accepted remap, whatever table, air and amounts. Not counted is what
- * is done beside these steps, such as tests, edges, slopes and the count of pairs. */
+ * is done beside these steps, such as tests, edges and slopes; the count comes with the
+ * steps. */
 static inline size_t puldeho_most_remap_steps(struct puldeho_grid grid)
 {
     return (size_t)grid.n * puldeho_cells_in_layer(grid) * 2 * (size_t)grid.k;
@@ -438,17 +439,19 @@ static inline enum puldeho_refusal puldeho_copy(struct puldeho_world *to, const 
     return PULDEHO_ACCEPTED;
 }
 
-/* The count of a remap, overlaps, so that two builds can be compared by hand. It is exactly the number of pairs of an old
- * and a new layer that share some air, summed over columns: all C columns, the two of the caps included. Layers that only
- * touch share no air, and the tracers, however many, have no part in it. A column of air 100, 100, 100 from the top down
- * with the new edges 0, 150, 200, 300 has four pairs, layers counted from 0:
+/* The count of a remap, overlaps, so that two builds can be compared by hand. It is exactly the number of pairs of an
+ * old and a new layer that share some air, summed over columns: all C = 2 + R*W columns of air (a column is one place
+ * of the grid through all K layers), the two of the caps included. Layers that only touch share no air, and the
+ * tracers, however many, have no part in it. A column of air 100, 100, 100 from the top down with the new edges
+ * 0, 150, 200, 300 has four pairs, layers counted from 0:
  *   old 0 and new 0    the air from   0 to 100
  *   old 1 and new 0    the air from 100 to 150
  *   old 1 and new 1    the air from 150 to 200
  *   old 2 and new 2    the air from 200 to 300
- * That is 2*K - 1 = 5 less the one inner edge that old and new layers have in common, at 200. So it is in each column:
- * 2*K - 1 less its common inner edges, K at least. In a world with W = 4, R = 1, K = 3 and air 100 in every cell, the
- * table 0, 0, 150, 0, 200, 0, 0, 65536 has the count 6*4 = 24. */
+ * With K = 3 that is 2*K - 1 = 5 less 1, for the one inner edge (neither the top nor the bottom) that old and new
+ * layers have in common, at 200. So it is in each column: 2*K - 1 less its common inner edges, K at least. In a world
+ * with W = 4, R = 1, K = 3 and air 100 in every cell, the table 0, 0, 150, 0, 200, 0, 0, 65536 has the count
+ * 6*4 = 24. */
 
 /* The calls. A refused one changes nothing; puldeho_why_NAME, below, says more about why. */
 
@@ -524,9 +527,10 @@ static inline enum puldeho_refusal puldeho_meridional(
 /*
  * Remaps all columns to the edges of a table of K + 1 pairs a, b, lent as 2*(K + 1) numbers.
  * Makes at most 2*K steps for each column and tracer, in all at most the grid's
- * most_remap_steps. Writes air and tracers. Refusals, in order: 1 2 3 4 11 12. overlaps:
- * exactly the number of pairs of an old and a new layer that share some air, summed over
- * columns. table has puldeho_remap_table_length(grid) numbers.
+ * most_remap_steps. Section 6 of the guide writes a count out by hand. Writes air and tracers.
+ * Refusals, in order: 1 2 3 4 11 12. overlaps: exactly the number of pairs of an old and a new
+ * layer that share some air, summed over columns. table has puldeho_remap_table_length(grid)
+ * numbers.
  */
 PULDEHO_MUST_USE PULDEHO_NOT_NULL(1) PULDEHO_LIST(read_only, 2, 3)
 static inline enum puldeho_refusal puldeho_remap(

@@ -707,8 +707,8 @@ contains
   end subroutine world_meridional
 
   ! Remaps all columns to the edges of a table of K + 1 pairs a, b, lent as 2*(K + 1) numbers. Makes at most
-  ! 2*K steps for each column and tracer, in all at most the grid's most_remap_steps. Refusals, in order: 1 2
-  ! 3 4 11 12.
+  ! 2*K steps for each column and tracer, in all at most the grid's most_remap_steps. Section 6 of the guide
+  ! writes a count out by hand. Refusals, in order: 1 2 3 4 11 12.
   ! overlaps: exactly the number of pairs of an old and a new layer that share some air, summed over columns.
   subroutine world_remap(world, table, refusal, overlaps)
     class(puldeho_world), intent(inout) :: world
@@ -1189,8 +1189,8 @@ contains
   ! The most steps of a remap call: N*C*2*K, which is 1,623,040 on the largest grid, 72 x 44 x 32 x 8. The
   ! remap goes down each column once for each tracer; a step passes one edge or one old layer and adds at most
   ! one layer's amount or piece, and 2*K steps always reach the last edge. Proved for every accepted remap,
-  ! whatever table, air and amounts. Not counted is what is done beside these steps, such as tests, edges,
-  ! slopes and the count of pairs.
+  ! whatever table, air and amounts. Not counted is what is done beside these steps, such as tests, edges and
+  ! slopes; the count comes with the steps.
   pure function puldeho_most_remap_steps(grid) result(most)
     type(puldeho_grid), intent(in) :: grid
     integer(c_int32_t) :: most

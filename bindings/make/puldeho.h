@@ -200,17 +200,19 @@ static inline enum puldeho_refusal puldeho_copy(struct puldeho_world *to, const 
 @COPIES@    return PULDEHO_ACCEPTED;
 }
 
-/* The count of a remap, overlaps, so that two builds can be compared by hand. It is exactly the number of pairs of an old
- * and a new layer that share some air, summed over columns: all C columns, the two of the caps included. Layers that only
- * touch share no air, and the tracers, however many, have no part in it. A column of air 100, 100, 100 from the top down
- * with the new edges 0, 150, 200, 300 has four pairs, layers counted from 0:
+/* The count of a remap, overlaps, so that two builds can be compared by hand. It is exactly the number of pairs of an
+ * old and a new layer that share some air, summed over columns: all C = 2 + R*W columns of air (a column is one place
+ * of the grid through all K layers), the two of the caps included. Layers that only touch share no air, and the
+ * tracers, however many, have no part in it. A column of air 100, 100, 100 from the top down with the new edges
+ * 0, 150, 200, 300 has four pairs, layers counted from 0:
  *   old 0 and new 0    the air from   0 to 100
  *   old 1 and new 0    the air from 100 to 150
  *   old 1 and new 1    the air from 150 to 200
  *   old 2 and new 2    the air from 200 to 300
- * That is 2*K - 1 = 5 less the one inner edge that old and new layers have in common, at 200. So it is in each column:
- * 2*K - 1 less its common inner edges, K at least. In a world with W = 4, R = 1, K = 3 and air 100 in every cell, the
- * table 0, 0, 150, 0, 200, 0, 0, 65536 has the count 6*4 = 24. */
+ * With K = 3 that is 2*K - 1 = 5 less 1, for the one inner edge (neither the top nor the bottom) that old and new
+ * layers have in common, at 200. So it is in each column: 2*K - 1 less its common inner edges, K at least. In a world
+ * with W = 4, R = 1, K = 3 and air 100 in every cell, the table 0, 0, 150, 0, 200, 0, 0, 65536 has the count
+ * 6*4 = 24. */
 
 /* The calls. A refused one changes nothing; puldeho_why_NAME, below, says more about why. */
 @CALLS@

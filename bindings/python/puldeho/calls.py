@@ -229,7 +229,7 @@ class Lengths:
         The remap goes down each column once for each tracer; a step passes one edge or one old layer and adds
         at most one layer's amount or piece, and 2*K steps always reach the last edge. Proved for every
         accepted remap, whatever table, air and amounts. Not counted is what is done beside these steps, such
-        as tests, edges, slopes and the count of pairs."""
+        as tests, edges and slopes; the count comes with the steps."""
         return self.n * self.cells_in_layer * 2 * self.k
 
 
@@ -273,9 +273,9 @@ class Calls:
 
     def remap(self, table):
         """Remaps all columns to the edges of a table of K + 1 pairs a, b, lent as 2*(K + 1) numbers. Makes at
-        most 2*K steps for each column and tracer, in all at most the grid's most_remap_steps. Returns exactly
-        the number of pairs of an old and a new layer that share some air, summed over columns. Refusals, in
-        order: 1 2 3 4 11 12."""
+        most 2*K steps for each column and tracer, in all at most the grid's most_remap_steps. Section 6 of
+        the guide writes a count out by hand. Returns exactly the number of pairs of an old and a new layer
+        that share some air, summed over columns. Refusals, in order: 1 2 3 4 11 12."""
         return self._make("remap", table)
 
     def total(self, tracer):

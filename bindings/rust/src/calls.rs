@@ -215,7 +215,7 @@ impl Grid {
         (self.k as usize + 1) * 2
     }
 
-    /// The most steps of a remap call: N*C*2*K, which is 1,623,040 on the largest grid, 72 x 44 x 32 x 8. The remap goes down each column once for each tracer; a step passes one edge or one old layer and adds at most one layer's amount or piece, and 2*K steps always reach the last edge. Proved for every accepted remap, whatever table, air and amounts. Not counted is what is done beside these steps, such as tests, edges, slopes and the count of pairs.
+    /// The most steps of a remap call: N*C*2*K, which is 1,623,040 on the largest grid, 72 x 44 x 32 x 8. The remap goes down each column once for each tracer; a step passes one edge or one old layer and adds at most one layer's amount or piece, and 2*K steps always reach the last edge. Proved for every accepted remap, whatever table, air and amounts. Not counted is what is done beside these steps, such as tests, edges and slopes; the count comes with the steps.
     pub fn most_remap_steps(self) -> usize {
         self.n as usize * self.cells_in_layer() * 2 * self.k as usize
     }
@@ -323,7 +323,7 @@ impl World {
         raw::meridional(self.grid, &mut self.air, &mut self.tracers, &self.ledger, layer, fluxes)
     }
 
-    /// Remaps all columns to the edges of a table of K + 1 pairs a, b, lent as 2*(K + 1) numbers. Makes at most 2*K steps for each column and tracer, in all at most the grid's most_remap_steps.
+    /// Remaps all columns to the edges of a table of K + 1 pairs a, b, lent as 2*(K + 1) numbers. Makes at most 2*K steps for each column and tracer, in all at most the grid's most_remap_steps. Section 6 of the guide writes a count out by hand.
     ///
     /// It gives exactly the number of pairs of an old and a new layer that share some air, summed over columns.
     ///
@@ -735,7 +735,7 @@ pub mod raw {
         })
     }
 
-    /// Remaps all columns to the edges of a table of K + 1 pairs a, b, lent as 2*(K + 1) numbers. Makes at most 2*K steps for each column and tracer, in all at most the grid's most_remap_steps.
+    /// Remaps all columns to the edges of a table of K + 1 pairs a, b, lent as 2*(K + 1) numbers. Makes at most 2*K steps for each column and tracer, in all at most the grid's most_remap_steps. Section 6 of the guide writes a count out by hand.
     ///
     /// Count: exactly the number of pairs of an old and a new layer that share some air, summed over columns. Refusals, in order: 1 2 3 4 11 12.
     pub fn remap(

@@ -1,5 +1,5 @@
--- A tracer's remap in one column, and the count of pairs: what the functions require and ensure.
-use Prim.Native.Nat.{ℕ, suc, _+_, _-_, _*_, _≤_, _<_}
+-- A tracer's remap in one column, and its pairs: what the functions require and ensure.
+use Prim.Native.Nat.{ℕ, suc, _+_, _-_, _≤_, _<_}
 use mathlib.Core.List.{List}
 use mathlib.Core.Bool.{Bool, true, false, _||_}
 use mathlib.Core.Path.{_≡_}
@@ -60,9 +60,14 @@ pub record ColumnGasNeed (k : ℕ) (air gas q size : List ℕ) (rising : List Bo
   pub roomRising : k ≤ length rising
   pub room : k ≤ length newgas
 
+-- whatever table the edges are of, the pairs of an old and a new layer that share air are exactly 2k less the `ends`
+pub record IsCounted (k : ℕ) (air e : List ℕ) (ends : ℕ) : Type 0 where
+  pub is : (table : List ℕ) → AreEdges table (airAbove (firsts k air) k) k e → columnCount k table (firsts k air) + ends ≡ budget k
+
 -- whatever table the edges are of, r has the new layers' tracer, and `steps` are those of the definition's walk, one after another: one less
--- than its budget, they reach the last edge, and one of them passes each new layer's lower edge, whose amount the mark then gains
-pub record IsRemapped (cap : Bool) (k : ℕ) (air gas e r : List ℕ) (steps : ℕ) : Type 0 where
+-- than its budget, they reach the last edge, and one of them passes each new layer's lower edge, whose amount the mark then gains;
+-- the pairs of an old and a new layer that share air are exactly 2k less the `ends`
+pub record IsRemapped (cap : Bool) (k : ℕ) (air gas e r : List ℕ) (steps ends : ℕ) : Type 0 where
   pub most : steps ≤ budget k
   pub exact : steps + 1 ≡ budget k
   pub reaches :
@@ -74,26 +79,4 @@ pub record IsRemapped (cap : Bool) (k : ℕ) (air gas e r : List ℕ) (steps : �
   pub is :
       (table : List ℕ) → AreEdges table (airAbove (firsts k air) k) k e → (j : ℕ) → j < k →
       at r j ≡ newTracer table (airAbove (firsts k air) k) (layers mismatch cap k (firsts k air) (firsts k gas)) j
-
--- ---- pairs
--- old layer i ends at `lower`, and those above it before the edge, which lies in the column
-pub record EndNeed (air : List ℕ) (i lower edge : ℕ) : Type 0 where
-  pub layers : ℕ
-  pub fit : layers ≤ 32
-  pub room : layers ≤ length air
-  pub most : (t : ℕ) → t < layers → at air t ≤ airLimit
-  pub inside : i < layers
-  pub is : lower ≡ sum (i + 1) (at air)
-  pub above : sum i (at air) < edge
-  pub within : edge ≤ sum layers (at air)
-
--- old layer i, which ends at `lower`, is the first that ends at the edge or past it
-pub record IsEnd (air : List ℕ) (edge i lower : ℕ) : Type 0 where
-  pub is : lower ≡ sum (i + 1) (at air)
-  pub above : sum i (at air) < edge
-  pub reached : edge ≤ lower
-
--- r is exactly the number of pairs of an old and a new layer that share air, whatever table the edges are of
-pub record IsPairs (k : ℕ) (air e : List ℕ) (r : ℕ) : Type 0 where
-  pub is : (table : List ℕ) → AreEdges table (airAbove (firsts k air) k) k e → r ≡ columnCount k table (firsts k air)
-  pub most : r ≤ 2 * k
+  pub counted : IsCounted k air e ends

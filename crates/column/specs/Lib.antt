@@ -3,4 +3,3 @@ pub mod Gas
 pub mod Laws
 pub mod Slopes
 pub mod Walk
-pub mod Pairs

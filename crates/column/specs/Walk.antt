@@ -9,12 +9,13 @@ use native.Mathlib.Nat.{mod-eq-of-lt}
 use native.Mathlib.Omega.{arith}
 use Rattle.model.specs.Basic.{at, sum}
 use Rattle.model.specs.Scheme.{mismatch}
-use Rattle.model.specs.Remap.{airAbove, edge, amountAbove}
-use Rattle.model.specs.Walk.{layerOf, columnWalk, budget}
-use Rattle.model.specs.Laws.Basic.{le-or-lt, sum-ext, sum-tab}
+use Rattle.model.specs.Remap.{airAbove, edge, amountAbove, columnCount}
+use Rattle.model.specs.Walk.{endsPassed, layerOf, columnWalk, budget}
+use Rattle.model.specs.Laws.Basic.{le-or-lt, sum-ext, sum-tab, at-tab}
 use Rattle.model.specs.Long.{lineAir}
-use Rattle.model.specs.Laws.Walk.{walk-same, walk-not-before}
-use Rattle.line.specs.Line.{cellAt, LineNeed, lineWalk, IsWalk}
+use Rattle.model.specs.Laws.Walk.{walk-same, ends-alike, walk-not-before}
+use Rattle.model.specs.Laws.Ends.{column-pairs-by-walk}
+use Rattle.line.specs.Line.{cellAt, LineNeed, lineWalk, lineEnds, IsWalk}
 use Rattle.line.specs.Tracer.{between-is}
 use Rattle.column.specs.Column.{firsts, AreEdges}
 use Rattle.column.specs.Gas.{AreSlopes, Spans, ColumnGasNeed, IsRemapped}
@@ -74,8 +75,31 @@ module _
       walk-not-before (cellAt k air gas size rising) k (line .some) (λ i h. rw (mod-eq-of-lt h) (line .least i h)) (at e) k (line .first) (line .rises) reach
       (last-is (need .spans) ∙ sym line-air) s (omega arith)
 
-  pub remapped-is : {r : List ℕ} {steps : ℕ} → IsWalk k air gas size rising e k r steps → IsRemapped cap k air gas e r steps
-  remapped-is {r} {steps} made =
+  -- the ends passed are the column's, and by them its pairs
+  ends-are :
+      (table : List ℕ) → AreEdges table (airAbove (firsts k air) k) k e → (s : ℕ) →
+      lineEnds k air gas size rising e k s ≡ endsPassed (layerOf mismatch cap k (firsts k air) (firsts k gas)) (edge table (airAbove (firsts k air) k)) k s
+  ends-are table are =
+      let line = line-need in
+      ends-alike (cellAt k air gas size rising) k (line .some) (λ i h. rw (mod-eq-of-lt h) (line .least i h)) (at e) k (line .first) (line .rises) reach
+      (layerOf mismatch cap k (firsts k air) (firsts k gas)) (edge table (airAbove (firsts k air) k)) (layer-is (need .ratios) slopes) (are .is)
+
+  pairs-are :
+      (table : List ℕ) → AreEdges table (airAbove (firsts k air) k) k e → (s : ℕ) → lineWalk k air gas size rising e k s .edges ≡ k →
+      columnCount k table (firsts k air) + lineEnds k air gas size rising e k s ≡ budget k
+  pairs-are table are s done =
+      let spans = need .spans in
+      ap (λ (n : ℕ). columnCount k table (firsts k air) + n) (ends-are table are s) ∙
+      column-pairs-by-walk mismatch cap k table (firsts k air) (firsts k gas) (spans .some)
+      (λ i h. rw (at-tab k (at air) i h) (spans .least i h))
+      (sym (are .is 0 (omega arith)) ∙ spans .first)
+      (sym (are .is k (omega arith)) ∙ spans .last)
+      (λ j h. rw (← are .is j (omega arith), ← are .is (suc j) h) (spans .rises j h))
+      s
+      (rw (walk-is table are) at done)
+
+  pub remapped-is : {r : List ℕ} {steps ends : ℕ} → IsWalk k air gas size rising e k r steps ends → IsRemapped cap k air gas e r steps ends
+  remapped-is {r} {steps} {ends} made =
       let same = layers-are (need .ratios) slopes in
       record {
         most = omega (arith, made .few k (line-need .some) reach);
@@ -90,4 +114,6 @@ module _
             λ table are j h.
             between-is line-need made .is k reach j h ∙
             ap₂ _-_ (ap₂ amountAbove same (are .is (suc j) h)) (ap₂ amountAbove same (are .is j (omega arith)));
+        counted =
+            record { is = λ table are. ap (λ (n : ℕ). columnCount k table (firsts k air) + n) (made .ended) ∙ pairs-are table are steps (made .reaches) };
       }

@@ -6,19 +6,17 @@ ghost use Prim.Native.Nat.{_+_, _-_, _*_, _/_, _≤_, _<_};
 ghost use lib.ListN.{length};
 ghost use lib.Dec.{leb};
 ghost use Rattle.model.specs.Limits.{tableLimit, tableScale, mostLayers};
-ghost use Rattle.model.specs.Basic.{distance};
 ghost use Rattle.model.specs.Step.{tableFits};
 ghost use Rattle.scheme.specs.Leaves.{mismatchOf};
 ghost use Rattle.column.specs.Column.{EdgesNeed, AreEdges};
-ghost use Rattle.column.specs.Gas.{mismatchUnless, SlopesNeed, AreSlopes, Spans, EndNeed, IsEnd, IsPairs, ColumnGasNeed, IsRemapped};
+ghost use Rattle.column.specs.Gas.{mismatchUnless, SlopesNeed, AreSlopes, ColumnGasNeed, IsRemapped};
+use line::Walked;
 use line::tracer_between;
 use scheme::mismatch;
-use units::Air;
 use units::AirSum;
 use units::Mismatch;
 use units::TABLE_LIMIT;
 use units::TABLE_SCALE;
-use units::add_air;
 
 // Whether a pair of the table is in its ranges.
 fn pair_fits(a: u32, b: u32) -> bool
@@ -98,7 +96,7 @@ fn fill_slopes(q: &[u64], cap: bool, k: usize, size: &mut [u64], rising: &mut [b
     rising[last] = true;
 }
 
-// A tracer's amounts in a column's k new layers, from the old ones and their ratios: the mismatches, and one walk, whose steps it gives back, at most 2k.
+// A tracer's amounts in a column's k new layers, from the old ones and their ratios: the mismatches, and one walk. It gives back the walk's steps, at most 2k, and how many edges lie where an old layer ends; 2k less these are exactly the pairs of an old and a new layer that share air.
 // `cap` says whether the column is a cap's; size and rising are filled on the way.
 pub fn remap_gas(
     air: &[u32],
@@ -110,61 +108,10 @@ pub fn remap_gas(
     size: &mut [u64],
     rising: &mut [bool],
     newgas: &mut [u32],
-) -> usize
+) -> Walked
     requires { ⌜ ColumnGasNeed k (now air) (now gas) (now q) (now size) (now rising) (now e) (now newgas) ⌝ }
-    ensures { λ r. ⌜ IsRemapped cap k (now (air .entry)) (now (gas .entry)) (now (e .entry)) (now (newgas .exit)) r ⌝ }
+    ensures { λ r. ⌜ IsRemapped cap k (now (air .entry)) (now (gas .entry)) (now (e .entry)) (now (newgas .exit)) (r .steps) (r .ends) ⌝ }
 {
     fill_slopes(q, cap, k, size, rising);
     tracer_between(air, gas, size, rising, k, e, k, newgas)
-}
-
-// An old layer, and where it ends.
-struct LayerEnd {
-    layer: usize,
-    place: AirSum,
-}
-
-// The first old layer that ends at an edge in the column or past it, looked for from layer `from` on, which ends at `start`.
-fn layer_end(air: &[u32], from: usize, start: AirSum, edge: u64) -> LayerEnd
-    requires { ⌜ EndNeed (now air) from (start .0) edge ⌝ }
-    ensures { λ r. ⌜ IsEnd (now (air .entry)) edge (r .layer) (r .place .0) ⌝ }
-{
-    let mut layer = from;
-    let mut place = start;
-    while place.0 < edge {
-        layer += 1;
-        let have = air[layer];
-        place = add_air(place, Air(have));
-    }
-    LayerEnd { layer, place }
-}
-
-// 1 where a layer ends at the edge, else 0.
-fn at_edge(edge: u64, place: AirSum) -> u32
-    ensures { λ r. ⌜ r ≡ 1 - distance (place .0) edge ⌝ }
-{
-    if place.0 == edge { 1 } else { 0 }
-}
-
-// How many pairs of an old and a new layer share air: exactly 2k - 1 less the inner edges that old and new layers have in common.
-// The inner edges are looked for from the top down, in one walk through the column's air.
-pub fn pairs(air: &[u32], e: &[u64], k: usize) -> u32
-    requires { ⌜ Spans k (now air) (now e) ⌝ }
-    ensures { λ r. ⌜ IsPairs k (now (air .entry)) (now (e .entry)) r ⌝ }
-{
-    let inner = k - 1;
-    let mut common: u32 = 0;
-    let mut layer = 0;
-    let top = air[0];
-    let mut place = add_air(AirSum(0), Air(top));
-    let mut j = 0;
-    while j < inner {
-        let edge = e[j + 1];
-        let end = layer_end(air, layer, place, edge);
-        layer = end.layer;
-        place = end.place;
-        common += at_edge(edge, place);
-        j += 1;
-    }
-    2 * (inner as u32) + 1 - common
 }

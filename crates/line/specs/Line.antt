@@ -10,7 +10,7 @@ use Rattle.model.specs.Basic.{at, sum, tab}
 use Rattle.model.specs.Scheme.{Mismatch, ratio}
 use Rattle.model.specs.Remap.{ColumnLayer, amountAbove}
 use Rattle.model.specs.Long.{lineAir, turns}
-use Rattle.model.specs.Walk.{Walk, walk, Passes}
+use Rattle.model.specs.Walk.{Walk, walk, endsPassed, Passes}
 
 -- ---- the air of k cells
 -- up to 72 cells, none with more air than a cell may have
@@ -72,12 +72,17 @@ pub record LineNeed (n : ℕ) (air gas size : List ℕ) (rising : List Bool) (e 
 abbrev pub lineWalk : ℕ → List ℕ → List ℕ → List ℕ → List Bool → List ℕ → ℕ → ℕ → Walk
 lineWalk n air gas size rising e m = walk (cellAt n air gas size rising) (at e) m
 
+-- how many of its first s steps pass an edge where a cell ends
+abbrev pub lineEnds : ℕ → List ℕ → List ℕ → List ℕ → List Bool → List ℕ → ℕ → ℕ → ℕ
+lineEnds n air gas size rising e m = endsPassed (cellAt n air gas size rising) (at e) m
+
 -- r and `steps` are made by that walk, step after step: so many steps reach the last edge, fewer than there are edges and cells up to it;
--- and each new cell has what the mark gains in the step that passes the cell's high edge
-pub record IsWalk (n : ℕ) (air gas size : List ℕ) (rising : List Bool) (e : List ℕ) (m : ℕ) (r : List ℕ) (steps : ℕ) : Type 0 where
+-- each new cell has what the mark gains in the step that passes the cell's high edge; and so many of the edges passed lie where a cell ends
+pub record IsWalk (n : ℕ) (air gas size : List ℕ) (rising : List Bool) (e : List ℕ) (m : ℕ) (r : List ℕ) (steps ends : ℕ) : Type 0 where
   pub reaches : lineWalk n air gas size rising e m steps .edges ≡ m
   pub few : (cells : ℕ) → 1 ≤ cells → at e m ≤ lineAir n air cells → steps < cells + m
   pub is : (j : ℕ) → j < m → (s : ℕ) × (s < steps) × Passes (lineWalk n air gas size rising e m) j (at r j) s
+  pub ended : ends ≡ lineEnds n air gas size rising e m steps
 
 -- r has the line's tracer between the edges, whatever number of its cells is looked at, if they reach the last edge
 pub record IsBetween (n : ℕ) (air gas size : List ℕ) (rising : List Bool) (e : List ℕ) (m : ℕ) (r : List ℕ) : Type 0 where

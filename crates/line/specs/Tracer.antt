@@ -15,17 +15,17 @@ use Rattle.units.specs.declared.Mismatch as code
 use Rattle.line.specs.declared.Place.{Place}
 use Rattle.model.specs.Limits.{airLimit, mostColumns, totalLimit}
 use Rattle.model.specs.Basic.{at, tab}
-use Rattle.model.specs.Scheme.{Mismatch, lowPiece}
+use Rattle.model.specs.Scheme.{Mismatch, opposite, lowPiece}
 use Rattle.model.specs.Remap.{ColumnLayer, amountAbove}
 use Rattle.model.specs.Walk.{Walk, atTop, walkStep, Passes}
 use Rattle.model.specs.Laws.Basic.{le-or-lt, steps-rise, term-le-sum, sum-more, sum-fewer, sum-le, sum-same}
-use Rattle.model.specs.Laws.Scheme.{Safe, ratio-safe}
+use Rattle.model.specs.Laws.Scheme.{Safe, ratio-safe, piece-whole}
 use Rattle.model.specs.Laws.Above.{airOf, amount-rises, amount-longer}
-use Rattle.model.specs.Laws.Walk.{Stands, stands, walk-start, walk-more, step-edge, step-layer}
+use Rattle.model.specs.Laws.Walk.{Stands, stands, walk-start, walk-more, step-edge, step-layer, ends-none, ends-most, ends-more, ends-same}
 use Rattle.model.specs.Laws.Long.{line-all}
 use Rattle.scheme.specs.Leaves.{mismatchOf, Giver}
 use Rattle.model.specs.Long.{lineAir, turns}
-use Rattle.line.specs.Line.{slopeIn, cellAt, LineNeed, lineWalk, IsWalk, IsBetween}
+use Rattle.line.specs.Line.{slopeIn, cellAt, LineNeed, lineWalk, lineEnds, IsWalk, IsBetween}
 
 -- ---- G of two lines at a point that both reach
 same-amount :
@@ -48,6 +48,7 @@ placeOf p = place (p .i) (p .passed .0) (p .whole .0) (p .j) (p .last .0)
 pub record Walking (n : ℕ) (air gas size : List ℕ) (rising : List Bool) (e : List ℕ) (m : ℕ) (newgas : List ℕ) (p : Place) : Type 0 where
   pub stands : lineWalk n air gas size rising e m (p .i + p .j) ≡ placeOf p
   pub made : (t : ℕ) → t < p .j → (s : ℕ) × (s < p .i + p .j) × Passes (lineWalk n air gas size rising e m) t (at newgas t) s
+  pub ended : p .ends ≡ lineEnds n air gas size rising e m (p .i + p .j)
 
 -- a turn can begin at p
 pub record TurnNeed (n : ℕ) (air gas size : List ℕ) (rising : List Bool) (e : List ℕ) (m : ℕ) (newgas : List ℕ) (p : Place) : Type 0 where
@@ -61,6 +62,10 @@ pub record IsTurn (n : ℕ) (air gas size : List ℕ) (rising : List Bool) (e : 
   pub turned : r .j < m → r .i ≡ p .i + n
   pub onward : (p .i ≤ r .i) × (p .j ≤ r .j)
 
+-- no more ends are passed than steps are made
+pub ends-few : (n : ℕ) (air gas size : List ℕ) (rising : List Bool) (e : List ℕ) (m s : ℕ) → lineEnds n air gas size rising e m s ≤ s
+ends-few n air gas size rising e m s = ends-most _ _ _ s
+
 -- what was made stays made as the walk goes on
 pub made-more :
     {W : ℕ → Walk} {j k k' : ℕ} (r : List ℕ) → k ≤ k' → ((t : ℕ) → t < j → (s : ℕ) × (s < k) × Passes W t (at r t) s) →
@@ -70,11 +75,12 @@ made-more r le made t h = let step = made t h in (step .0, omega (arith, step .1
 -- the walk begins, and the next turn begins where one has ended
 pub walking-start :
     (n : ℕ) (air gas size : List ℕ) (rising : List Bool) (e : List ℕ) (m : ℕ) (newgas : List ℕ) (p : Place) → p .i ≡ 0 → p .j ≡ 0 →
-    placeOf p ≡ atTop → Walking n air gas size rising e m newgas p
-walking-start n air gas size rising e m newgas p noCell noEdge top =
+    placeOf p ≡ atTop → p .ends ≡ 0 → Walking n air gas size rising e m newgas p
+walking-start n air gas size rising e m newgas p noCell noEdge top noEnd =
     record {
       stands = ap₂ (λ (i j : ℕ). lineWalk n air gas size rising e m (i + j)) noCell noEdge ∙ walk-start _ _ _ ∙ sym top;
       made = λ t h. absurd (omega arith);
+      ended = noEnd ∙ sym (ends-none _ _ _) ∙ sym (ap₂ (λ (i j : ℕ). lineEnds n air gas size rising e m (i + j)) noCell noEdge);
     }
 
 pub need-again :
@@ -113,7 +119,8 @@ module _
   pub turn-start :
       (lineWalk n air gas size rising e m (p .i + 0 + p .j) ≡ place (p .i + 0) (p .passed .0) (p .whole .0) (p .j) (p .last .0))
       × ((t : ℕ) → t < p .j → (s : ℕ) × (s < p .i + 0 + p .j) × Passes (lineWalk n air gas size rising e m) t (at newgas t) s)
-  turn-start = rw (add-zero (p .i)) (need .walking .stands, need .walking .made)
+      × (p .ends ≡ lineEnds n air gas size rising e m (p .i + 0 + p .j))
+  turn-start = rw (add-zero (p .i)) (need .walking .stands, need .walking .made, need .walking .ended)
 
 module _
     {n : ℕ} {air gas size : List ℕ} {rising : List Bool} {e : List ℕ} {m : ℕ} {newgas : List ℕ}
@@ -176,6 +183,36 @@ module _
           step-layer f (at e) m (place i passed whole j last) h lt' ∙
           (λ z. place (one z) (sym ends z) (sym sums z) j last)
 
+      -- the ends passed, of a step past a cell, past an edge inside it, and past one at its end
+      due : at e (suc j) ≡ at e (j + 1)
+      due = ap (at e) (sym (add-one j))
+
+      pub ends-cell : passed + at air (i % n) < at e (j + 1) → lineEnds n air gas size rising e m (i + 1 + j) ≡ lineEnds n air gas size rising e m (i + j)
+      ends-cell lt =
+          let next : i + 1 + j ≡ suc (i + j) = omega arith in
+          ap (lineEnds n air gas size rising e m) next ∙
+          ends-same f (at e) m (i + j) is (λ (q : at e (suc j) ≡ passed + at air (i % n)). omega (arith, q, due, lt))
+
+      pub ends-inside : at e (j + 1) < passed + at air (i % n) → lineEnds n air gas size rising e m (i + (j + 1)) ≡ lineEnds n air gas size rising e m (i + j)
+      ends-inside lt =
+          let next : i + (j + 1) ≡ suc (i + j) = omega arith in
+          ap (lineEnds n air gas size rising e m) next ∙
+          ends-same f (at e) m (i + j) is (λ (q : at e (suc j) ≡ passed + at air (i % n)). omega (arith, q, due, lt))
+
+      pub ends-end : at e (j + 1) ≡ passed + at air (i % n) → lineEnds n air gas size rising e m (i + (j + 1)) ≡ lineEnds n air gas size rising e m (i + j) + 1
+      ends-end ends =
+          let next : i + (j + 1) ≡ suc (i + j) = omega arith in
+          ap (lineEnds n air gas size rising e m) next ∙ ends-more f (at e) m (i + j) is h (due ∙ ends) ∙ sym (add-one _)
+
+      -- a piece of the whole cell
+      pub whole-cell :
+          at e (j + 1) ≡ passed + at air (i % n) →
+          lowPiece (slopeIn size rising (i % n)) (at air (i % n)) (at gas (i % n)) (at e (j + 1) - passed) ≡ at gas (i % n)
+      whole-cell ends =
+          let inside : at e (j + 1) - passed ≡ at air (i % n) = omega (arith, ends) in
+          ap (lowPiece (slopeIn size rising (i % n)) (at air (i % n)) (at gas (i % n))) inside ∙
+          piece-whole (opposite (slopeIn size rising (i % n))) (at air (i % n)) (at gas (i % n)) (least i)
+
       module _ {next : ℕ} (le : at e (j + 1) ≤ passed + at air (i % n))
           (adds : next ≡ whole + lowPiece (slopeIn size rising (i % n)) (at air (i % n)) (at gas (i % n)) (at e (j + 1) - passed)) where
         pub walk-edge : W (i + (j + 1)) ≡ place i passed whole (j + 1) next
@@ -221,9 +258,10 @@ module _
 
   -- ---- what the walk has made
   pub walk-is :
-      {i passed whole j last : ℕ} {r : List ℕ} → W (i + j) ≡ place i passed whole j last → m ≤ j →
-      ((t : ℕ) → t < j → (s : ℕ) × (s < i + j) × Passes W t (at r t) s) → IsWalk n air gas size rising e m r (i + j)
-  walk-is {i} {j = j} is done made =
+      {i passed whole j last ends : ℕ} {r : List ℕ} → W (i + j) ≡ place i passed whole j last → m ≤ j →
+      ((t : ℕ) → t < j → (s : ℕ) × (s < i + j) × Passes W t (at r t) s) → ends ≡ lineEnds n air gas size rising e m (i + j) →
+      IsWalk n air gas size rising e m r (i + j) ends
+  walk-is {i} {j = j} is done made ended =
       let edges = ap (λ (w : Walk). w .edges) is in
       let here = stands-here is in
       record {
@@ -233,10 +271,11 @@ module _
             let inside = stands-in cells some reach (i + j) .layer in
             omega (arith, inside, ap (λ (w : Walk). w .layers) is, here .edge);
         is = λ t h. made t (omega arith);
+        ended = ended;
       }
 
   -- the amounts between the edges, however many cells are looked at
-  pub between-is : {r : List ℕ} {steps : ℕ} → IsWalk n air gas size rising e m r steps → IsBetween n air gas size rising e m r
+  pub between-is : {r : List ℕ} {steps ends : ℕ} → IsWalk n air gas size rising e m r steps ends → IsBetween n air gas size rising e m r
   between-is {r} walked =
       record {
         is =

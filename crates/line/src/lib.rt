@@ -130,17 +130,18 @@ fn air_inside(passed: AirSum, edge: u64) -> Air
     Air((edge - passed.0) as u32)
 }
 
-// Where a walk along the line stands: the cells passed, their air and their tracer, the edges passed after edge 0, and the tracer up to the last of them.
+// Where a walk along the line stands: the cells passed, their air and their tracer, the edges passed after edge 0, the tracer up to the last of them, and how many of these edges lie where a cell ends.
 struct Place {
     i: usize,
     passed: AirSum,
     whole: Tracer,
     j: usize,
     last: Tracer,
+    ends: usize,
 }
 
-fn place_at(i: usize, passed: AirSum, whole: Tracer, j: usize, last: Tracer) -> Place
-    ensures { λ r. ⌜ r ≡ record { i = i; passed = passed; whole = whole; j = j; last = last } ⌝ }
+fn place_at(i: usize, passed: AirSum, whole: Tracer, j: usize, last: Tracer, ends: usize) -> Place
+    ensures { λ r. ⌜ r ≡ record { i = i; passed = passed; whole = whole; j = j; last = last; ends = ends } ⌝ }
 {
     Place {
         i,
@@ -148,11 +149,12 @@ fn place_at(i: usize, passed: AirSum, whole: Tracer, j: usize, last: Tracer) -> 
         whole,
         j,
         last,
+        ends,
     }
 }
 
 // Walks on along the n cells once, from the first, until the last edge or the last cell is passed.
-// A step passes cell c, or the high edge of new cell j where that is reached first.
+// A step passes cell c, or the high edge of new cell j where that is reached first. Where the edge is the cell's end, the piece is the whole cell, without a division.
 fn walk_turn(
     air: &[u32],
     gas: &[u32],
@@ -173,6 +175,7 @@ fn walk_turn(
     let mut whole = start.whole;
     let mut j = start.j;
     let mut last = start.last;
+    let mut ends = start.ends;
     while j < m {
         let have = air_at(air, c);
         let t = tracer_at(gas, c);
@@ -183,8 +186,17 @@ fn walk_turn(
             whole = plus(whole, t);
             c += 1;
             if c == n {
-                return place_at(first + c, passed, whole, j, last);
+                return place_at(first + c, passed, whole, j, last, ends);
             }
+            continue;
+        }
+        if end.0 == edge {
+            let upto = plus(whole, t);
+            let gained = minus(upto, last);
+            newgas[j] = gained.0;
+            last = upto;
+            j += 1;
+            ends += 1;
             continue;
         }
         let inside = air_inside(passed, edge);
@@ -195,11 +207,17 @@ fn walk_turn(
         last = next;
         j += 1;
     }
-    place_at(first + c, passed, whole, j, last)
+    place_at(first + c, passed, whole, j, last, ends)
+}
+
+// A walk that has been made: its steps, and how many edges after edge 0 lie where a cell ends.
+pub struct Walked {
+    pub steps: usize,
+    pub ends: usize,
 }
 
 // A tracer's amounts between m + 1 edges on the line that n cells make, laid one after the other: cell i of the line is cell i mod n.
-// Gives back the number of steps: the walk goes along the line once, turn after turn; a column has one.
+// The walk goes along the line once, turn after turn; a column has one.
 pub fn tracer_between(
     air: &[u32],
     gas: &[u32],
@@ -209,13 +227,15 @@ pub fn tracer_between(
     e: &[u64],
     m: usize,
     newgas: &mut [u32],
-) -> usize
+) -> Walked
     requires { ⌜ LineNeed n (now air) (now gas) (now size) (now rising) (now e) m (now newgas) ⌝ }
-    ensures { λ r. ⌜ IsWalk n (now (air .entry)) (now (gas .entry)) (now (size .entry)) (now (rising .entry)) (now (e .entry)) m (now (newgas .exit)) r ⌝ }
+    ensures { λ r. ⌜ IsWalk n (now (air .entry)) (now (gas .entry)) (now (size .entry)) (now (rising .entry)) (now (e .entry)) m (now (newgas .exit)) (r .steps) (r .ends) ⌝ }
 {
-    let mut place = place_at(0, AirSum(0), Tracer(0), 0, Tracer(0));
+    let mut place = place_at(0, AirSum(0), Tracer(0), 0, Tracer(0), 0);
     while place.j < m {
         place = walk_turn(air, gas, size, rising, n, e, m, newgas, place);
     }
-    place.i + place.j
+    let steps = place.i + place.j;
+    let ends = place.ends;
+    Walked { steps, ends }
 }

@@ -124,8 +124,8 @@ module _ {gas air e : List ℕ} (need : LongGasNeed gas air e) where
 
     -- the amounts between the departures, lent as `&between[1..end]` with end = W + 1
     pub gas-by :
-        {between : List ℕ} {steps : ℕ} → W ≤ length size → W ≤ length rising → W + 1 ≤ length between →
-        IsWalk W air gas size rising e (W + 1) between steps → part between 1 (W + 1 - 1) ≡ gasBy e air gas
+        {between : List ℕ} {steps ends : ℕ} → W ≤ length size → W ≤ length rising → W + 1 ≤ length between →
+        IsWalk W air gas size rising e (W + 1) between steps ends → part between 1 (W + 1 - 1) ≡ gasBy e air gas
     gas-by {between} roomSize roomRising room made =
         let is = between-is (line-need {newgas = between} roomSize roomRising room) made in
         sym (tab-at W (part between 1 (W + 1 - 1)) long) ∙

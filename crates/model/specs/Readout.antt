@@ -3,7 +3,6 @@
 use Prim.Native.Nat.{ℕ, _+_, _*_, _-_, _≤_, _<_}
 use mathlib.Core.List.{List}
 use mathlib.Core.Path.{_≡_, sym, _∙_, ap}
-use native.Mathlib.Omega.{arith}
 use Rattle.model.specs.Basic.{at, sum, tab}
 use Rattle.model.specs.World.{World, layerCells}
 use Rattle.model.specs.Remap.{column, columnCount, commonEdges, remapCount}
@@ -67,7 +66,7 @@ module _ (w : World) (table : List ℕ) where
             column-count (w .grid .K) table _ (column-has (w .grid) table (w .air) (fits .air) edges c h) (edges c h .first) (edges c h .last) (edges c h .rises)
             (in-range (w .grid) (fits .grid) .lowK)
 
--- two worlds with as many places and layers and the same air have the same count, whatever tracers they have and however many
+-- in two worlds with as many places and layers and the same air, a remap by one table that both accept has the same count, whatever tracers they have and however many
 pub readout-by-air :
     (w v : World) (table : List ℕ) → layerCells (w .grid) ≡ layerCells (v .grid) → w .grid .K ≡ v .grid .K → w .air ≡ v .air →
     step w (remap table) .answer ≡ 0 → step v (remap table) .answer ≡ 0 → step w (remap table) .count ≡ step v (remap table) .count

@@ -64,16 +64,16 @@ unfoldable pub edgesServe : ℕ → List ℕ → ℕ → Bool
 edgesServe K table P =
     every K (λ j. ltb (edge table P j) (edge table P (suc j)) && leb (newAir table P j) airLimit)
 
--- Old layer k and new layer j share some air
+-- (02) "an old and a new layer that share some air": old layer k and new layer j
 unfoldable pub shareAir : List ℕ → List ℕ → ℕ → ℕ → ℕ → Bool
 shareAir table air P j k =
     ltb (max (airAbove air k) (edge table P j)) (min (airAbove air (suc k)) (edge table P (suc j)))
 
--- (02) "The count becomes exactly the number of pairs of an old and a new layer that share some air, summed over columns.": of one column
+-- (02) "The count becomes exactly the number of pairs of an old and a new layer that share some air", in one column
 unfoldable pub columnCount : ℕ → List ℕ → List ℕ → ℕ
 columnCount K table air = sum K (λ j. howMany K (shareAir table air (airAbove air K) j))
 
--- The inner edges that a column's old and new layers have in common: of the new edges between the first and the last, how many lie where an old layer ends. No call uses it; the law of the count in closed form does
+-- The inner edges that a column's old and new layers have in common: of the new edges between the first and the last, how many lie where an old layer other than the last ends. No call uses it; the law of the count in closed form does
 unfoldable pub commonEdges : ℕ → List ℕ → List ℕ → ℕ
 commonEdges K table air =
     howMany (K - 1) (λ j. some (K - 1) (λ k. eqb (airAbove air (suc k)) (edge table (airAbove air K) (suc j))))

@@ -2,10 +2,10 @@
 -- For any layers and edges: layer k is f k, edge j is e j, and m is the last edge's number. Edge 0 is the start and no step.
 use Prim.Native.Nat.{ℕ, zero, suc, _+_, _*_, _-_, _≤_, _<_}
 use mathlib.Core.List.{List}
-use mathlib.Core.Bool.{Bool, true, false}
+use mathlib.Core.Bool.{Bool, true, false, _&&_}
 use mathlib.Core.Path.{_≡_}
-use lib.Dec.{leb, ltb}
-use Rattle.model.specs.Basic.{at}
+use lib.Dec.{leb, ltb, eqb}
+use Rattle.model.specs.Basic.{at, howMany}
 use Rattle.model.specs.Scheme.{Rule, lowPiece}
 use Rattle.model.specs.Remap.{ColumnLayer, airAbove, edge, layerMismatch, amountAbove}
 
@@ -53,6 +53,13 @@ walkStep f e m w =
 unfoldable pub walk : (ℕ → ColumnLayer) → (ℕ → ℕ) → ℕ → ℕ → Walk
 walk f e m zero = atTop
 walk f e m (suc s) = walkStep f e m (walk f e m s)
+
+-- Whether the step from w passes an edge that lies where the layer ends; how many of the first s steps do. No part of `step`: the remap's count is found by it
+abbrev pub passesEnd : (ℕ → ColumnLayer) → (ℕ → ℕ) → ℕ → Walk → Bool
+passesEnd f e m w = ltb (w .edges) m && eqb (e (suc (w .edges))) (w .above + f (w .layers) .air)
+
+abbrev pub endsPassed : (ℕ → ColumnLayer) → (ℕ → ℕ) → ℕ → ℕ → ℕ
+endsPassed f e m s = howMany s (λ t. passesEnd f e m (walk f e m t))
 
 -- A tracer's walk down a column, by the table's edges in it
 abbrev pub layerOf : Rule → Bool → ℕ → List ℕ → List ℕ → ℕ → ColumnLayer

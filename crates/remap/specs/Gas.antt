@@ -62,7 +62,7 @@ module _
         room = room;
       }
 
-  pub gas-moved : {cap : Bool} {new next : List ℕ} {steps : ℕ} → cap ≡ eqb c 0 || eqb (c + 1) cells → IsRemapped cap k air old e new steps →
+  pub gas-moved : {cap : Bool} {new next : List ℕ} {steps ends : ℕ} → cap ≡ eqb c 0 || eqb (c + 1) cells → IsRemapped cap k air old e new steps ends →
       next ≡ columnSet cells gas c (at new) k → IsGasMoved gas air e c cells k next
   gas-moved {cap} {new} cap-is made stored =
       record {

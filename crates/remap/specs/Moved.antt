@@ -10,16 +10,17 @@ use lib.Seq.{take-add, take-all}
 use Rattle.model.specs.Limits.{totalLimit, mostLayers, mostLayerCells, mostTracers}
 use Rattle.model.specs.Basic.{at, part, sum, joined, tabFrom, tab}
 use Rattle.model.specs.Scheme.{mismatch}
-use Rattle.model.specs.Remap.{airAbove, newAir, newTracer, layers}
+use Rattle.model.specs.Remap.{airAbove, newAir, newTracer, layers, columnCount}
 use Rattle.model.specs.Walk.{budget}
-use Rattle.model.specs.Laws.Basic.{sum-tab, sum-columns, term-le-sum}
+use Rattle.model.specs.Laws.Basic.{sum-none, sum-more, sum-tab, sum-columns, term-le-sum}
 use Rattle.model.specs.Laws.Entries.{joined-more, joined-ext}
 use Rattle.model.specs.Laws.Column.{Edges}
 use Rattle.units.specs.EachTracer.{length-gas}
 use Rattle.line.specs.Line.{IsNewAir, Served}
 use Rattle.column.specs.Column.{firsts}
+use Rattle.column.specs.Gas.{IsCounted}
 use Rattle.remap.specs.Columns.{ColumnNeed, columnOf, columnSet}
-use Rattle.remap.specs.Served.{ReadNeed, IsColumn, ColumnsNeed, columnSum, read-need, column-spans, column-served, column-edges}
+use Rattle.remap.specs.Served.{ReadNeed, IsColumn, ColumnsNeed, columnSum, countAt, read-need, column-spans, column-served, column-edges}
 use Rattle.remap.specs.Upto.{Upto, column-left, upto-none, upto-more, upto-all}
 use Rattle.remap.specs.Gas.{capAt, layerNew, IsGasMoved}
 use Rattle.remap.specs.Tracers.{gasOf, ColumnTracersNeed, AreTracersMoved}
@@ -49,24 +50,29 @@ pub record ColumnsAirNeed (air table : List ℕ) (cells k : ℕ) : Type 0 where
 
 pub record ColumnsTracersNeed (tracers air table : List ℕ) (cells k n : ℕ) : Type 0 where
   pub moves : ColumnsAirNeed air table cells k
+  pub someTracers : 1 ≤ n
   pub few : n ≤ mostTracers
   pub long : length tracers ≡ n * (k * cells)
   pub totals : (t : ℕ) → t < n → sum (k * cells) (at (gasOf k cells tracers t)) ≤ totalLimit
 
--- all columns are remapped; the walks, one for each tracer and column, take no more steps than their budgets together, each one less than its own
-pub record AreMoved (tracers air table : List ℕ) (cells k n : ℕ) (newTracers newAir : List ℕ) (steps : ℕ) : Type 0 where
+-- all columns are remapped; the walks, one for each tracer and column, take no more steps than their budgets together, each one less than its own;
+-- the count is exactly the columns' counts added up
+pub record AreMoved (tracers air table : List ℕ) (cells k n : ℕ) (newTracers newAir : List ℕ) (steps count : ℕ) : Type 0 where
   pub tracersAre : newTracers ≡ allMoved n k cells table air tracers
   pub airIs : newAir ≡ airMoved k cells table air
   pub most : steps ≤ n * cells * budget k
   pub exact : steps + n * cells ≡ n * cells * budget k
+  pub counted : count ≡ sum cells (countAt k cells table air)
 
 -- the first c columns are
-pub record MovedUpto (tracers air table : List ℕ) (cells k n c : ℕ) (nowTracers nowAir : List ℕ) (steps : ℕ) : Type 0 where
+pub record MovedUpto (tracers air table : List ℕ) (cells k n c : ℕ) (nowTracers nowAir : List ℕ) (steps count : ℕ) : Type 0 where
   pub airUpto : Upto k cells (airNew k cells table air) air c nowAir
   pub long : length nowTracers ≡ length tracers
   pub each :
       (t : ℕ) → t < n → Upto k cells (gasNew k cells table air (gasOf k cells tracers t)) (gasOf k cells tracers t) c (gasOf k cells nowTracers t)
   pub made : steps + n * c ≡ n * c * budget k
+  pub counted : count ≡ sum c (countAt k cells table air)
+  pub fewPairs : count ≤ budget mostLayers * c
 
 -- ---- the air
 module _
@@ -141,18 +147,20 @@ module _ {tracers air table : List ℕ} {cells k n : ℕ} (need : ColumnsTracers
   gas-long : {t : ℕ} → t < n → length (gasOf k cells tracers t) ≡ k * cells
   gas-long h = length-gas tracers n (k * cells) (need .long) h
 
-  pub moved-none : MovedUpto tracers air table cells k n 0 tracers air 0
+  pub moved-none : MovedUpto tracers air table cells k n 0 tracers air 0 0
   moved-none =
       record {
         airUpto = upto-none (need .moves .columns .long);
         long = refl;
         each = λ t h. upto-none (gas-long h);
         made = omega arith;
+        counted = sym (sum-none _);
+        fewPairs = omega arith;
       }
 
   module _
-      {c : ℕ} (h : c < cells) {nowTracers nowAir : List ℕ} {steps : ℕ}
-      (upto : MovedUpto tracers air table cells k n c nowTracers nowAir steps) where
+      {c : ℕ} (h : c < cells) {nowTracers nowAir : List ℕ} {steps count : ℕ}
+      (upto : MovedUpto tracers air table cells k n c nowTracers nowAir steps count) where
     -- the sum of the steps fits
     pub all-steps : (s : ℕ) → s + n ≡ n * budget k → steps + s ≤ mostTracers * mostLayerCells * budget mostLayers
     all-steps s made =
@@ -172,23 +180,31 @@ module _ {tracers air table : List ℕ} {cells k n : ℕ} (need : ColumnsTracers
             spans = column-spans (need .moves .columns .fit) (need .moves .columns .some) old (need .moves .edges c h);
             place = h;
             fewCells = need .moves .columns .few;
+            someTracers = need .someTracers;
             fewTracers = need .few;
             long = upto .long ∙ need .long;
             totals = λ t p. column-total (gas-long p) h (upto .each t p) (need .totals t p);
           }
 
-      pub moved-more : {nextTracers new nextAir : List ℕ} (s : ℕ) → AreTracersMoved nowTracers a e c cells k n nextTracers → s + n ≡ n * budget k →
-          IsNewAir k e new → nextAir ≡ columnSet cells nowAir c (at new) k → MovedUpto tracers air table cells k n (c + 1) nextTracers nextAir (steps + s)
-      moved-more s tracersMoved steps-are made stored =
+      -- the pairs of this column
+      pub pairs-here : {ends : ℕ} → IsCounted k a e ends → countAt k cells table air c + ends ≡ budget k
+      pairs-here {ends} counted = ap (λ (l : List ℕ). columnCount k table l + ends) (sym (old .airIs)) ∙ counted .is table (column-edges old)
+
+      pub moved-more : {nextTracers new nextAir : List ℕ} (s : ℕ) {ends : ℕ} → AreTracersMoved nowTracers a e c cells k n nextTracers → s + n ≡ n * budget k →
+          IsCounted k a e ends → IsNewAir k e new → nextAir ≡ columnSet cells nowAir c (at new) k →
+          MovedUpto tracers air table cells k n (c + 1) nextTracers nextAir (steps + s) (count + (budget k - ends))
+      moved-more s tracersMoved steps-are counted made stored =
           record {
             airUpto = air-more (need .moves) h (upto .airUpto) is made stored;
             long = tracersMoved .long ∙ upto .long;
             each = λ t p. gas-more (gas-long p) h old (upto .each t p) (tracersMoved .each t p);
             made = omega (arith, upto .made);
+            counted = omega (arith, upto .counted, pairs-here counted, sum-more c (countAt k cells table air));
+            fewPairs = omega (arith, upto .fewPairs, need .moves .columns .fit);
           }
 
-  pub moved-all : {c : ℕ} {nowTracers nowAir : List ℕ} {steps : ℕ} → cells ≤ c → MovedUpto tracers air table cells k n c nowTracers nowAir steps →
-      AreMoved tracers air table cells k n nowTracers nowAir steps
+  pub moved-all : {c : ℕ} {nowTracers nowAir : List ℕ} {steps count : ℕ} → cells ≤ c → MovedUpto tracers air table cells k n c nowTracers nowAir steps count →
+      AreMoved tracers air table cells k n nowTracers nowAir steps count
   moved-all {c} {nowTracers} all upto =
       let done : c ≡ cells = omega (arith, upto .airUpto .inside) in
       let exact = rw done at (upto .made) in
@@ -199,4 +215,5 @@ module _ {tracers air table : List ℕ} {cells k n : ℕ} (need : ColumnsTracers
         airIs = upto-all (need .moves .columns .long) (need .moves .some) all (upto .airUpto);
         most = omega (arith, exact);
         exact = exact;
+        counted = rw done at (upto .counted);
       }

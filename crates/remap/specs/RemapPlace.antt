@@ -2,20 +2,22 @@
 use Prim.Native.Nat.{ℕ, _+_, _*_}
 use mathlib.Core.List.{List, [], _∷_}
 use mathlib.Core.Bool.{Bool, true, not}
-use mathlib.Core.Path.{_≡_, ap₂}
+use mathlib.Core.Path.{_≡_, refl, ap₂}
 use native.Mathlib.Omega.{arith}
 use lib.ListN.{length}
+use Rattle.model.specs.Basic.{every}
 use Rattle.model.specs.World.{World, layerCells, withAmounts}
 use Rattle.model.specs.Remap.{column, remapServes, remapCount, remapped, remappedAir, remappedGas}
 use Rattle.model.specs.Step.{Place, place, tableFits, remap}
 use Rattle.model.specs.Laws.Grid.{in-range, layer-cells-most}
 use Rattle.model.specs.Laws.Step.{Fits}
 use Rattle.model.specs.Laws.Remap.{remap-edges}
-use Rattle.units.specs.Answer.{numberOf, countOf, Agrees}
+use Rattle.units.specs.declared.Answer.the-variants.{Accepted}
+use Rattle.units.specs.Answer.{Agrees}
 use Rattle.units.specs.Agrees.{accepted-agrees}
 use Rattle.places.specs.declared.Placed.{Placed}
 use Rattle.places.specs.Walk.{Left, IsPlaced, Like, none}
-use Rattle.remap.specs.Served.{ColumnsNeed, AreServed}
+use Rattle.remap.specs.Served.{ColumnsNeed, servesAt}
 use Rattle.remap.specs.Moved.{ColumnsAirNeed, ColumnsTracersNeed, AreMoved}
 
 -- the place behind the table: some column's edges do not serve
@@ -28,7 +30,6 @@ pub record ColumnsFound (w : World) (table : List ℕ) (p : Placed) : Type 0 whe
   pub fits : Fits w
   pub pairs : length table ≡ 2 * (w .grid .K + 1)
   pub tableFit : tableFits (w .grid .K) table ≡ true
-  pub counted : countOf (p .answer) ≡ remapCount w table
 
 abbrev pub IsRemapPlace : World → List ℕ → Placed → Type 0
 IsRemapPlace w table p = IsPlaced w (Like w (remap table)) (p .answer) (ColumnsFound w table p)
@@ -48,14 +49,11 @@ module _ (w : World) {cells : ℕ} (e : cells ≡ layerCells (w .grid)) {table :
         airIn = rw e (fits .air);
       }
 
-  module _ {ok : Bool} {count : ℕ} (served : AreServed (w .air) table cells (w .grid .K) ok count) where
-    pub serves-is : ok ≡ remapServes w table
-    unfolding remapServes column
-    serves-is = rw e at (served .is)
-
-    pub count-is : ok ≡ true → count ≡ remapCount w table
-    unfolding remapCount column
-    count-is h = rw e at (served .counted h)
+pub serves-is :
+    (w : World) {cells : ℕ} → cells ≡ layerCells (w .grid) → (table : List ℕ) {ok : Bool} →
+    ok ≡ every cells (servesAt (w .grid .K) cells table (w .air)) → ok ≡ remapServes w table
+unfolding remapServes column
+serves-is w e table served = rw e at served
 
 -- ---- the call, once its places are passed
 module _ {w : World} {table : List ℕ} {p : Placed} (found : ColumnsFound w table p) {cells : ℕ} (e : cells ≡ layerCells (w .grid)) where
@@ -72,14 +70,15 @@ module _ {w : World} {table : List ℕ} {p : Placed} (found : ColumnsFound w tab
   tracers-need =
       record {
         moves = air-need;
+        someTracers = in-range (w .grid) (found .fits .grid) .lowN;
         few = in-range (w .grid) (found .fits .grid) .highN;
         long = rw e (found .fits .tracersLength);
         totals = rw e (found .fits .totals);
       }
 
-  pub remap-agrees : {newTracers newAir : List ℕ} {steps : ℕ} → numberOf (p .answer) ≡ 0 →
-      AreMoved (w .tracers) (w .air) table cells (w .grid .K) (w .grid .N) newTracers newAir steps →
-      Agrees w (remap table) (p .answer) (withAmounts w newAir newTracers)
-  unfolding remapped remappedAir remappedGas column
-  remap-agrees zero moved =
-      accepted-agrees (none (found .left)) zero (found .counted) (ap₂ (withAmounts w) (rw e at (moved .airIs)) (rw e at (moved .tracersAre)))
+  pub remap-agrees : {newTracers newAir : List ℕ} {steps count : ℕ} →
+      AreMoved (w .tracers) (w .air) table cells (w .grid .K) (w .grid .N) newTracers newAir steps count →
+      Agrees w (remap table) (Accepted count) (withAmounts w newAir newTracers)
+  unfolding remapped remappedAir remappedGas remapCount column
+  remap-agrees moved =
+      accepted-agrees (none (found .left)) refl (rw e at (moved .counted)) (ap₂ (withAmounts w) (rw e at (moved .airIs)) (rw e at (moved .tracersAre)))

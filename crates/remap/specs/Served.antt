@@ -1,22 +1,22 @@
--- A column with its edges, place 12 for all columns, and the count of pairs.
+-- A column with its edges, and place 12 for all columns.
 use Prim.Native.Nat.{ℕ, suc, _+_, _*_, _≤_, _<_}
 use mathlib.Core.List.{List}
-use mathlib.Core.Bool.{Bool, true, false, _&&_, true≢false}
+use mathlib.Core.Bool.{Bool, true, false, _&&_}
 use mathlib.Core.Path.{_≡_, sym, ap, ap₂, _∙_}
 use native.Mathlib.Omega.{arith}
 use lib.ListN.{length}
 use Rattle.model.specs.Limits.{airLimit, mostLayers, mostLayerCells}
-use Rattle.model.specs.Basic.{at, sum, every}
+use Rattle.model.specs.Basic.{at, every}
 use Rattle.model.specs.World.{airFits}
 use Rattle.model.specs.Remap.{airAbove, edgesServe, columnCount}
 use Rattle.model.specs.Step.{tableFits}
-use Rattle.model.specs.Laws.Basic.{at-tab, every-none, every-more, every-false, sum-none, sum-more, sum-tab}
+use Rattle.model.specs.Laws.Basic.{at-tab, every-none, every-more, every-false, sum-tab}
 use Rattle.model.specs.Laws.Substep.{air-bounds}
-use Rattle.model.specs.Laws.Column.{Edges, edges-serve}
+use Rattle.model.specs.Laws.Column.{Edges}
 use Rattle.line.specs.Line as line
 use Rattle.line.specs.Line.{AirNeed, IsAirSum, Served}
 use Rattle.column.specs.Column.{firsts, AreEdges}
-use Rattle.column.specs.Gas.{Spans, IsPairs}
+use Rattle.column.specs.Gas.{Spans}
 use Rattle.column.specs.Laws.{serving-is}
 use Rattle.remap.specs.Columns.{ColumnNeed, columnOf, cell-room}
 
@@ -121,52 +121,27 @@ servesAt k cells table air c = edgesServe k table (columnSum k cells air c)
 abbrev pub countAt : ℕ → ℕ → List ℕ → List ℕ → ℕ → ℕ
 countAt k cells table air c = columnCount k table (columnOf k cells air c)
 
--- ok says whether every column's edges serve; then the count is exactly the columns' counts added up
-pub record AreServed (air table : List ℕ) (cells k : ℕ) (ok : Bool) (count : ℕ) : Type 0 where
-  pub is : ok ≡ every cells (servesAt k cells table air)
-  pub counted : ok ≡ true → count ≡ sum cells (countAt k cells table air)
-
 -- the first c columns serve
-pub record ServedUpto (air table : List ℕ) (cells k c count : ℕ) : Type 0 where
+pub record ServedUpto (air table : List ℕ) (cells k c : ℕ) : Type 0 where
   pub inside : c ≤ cells
   pub serve : every c (servesAt k cells table air) ≡ true
-  pub counted : count ≡ sum c (countAt k cells table air)
-  pub few : count ≤ 64 * c
 
 module _ {air table : List ℕ} {cells k : ℕ} (need : ColumnsNeed air table cells k) where
-  pub upto-start : ServedUpto air table cells k 0 0
-  upto-start = record { inside = omega arith; serve = every-none _; counted = sym (sum-none _); few = omega arith }
+  pub upto-start : ServedUpto air table cells k 0
+  upto-start = record { inside = omega arith; serve = every-none _ }
 
   module _ {c : ℕ} (h : c < cells) {a e : List ℕ} (is : IsColumn air table c cells k a e) where
-    pub not-served : {r : Bool} → r ≡ every k (line.servesAt e) → r ≡ false → AreServed air table cells k false 0
-    not-served tested fails =
+    pub not-served : {r : Bool} → r ≡ every k (line.servesAt e) → r ≡ false → false ≡ every cells (servesAt k cells table air)
+    not-served tested fails = sym (every-false cells (servesAt k cells table air) c h (sym (tested ∙ serving-is (is .edgesAre)) ∙ fails))
+
+    pub one-more : {r : Bool} → r ≡ every k (line.servesAt e) → r ≡ true → ServedUpto air table cells k c → ServedUpto air table cells k (c + 1)
+    one-more tested served upto =
         record {
-          is = sym (every-false cells (servesAt k cells table air) c h (sym (tested ∙ serving-is (is .edgesAre)) ∙ fails));
-          counted = λ q. absurd (true≢false (sym q));
+          inside = omega arith;
+          serve = every-more c (servesAt k cells table air) ∙ ap₂ _&&_ (upto .serve) (sym (tested ∙ serving-is (is .edgesAre)) ∙ served);
         }
 
-    module _ {r : Bool} (tested : r ≡ every k (line.servesAt e)) (served : r ≡ true) where
-      serves-here : servesAt k cells table air c ≡ true
-      serves-here = sym (tested ∙ serving-is (is .edgesAre)) ∙ served
-
-      pub spans-here : Spans k a e
-      spans-here = column-spans (need .fit) (need .some) is (edges-serve k table _ (need .fits) serves-here)
-
-      pub one-more : {count n : ℕ} → ServedUpto air table cells k c count → IsPairs k a e n → ServedUpto air table cells k (c + 1) (count + n)
-      one-more upto pairs =
-          record {
-            inside = omega arith;
-            serve = every-more c (servesAt k cells table air) ∙ ap₂ _&&_ (upto .serve) serves-here;
-            counted =
-                ap₂ _+_ (upto .counted) (pairs .is table (column-edges is) ∙ ap (columnCount k table) (is .airIs)) ∙
-                sym (sum-more c (countAt k cells table air));
-            few = omega (arith, upto .few, pairs .most, need .fit);
-          }
-
-  pub all-served : {c count : ℕ} → ServedUpto air table cells k c count → cells ≤ c → AreServed air table cells k true count
+  pub all-served : {c : ℕ} → ServedUpto air table cells k c → cells ≤ c → true ≡ every cells (servesAt k cells table air)
   all-served {c} upto done =
       let e : c ≡ cells = omega (arith, upto .inside) in
-      record {
-        is = sym (upto .serve) ∙ ap (λ (n : ℕ). every n (servesAt k cells table air)) e;
-        counted = λ q. upto .counted ∙ ap (λ (n : ℕ). sum n (countAt k cells table air)) e;
-      }
+      sym (upto .serve) ∙ ap (λ (n : ℕ). every n (servesAt k cells table air)) e

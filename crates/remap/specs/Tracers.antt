@@ -13,7 +13,7 @@ use Rattle.model.specs.Walk.{budget}
 use Rattle.model.specs.Laws.Basic.{length-rewritten, part-rewritten, part-not-rewritten}
 use Rattle.units.specs.EachTracer.{length-gas}
 use Rattle.substep.specs.Lent.{part-lent, put-back}
-use Rattle.column.specs.Gas.{Spans}
+use Rattle.column.specs.Gas.{Spans, IsCounted}
 use Rattle.remap.specs.Columns.{columnOf}
 use Rattle.remap.specs.Gas.{GasNeed, IsGasMoved}
 
@@ -25,6 +25,7 @@ pub record ColumnTracersNeed (tracers air e : List ℕ) (c cells k n : ℕ) : Ty
   pub spans : Spans k air e
   pub place : c < cells
   pub fewCells : cells ≤ mostLayerCells
+  pub someTracers : 1 ≤ n
   pub fewTracers : n ≤ mostTracers
   pub long : length tracers ≡ n * (k * cells)
   pub totals : (t : ℕ) → t < n → sum k (at (columnOf k cells (gasOf k cells tracers t) c)) ≤ totalLimit
@@ -34,23 +35,31 @@ pub record AreTracersMoved (tracers air e : List ℕ) (c cells k n : ℕ) (next 
   pub long : length next ≡ length tracers
   pub each : (t : ℕ) → t < n → IsGasMoved (gasOf k cells tracers t) air e c cells k (gasOf k cells next t)
 
--- in each of the first t, by a walk of one step less than the budget
-pub record TracersUpto (tracers air e : List ℕ) (c cells k n t : ℕ) (now : List ℕ) (steps : ℕ) : Type 0 where
+-- in each of the first t, by a walk of one step less than the budget; the last of them has passed so many ends
+pub record TracersUpto (tracers air e : List ℕ) (c cells k n t : ℕ) (now : List ℕ) (steps ends : ℕ) : Type 0 where
   pub inside : t ≤ n
   pub long : length now ≡ length tracers
   pub done : (u : ℕ) → u < t → IsGasMoved (gasOf k cells tracers u) air e c cells k (gasOf k cells now u)
   pub left : (u : ℕ) → t ≤ u → u < n → gasOf k cells now u ≡ gasOf k cells tracers u
   pub made : steps + t ≡ t * budget k
+  pub counted : 1 ≤ t → IsCounted k air e ends
 
 module _ {tracers air e : List ℕ} {c cells k n : ℕ} (need : ColumnTracersNeed tracers air e c cells k n) where
   abbrev m : ℕ
   m = k * cells
 
-  pub tracers-none : TracersUpto tracers air e c cells k n 0 tracers 0
+  pub tracers-none : TracersUpto tracers air e c cells k n 0 tracers 0 0
   tracers-none =
-      record { inside = omega arith; long = refl; done = λ u h. absurd (omega arith); left = λ u h p. refl; made = omega arith }
+      record {
+        inside = omega arith;
+        long = refl;
+        done = λ u h. absurd (omega arith);
+        left = λ u h p. refl;
+        made = omega arith;
+        counted = λ h. absurd (omega arith);
+      }
 
-  module _ {t : ℕ} (h : t < n) {now : List ℕ} {steps : ℕ} (upto : TracersUpto tracers air e c cells k n t now steps) where
+  module _ {t : ℕ} (h : t < n) {now : List ℕ} {steps ends : ℕ} (upto : TracersUpto tracers air e c cells k n t now steps ends) where
     -- where tracer t's part ends, and what is lent of it, `&mut tracers[a..b]` with b = a + m
     pub tracer-room : (t * m + m ≤ length now) × (t * m + m ≤ mostAmounts)
     tracer-room =
@@ -97,8 +106,8 @@ module _ {tracers air e : List ℕ} {c cells k n : ℕ} (need : ColumnTracersNee
       next-other : (u : ℕ) → (u ≡ t → ⊥) → gasOf k cells next u ≡ gasOf k cells now u
       next-other u other = ap (λ (l : List ℕ). part l (u * m) m) back ∙ part-not-rewritten now new n m t whole size h u other
 
-      pub tracers-more : (s : ℕ) → s + 1 ≡ budget k → TracersUpto tracers air e c cells k n (t + 1) next (steps + s)
-      tracers-more s made =
+      pub tracers-more : (s : ℕ) {own : ℕ} → s + 1 ≡ budget k → IsCounted k air e own → TracersUpto tracers air e c cells k n (t + 1) next (steps + s) own
+      tracers-more s made counted =
           record {
             inside = omega arith;
             long = ap length back ∙ length-rewritten now new n m t whole size h ∙ sym (need .long);
@@ -110,10 +119,11 @@ module _ {tracers air e : List ℕ} {c cells k n : ℕ} (need : ColumnTracersNee
                 (eq-or-lt-of-le (omega arith));
             left = λ u p q. next-other u (λ (z : u ≡ t). omega arith) ∙ upto .left u (omega arith) q;
             made = omega (arith, upto .made);
+            counted = λ p. counted;
           }
 
-  pub tracers-all : {t : ℕ} {now : List ℕ} {steps : ℕ} → n ≤ t → TracersUpto tracers air e c cells k n t now steps →
-      AreTracersMoved tracers air e c cells k n now × (steps + n ≡ n * budget k)
+  pub tracers-all : {t : ℕ} {now : List ℕ} {steps ends : ℕ} → n ≤ t → TracersUpto tracers air e c cells k n t now steps ends →
+      AreTracersMoved tracers air e c cells k n now × (steps + n ≡ n * budget k) × IsCounted k air e ends
   tracers-all {t} all upto =
-      let e : t ≡ n = omega (arith, upto .inside) in
-      (record { long = upto .long; each = λ u h. upto .done u (omega arith) }, rw e at (upto .made))
+      let same : t ≡ n = omega (arith, upto .inside) in
+      (record { long = upto .long; each = λ u h. upto .done u (omega arith) }, rw same at (upto .made), upto .counted (omega (arith, need .someTracers)))

@@ -4,12 +4,13 @@ ghost use mathlib.Core.Bool.{_||_};
 ghost use Prim.Native.Nat.{_+_, _*_, _≤_, _<_};
 ghost use lib.Dec.{eqb};
 ghost use lib.ListN.{length};
-ghost use Rattle.model.specs.Basic.{at};
+ghost use Rattle.model.specs.Basic.{at, every};
 ghost use Rattle.model.specs.Walk.{budget};
 ghost use Rattle.substep.specs.Pieces.{HasAir, AreRatios};
 ghost use Rattle.column.specs.Column.{firsts};
+ghost use Rattle.column.specs.Gas.{IsCounted};
 ghost use Rattle.remap.specs.Columns.{ColumnNeed, columnOf, columnSet};
-ghost use Rattle.remap.specs.Served.{ReadNeed, IsColumn, ColumnsNeed, AreServed};
+ghost use Rattle.remap.specs.Served.{ReadNeed, IsColumn, ColumnsNeed, servesAt};
 ghost use Rattle.remap.specs.Gas.{GasNeed, IsGasMoved};
 ghost use Rattle.remap.specs.Tracers.{ColumnTracersNeed, AreTracersMoved};
 ghost use Rattle.remap.specs.Moved.{ColumnsTracersNeed, AreMoved};
@@ -18,9 +19,9 @@ ghost use Rattle.model.specs.Step.{remap as remap-call};
 ghost use Rattle.units.specs.Answer.{Agrees};
 ghost use Rattle.units.specs.Grid.{worldOf};
 use column::fill_edges;
-use column::pairs;
 use column::remap_gas;
 use column::table_fits;
+use line::Walked;
 use line::air_sum;
 use line::edges_serve;
 use line::new_air;
@@ -104,33 +105,22 @@ fn read_edges(
     fill_edges(table, p, k, e);
 }
 
-// Whether every column's edges serve; then the count: exactly the pairs of an old and a new layer that share air, in all columns, the caps' two included.
-struct Serving {
-    ok: bool,
-    count: u32,
-}
-
-// Place 12, before anything is written.
-fn columns_serve(air: &[u32], table: &[u32], cells: usize, k: usize) -> Serving
+// Place 12, before anything is written: whether every column's edges serve.
+fn columns_serve(air: &[u32], table: &[u32], cells: usize, k: usize) -> bool
     requires { ⌜ ColumnsNeed (now air) (now table) cells k ⌝ }
-    ensures { λ r. ⌜ AreServed (now (air .entry)) (now (table .entry)) cells k (r .ok) (r .count) ⌝ }
+    ensures { λ r. ⌜ r ≡ every cells (servesAt k cells (now (table .entry)) (now (air .entry))) ⌝ }
 {
     let mut columnair = [0u32; MOST_LAYERS];
     let mut e = [0u64; MOST_EDGES];
-    let mut count: u32 = 0;
     let mut c = 0;
     while c < cells {
         read_edges(air, table, c, cells, k, &mut columnair, &mut e);
         if edges_serve(&e, k) {} else {
-            return Serving {
-                ok: false,
-                count: 0,
-            };
+            return false;
         }
-        count += pairs(&columnair, &e, k);
         c += 1;
     }
-    Serving { ok: true, count }
+    true
 }
 
 // Whether place c is a cap's.
@@ -141,7 +131,7 @@ fn is_cap(c: usize, cells: usize) -> bool
     (c == 0) | (c + 1 == cells)
 }
 
-// Remaps one tracer in the column at place c, of which `air` and `e` have the old air and the new edges, and gives the steps of its walk. The lists after k are filled on the way; they are lent, so that they are made once for all tracers.
+// Remaps one tracer in the column at place c, of which `air` and `e` have the old air and the new edges, by one walk. The lists after k are filled on the way; they are lent, so that they are made once for all tracers.
 fn move_gas(
     gas: &mut [u32],
     air: &[u32],
@@ -154,18 +144,18 @@ fn move_gas(
     size: &mut [u64; MOST_LAYERS],
     rising: &mut [bool; MOST_LAYERS],
     newgas: &mut [u32; MOST_LAYERS],
-) -> usize
+) -> Walked
     requires { ⌜ GasNeed (now gas) (now air) (now e) c cells k ⌝ }
-    ensures { λ r. ⌜ IsGasMoved (now (gas .entry)) (now (air .entry)) (now (e .entry)) c cells k (now (gas .exit)) × (r + 1 ≡ budget k) ⌝ }
+    ensures { λ r. ⌜ IsGasMoved (now (gas .entry)) (now (air .entry)) (now (e .entry)) c cells k (now (gas .exit)) × (r .steps + 1 ≡ budget k) × IsCounted k (now (air .entry)) (now (e .entry)) (r .ends) ⌝ }
 {
     read_ratios(gas, air, c, cells, k, column, q);
     let cap = is_cap(c, cells);
-    let steps = remap_gas(air, column, cap, e, k, q, size, rising, newgas);
+    let walked = remap_gas(air, column, cap, e, k, q, size, rising, newgas);
     write_column(newgas, gas, c, cells, k);
-    steps
+    walked
 }
 
-// Remaps the n tracers in that column, one after the other, and gives the steps of their walks.
+// Remaps the n tracers in that column, one after the other, and gives the steps of their walks together; the ends are those of each of them, since all walks go by the same air and edges.
 fn move_column(
     tracers: &mut [u32],
     air: &[u32],
@@ -174,9 +164,9 @@ fn move_column(
     cells: usize,
     k: usize,
     n: usize,
-) -> usize
+) -> Walked
     requires { ⌜ ColumnTracersNeed (now tracers) (now air) (now e) c cells k n ⌝ }
-    ensures { λ r. ⌜ AreTracersMoved (now (tracers .entry)) (now (air .entry)) (now (e .entry)) c cells k n (now (tracers .exit)) × (r + n ≡ n * budget k) ⌝ }
+    ensures { λ r. ⌜ AreTracersMoved (now (tracers .entry)) (now (air .entry)) (now (e .entry)) c cells k n (now (tracers .exit)) × (r .steps + n ≡ n * budget k) × IsCounted k (now (air .entry)) (now (e .entry)) (r .ends) ⌝ }
 {
     let mut column = [0u32; MOST_LAYERS];
     let mut q = [0u64; MOST_LAYERS];
@@ -184,11 +174,12 @@ fn move_column(
     let mut rising = [false; MOST_LAYERS];
     let mut newgas = [0u32; MOST_LAYERS];
     let mut steps = 0;
+    let mut ends = 0;
     let mut t = 0;
     while t < n {
         let a = t * (k * cells);
         let b = a + k * cells;
-        steps += move_gas(
+        let walked = move_gas(
             &mut tracers[a..b],
             air,
             e,
@@ -201,12 +192,20 @@ fn move_column(
             &mut rising,
             &mut newgas,
         );
+        steps += walked.steps;
+        ends = walked.ends;
         t += 1;
     }
-    steps
+    Walked { steps, ends }
 }
 
-// Remaps all columns, one after the other, and gives the steps of all walks. A column's air is written last: the walks go by what it was.
+// The steps of all walks, and exactly the pairs of an old and a new layer that share air, in all columns.
+struct Moved {
+    steps: usize,
+    count: u32,
+}
+
+// Remaps all columns, one after the other. A column's air is written last: the walks go by what it was.
 fn move_columns(
     tracers: &mut [u32],
     air: &mut [u32],
@@ -214,25 +213,29 @@ fn move_columns(
     cells: usize,
     k: usize,
     n: usize,
-) -> usize
+) -> Moved
     requires { ⌜ ColumnsTracersNeed (now tracers) (now air) (now table) cells k n ⌝ }
-    ensures { λ r. ⌜ AreMoved (now (tracers .entry)) (now (air .entry)) (now (table .entry)) cells k n (now (tracers .exit)) (now (air .exit)) r ⌝ }
+    ensures { λ r. ⌜ AreMoved (now (tracers .entry)) (now (air .entry)) (now (table .entry)) cells k n (now (tracers .exit)) (now (air .exit)) (r .steps) (r .count) ⌝ }
 {
     let mut columnair = [0u32; MOST_LAYERS];
     let mut e = [0u64; MOST_EDGES];
     let mut steps = 0;
+    let mut count: u32 = 0;
     let mut c = 0;
     while c < cells {
         read_edges(air, table, c, cells, k, &mut columnair, &mut e);
-        steps += move_column(tracers, &columnair, &e, c, cells, k, n);
+        let walked = move_column(tracers, &columnair, &e, c, cells, k, n);
+        steps += walked.steps;
+        let pairs = 2 * k - walked.ends;
+        count += pairs as u32;
         new_air(&e, k, &mut columnair);
         write_column(&columnair, air, c, cells, k);
         c += 1;
     }
-    steps
+    Moved { steps, count }
 }
 
-// Places 1 to 4, 11 and 12; the columns start at cell 0.
+// Places 1 to 4, 11 and 12; the columns start at cell 0. The count comes with the walks.
 fn remap_place(g: Grid, air: &[u32], tracers: &[u32], ledger: &[u32], table: &[u32]) -> Placed
     ensures { λ p. ⌜ IsRemapPlace (worldOf g (now (air .entry)) (now (tracers .entry)) (now (ledger .entry))) (now (table .entry)) p ⌝ }
 {
@@ -246,13 +249,11 @@ fn remap_place(g: Grid, air: &[u32], tracers: &[u32], ledger: &[u32], table: &[u
         return not_placed(Answer::Refused(Refusal::Table));
     }
     let cells = layer_cells(g) as usize;
-    let serving = columns_serve(air, table, cells, k);
-    if serving.ok {} else {
+    if columns_serve(air, table, cells, k) {} else {
         return not_placed(Answer::Refused(Refusal::Remap));
     }
-    let count = serving.count;
     Placed {
-        answer: Answer::Accepted(count),
+        answer: Answer::Accepted(0),
         first: 0,
         found: 0,
     }
@@ -270,6 +271,7 @@ pub fn remap(g: Grid, air: &mut [u32], tracers: &mut [u32], ledger: &[u32], tabl
     let cells = layer_cells(g) as usize;
     let k = g.k as usize;
     let n = g.n as usize;
-    move_columns(tracers, air, table, cells, k, n);
-    answer
+    let moved = move_columns(tracers, air, table, cells, k, n);
+    let count = moved.count;
+    Answer::Accepted(count)
 }

@@ -25,7 +25,7 @@ loop-holds : tie.Need-loop-holds Inv-loop μ-loop
 loop-holds c =
     let start : tie.Start Inv-loop μ-loop = search in
     let top = c .place-at .ensures in
-    (rw top (walking-start _ _ _ _ _ _ _ _ _ refl refl refl), rw top (λ h. zero-mod (start .args .n)), search needs)
+    (rw top (walking-start _ _ _ _ _ _ _ _ _ refl refl refl refl), rw top (λ h. zero-mod (start .args .n)), search needs)
 
 -- where the walk stands on the line
 here : (l : tie.At-loop Inv-loop μ-loop) →
@@ -69,8 +69,8 @@ loop-again c =
       search needs,
     )
 
-add-result : tie.Need-add-result Inv-loop μ-loop
-add-result c =
+add-steps : tie.Need-add-steps Inv-loop μ-loop
+add-steps c =
     let start : tie.Start Inv-loop μ-loop = search in
     omega (arith, here (search), start .pre .fit, start .pre .few)
 
@@ -78,7 +78,7 @@ returns : tie.Need-returns Inv-loop μ-loop
 returns c =
     let start : tie.Start Inv-loop μ-loop = search in
     let l : tie.At-loop Inv-loop μ-loop = search in
-    walk-is (start .pre) (l .loop .inv .0 .stands) (omega arith) (l .loop .inv .0 .made)
+    walk-is (start .pre) (l .loop .inv .0 .stands) (omega arith) (l .loop .inv .0 .made) (l .loop .inv .0 .ended)
 
 pub tracer-between-spec : {M : Type 1} → statement M
-tracer-between-spec = tie.close (tie.spec Inv-loop μ-loop (λ c κs. search needs) loop-holds walk-turn-requires loop-less loop-again add-result (λ c. search needs) returns)
+tracer-between-spec = tie.close (tie.spec Inv-loop μ-loop (λ c κs. search needs) loop-holds walk-turn-requires loop-less loop-again add-steps (λ c. search needs) returns)

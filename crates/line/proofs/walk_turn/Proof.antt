@@ -1,7 +1,8 @@
 -- `line::walk_turn` meets its contract. The loop's invariant: the definition's walk stands where the code's does, in cell c of the turn,
--- and a step has passed each new cell up to there.
+-- a step has passed each new cell up to there, and the ends passed are counted.
 -- The measure is what is left of the cells and of the new cells. Assumes nothing.
 use Prim.Native.Nat.{ℕ, _+_, _*_, _-_, _%_, _≤_, _<_}
+use mathlib.Core.Logic.{⊎-elim}
 use mathlib.Core.Path.{_≡_, sym, ap, _∙_}
 use native.Mathlib.Omega.{arith}
 use lib.ListN.{length}
@@ -9,24 +10,26 @@ use Rattle.model.specs.Limits.{mostColumns}
 use Rattle.model.specs.Basic.{at}
 use Rattle.model.specs.Scheme.{lowPiece}
 use Rattle.model.specs.Walk.{Passes}
+use Rattle.model.specs.Laws.Basic.{le-or-lt}
 use Rattle.model.specs.Laws.Entries.{entries-more}
-use Rattle.line.specs.Line.{slopeIn, lineWalk}
-use Rattle.line.specs.Tracer.{place, in-turn, turn-start, made-more, stands-here, passed-fits, gas-fits, ahead-here, walk-cell, walk-edge, mark-rises, edge-passes, cell-giver}
+use Rattle.line.specs.Line.{slopeIn, lineWalk, lineEnds}
+use Rattle.line.specs.Tracer.{place, in-turn, turn-start, ends-few, made-more, stands-here, passed-fits, gas-fits, ahead-here, walk-cell, ends-cell, ends-inside, ends-end, whole-cell, walk-edge, mark-rises, edge-passes, cell-giver}
 use Rattle.units.specs.The.{the}
 use borrow.Author.Needs.{needs}
 use Rattle.line.proofs.walk_turn.Statement.{statement}
 use Rattle.line.proofs.walk_turn.Tie as tie
 
 abbrev Inv-loop : tie.InvT-loop
-Inv-loop air gas size rising n e m newgas₀ first c₀ passed₀ whole₀ j₀ last₀ newgas c passed whole j last =
+Inv-loop air gas size rising n e m newgas₀ first c₀ passed₀ whole₀ j₀ last₀ ends₀ newgas c passed whole j last ends =
     (lineWalk n air gas size rising e m (first + c + j) ≡ place (first + c) (passed .0) (whole .0) j (last .0))
     × (c < n)
     × (length newgas ≡ length newgas₀)
     × ((t : ℕ) → t < j → (s : ℕ) × (s < first + c + j) × Passes (lineWalk n air gas size rising e m) t (at newgas t) s)
     × (j₀ ≤ j)
+    × (ends ≡ lineEnds n air gas size rising e m (first + c + j))
 
 abbrev μ-loop : tie.MeasureT-loop
-μ-loop air gas size rising n e m newgas₀ first c₀ passed₀ whole₀ j₀ last₀ newgas c passed whole j last = (n - c) + (m - j)
+μ-loop air gas size rising n e m newgas₀ first c₀ passed₀ whole₀ j₀ last₀ ends₀ newgas c passed whole j last ends = (n - c) + (m - j)
 
 -- the function's start, which `search` does not find from the end of a turn
 abbrev start-of : tie.At-loop Inv-loop μ-loop → tie.Start Inv-loop μ-loop
@@ -36,7 +39,7 @@ loop-holds : tie.Need-loop-holds Inv-loop μ-loop
 loop-holds c =
     let start : tie.Start Inv-loop μ-loop = search in
     let begun = turn-start (start .pre) in
-    (begun .0, start .pre .line .some, search needs, begun .1, search needs)
+    (begun .0, start .pre .line .some, search needs, begun .1, search needs, begun .2)
 
 -- the cell's place in the line
 here : (l : tie.At-loop Inv-loop μ-loop) → (start-of l .args .start .i + l .loop .c) % start-of l .args .n ≡ l .loop .c
@@ -109,17 +112,138 @@ cell-passed c =
     let next : a .start .i + (l .loop .c + 1) ≡ a .start .i + l .loop .c + 1 = omega arith in
     rw next (walk-cell (start-of l .pre .line) (l .loop .inv .0) h (ends (search)) (omega (arith, c .plus .ensures, t)) lt)
 
+-- and no end
+cell-ends : (c : tie.After-plus Inv-loop μ-loop) →
+    let l : tie.At-loop Inv-loop μ-loop = search in
+    let a = start-of l .args in
+    l .loop .ends ≡ lineEnds (a .n) (a .air .now) (a .gas .now) (a .size .now) (a .rising .now) (a .e .now) (a .m) (a .start .i + (l .loop .c + 1) + l .loop .j)
+cell-ends c =
+    let l : tie.At-loop Inv-loop μ-loop = search in
+    let a = start-of l .args in
+    let lt = the (tie.Then1 Inv-loop μ-loop) (search) .if1 .taken in
+    let h = the (tie.In-loop Inv-loop μ-loop) (search) .loop-test .taken in
+    let next : a .start .i + (l .loop .c + 1) ≡ a .start .i + l .loop .c + 1 = omega arith in
+    rw next (l .loop .inv .5 ∙ sym (ends-cell (start-of l .pre .line) (l .loop .inv .0) h (omega (arith, lt, ends (search)))))
+
 returns : tie.Need-returns Inv-loop μ-loop
 returns c =
     let l : tie.At-loop Inv-loop μ-loop = search in
     let done : l .loop .c + 1 ≡ start-of l .args .n = search in
     rw (c .place-at .ensures)
-    (record { walking = record { stands = cell-passed (search); made = made-more (l .loop .newgas) (omega arith) (l .loop .inv .3) }; turned = λ _. omega (arith, done); onward = (omega arith, l .loop .inv .4) })
+    (record { walking = record { stands = cell-passed (search); made = made-more (l .loop .newgas) (omega arith) (l .loop .inv .3); ended = cell-ends (search) }; turned = λ _. omega (arith, done); onward = (omega arith, l .loop .inv .4) })
 
 loop-again : tie.Need-loop-again Inv-loop μ-loop
 loop-again c =
     let l : tie.At-loop Inv-loop μ-loop = search in
-    (cell-passed (search), search needs, l .loop .inv .2, made-more (l .loop .newgas) (omega arith) (l .loop .inv .3), l .loop .inv .4)
+    (cell-passed (search), search needs, l .loop .inv .2, made-more (l .loop .newgas) (omega arith) (l .loop .inv .3), l .loop .inv .4, cell-ends (search))
+
+-- the cell does not end before the edge
+reached :
+    (c : tie.Else1 Inv-loop μ-loop) →
+    let l : tie.At-loop Inv-loop μ-loop = search in
+    let a = start-of l .args in
+    at (a .e .now) (l .loop .j + 1) ≤ l .loop .passed .0 + at (a .air .now) ((a .start .i + l .loop .c) % a .n)
+reached c = omega (arith, c .if1 .left, ends (search))
+
+-- new cell j is one of at most 73, and the list has room for it
+new-cell : (c : tie.In-loop Inv-loop μ-loop) →
+    let l = the (tie.At-loop Inv-loop μ-loop) (search) .loop in
+    (l .j < mostColumns + 1) × (l .j < length (l .newgas))
+new-cell c =
+    let l : tie.At-loop Inv-loop μ-loop = search in
+    let line = start-of l .pre .line in
+    (omega (arith, c .loop-test .taken, line .few), omega (arith, c .loop-test .taken, line .room, l .loop .inv .2))
+
+-- ---- an edge at the cell's end
+at-end : (c : tie.Then3 Inv-loop μ-loop) →
+    let l : tie.At-loop Inv-loop μ-loop = search in
+    let a = start-of l .args in
+    at (a .e .now) (l .loop .j + 1) ≡ l .loop .passed .0 + at (a .air .now) ((a .start .i + l .loop .c) % a .n)
+at-end c = omega (arith, c .if3 .taken, ends (search))
+
+plus-requires-2 : tie.Need-plus-requires-2 Inv-loop μ-loop
+plus-requires-2 c κs = omega (arith, fits (search))
+
+-- what the code adds up there
+adds-cell :
+    (c : tie.After-plus2 Inv-loop μ-loop) →
+    let l : tie.At-loop Inv-loop μ-loop = search in
+    let a = start-of l .args in
+    let i = a .start .i + l .loop .c in
+    c .plus2 .result .0 ≡
+    l .loop .whole .0 +
+    lowPiece (slopeIn (a .size .now) (a .rising .now) (i % a .n)) (at (a .air .now) (i % a .n)) (at (a .gas .now) (i % a .n))
+    (at (a .e .now) (l .loop .j + 1) - l .loop .passed .0)
+adds-cell c =
+    let l : tie.At-loop Inv-loop μ-loop = search in
+    let a = start-of l .args in
+    let h = the (tie.In-loop Inv-loop μ-loop) (search) .loop-test .taken in
+    let t = the (tie.After-tracer-at Inv-loop μ-loop) (search) .tracer-at .ensures ∙ ap (at (a .gas .now)) (sym (here l)) in
+    c .plus2 .ensures ∙ ap (λ (x : ℕ). l .loop .whole .0 + x) (t ∙ sym (whole-cell (start-of l .pre .line) (l .loop .inv .0) h (at-end (search))))
+
+minus-requires : tie.Need-minus-requires Inv-loop μ-loop
+minus-requires c κs =
+    let turn : tie.In-loop Inv-loop μ-loop = search in
+    let l : tie.At-loop Inv-loop μ-loop = search in
+    mark-rises (start-of l .pre .line) (l .loop .inv .0) (turn .loop-test .taken) (reached (search)) (adds-cell c)
+
+mul-newgas : tie.Need-mul-newgas Inv-loop μ-loop
+mul-newgas c = omega (arith, new-cell (search))
+
+slice-write-newgas : tie.Need-slice-write-newgas Inv-loop μ-loop
+slice-write-newgas c = new-cell (search) .1
+
+add-j : tie.Need-add-j Inv-loop μ-loop
+add-j c = omega (arith, new-cell (search))
+
+add-ends : tie.Need-add-ends Inv-loop μ-loop
+add-ends c =
+    let l : tie.At-loop Inv-loop μ-loop = search in
+    let a = start-of l .args in
+    omega (
+      arith,
+      l .loop .inv .5,
+      ends-few (a .n) (a .air .now) (a .gas .now) (a .size .now) (a .rising .now) (a .e .now) (a .m) (a .start .i + l .loop .c + l .loop .j),
+      room (search) .0,
+      new-cell (search) .0,
+    )
+
+loop-less-2 : tie.Need-loop-less-2 Inv-loop μ-loop
+loop-less-2 c =
+    let turn : tie.In-loop Inv-loop μ-loop = search in
+    omega (arith, turn .loop-test .taken)
+
+loop-again-2 : tie.Need-loop-again-2 Inv-loop μ-loop
+loop-again-2 c =
+    let turn : tie.In-loop Inv-loop μ-loop = search in
+    let l : tie.At-loop Inv-loop μ-loop = search in
+    let line = start-of l .pre .line in
+    let a = start-of l .args in
+    let i = a .start .i + l .loop .c in
+    let j = l .loop .j in
+    let h = turn .loop-test .taken in
+    let walked = lineWalk (a .n) (a .air .now) (a .gas .now) (a .size .now) (a .rising .now) (a .e .now) (a .m) in
+    let made : ℕ → ℕ → Type 0 = λ t x. (s : ℕ) × (s < i + (j + 1)) × Passes walked t x s in
+    let minus = the (tie.After-minus Inv-loop μ-loop) (search) .minus .ensures in (
+      walk-edge line (l .loop .inv .0) h (reached (search)) (adds-cell (search)),
+      l .loop .inv .1,
+      search needs,
+      entries-more _ (l .loop .newgas) j _ made (new-cell (search) .1) (made-more (l .loop .newgas) (omega arith) (l .loop .inv .3))
+          (i + j, omega arith, edge-passes line (l .loop .inv .0) h (reached (search)) (adds-cell (search)) minus),
+      search needs,
+      omega (arith, l .loop .inv .5, ends-end line (l .loop .inv .0) h (at-end (search))),
+    )
+
+-- ---- an edge inside the cell
+inside-it : (c : tie.Else3 Inv-loop μ-loop) →
+    let l : tie.At-loop Inv-loop μ-loop = search in
+    let a = start-of l .args in
+    at (a .e .now) (l .loop .j + 1) < l .loop .passed .0 + at (a .air .now) ((a .start .i + l .loop .c) % a .n)
+inside-it c =
+    ⊎-elim
+    (λ (p : _ ≤ _). absurd (c .if3 .left (omega (arith, p, reached (search), ends (search)))))
+    (λ (p : _ < _). p)
+    (le-or-lt _ _)
 
 air-inside-requires : tie.Need-air-inside-requires Inv-loop μ-loop
 air-inside-requires c κs =
@@ -145,16 +269,16 @@ low-piece-requires c κs =
     let part = the (tie.After-air-inside Inv-loop μ-loop) (search) .air-inside .ensures in
     cell-giver (start-of l .pre .line) (l .loop .inv .1) (c .slope-at .ensures) have t (omega (arith, part, end, reached))
 
-plus-requires-2 : tie.Need-plus-requires-2 Inv-loop μ-loop
-plus-requires-2 c κs = omega (arith, fits (search), c .low-piece .ensures .within)
+plus-requires-3 : tie.Need-plus-requires-3 Inv-loop μ-loop
+plus-requires-3 c κs = omega (arith, fits (search), c .low-piece .ensures .within)
 
 -- what the code adds up at the edge
 adds :
-    (c : tie.After-plus2 Inv-loop μ-loop) →
+    (c : tie.After-plus3 Inv-loop μ-loop) →
     let l : tie.At-loop Inv-loop μ-loop = search in
     let a = start-of l .args in
     let i = a .start .i + l .loop .c in
-    c .plus2 .result .0 ≡
+    c .plus3 .result .0 ≡
     l .loop .whole .0 +
     lowPiece (slopeIn (a .size .now) (a .rising .now) (i % a .n)) (at (a .air .now) (i % a .n)) (at (a .gas .now) (i % a .n))
     (at (a .e .now) (l .loop .j + 1) - l .loop .passed .0)
@@ -167,47 +291,30 @@ adds c =
     let part = the (tie.After-air-inside Inv-loop μ-loop) (search) .air-inside .ensures in
     let t = the (tie.After-tracer-at Inv-loop μ-loop) (search) .tracer-at .ensures ∙ ap (at (a .gas .now)) cell in
     let have = the (tie.After-air-at Inv-loop μ-loop) (search) .air-at .ensures ∙ ap (at (a .air .now)) cell in
-    c .plus2 .ensures ∙ ap (λ (x : ℕ). l .loop .whole .0 + x) (piece ∙ (λ z. lowPiece (slope z) (have z) (t z) (part z)))
+    c .plus3 .ensures ∙ ap (λ (x : ℕ). l .loop .whole .0 + x) (piece ∙ (λ z. lowPiece (slope z) (have z) (t z) (part z)))
 
--- the cell does not end before the edge
-reached :
-    (c : tie.Else1 Inv-loop μ-loop) →
-    let l : tie.At-loop Inv-loop μ-loop = search in
-    let a = start-of l .args in
-    at (a .e .now) (l .loop .j + 1) ≤ l .loop .passed .0 + at (a .air .now) ((a .start .i + l .loop .c) % a .n)
-reached c = omega (arith, c .if1 .left, ends (search))
-
-minus-requires : tie.Need-minus-requires Inv-loop μ-loop
-minus-requires c κs =
+minus-requires-2 : tie.Need-minus-requires-2 Inv-loop μ-loop
+minus-requires-2 c κs =
     let turn : tie.In-loop Inv-loop μ-loop = search in
     let l : tie.At-loop Inv-loop μ-loop = search in
     mark-rises (start-of l .pre .line) (l .loop .inv .0) (turn .loop-test .taken) (reached (search)) (adds c)
 
--- new cell j is one of at most 73, and the list has room for it
-new-cell : (c : tie.In-loop Inv-loop μ-loop) →
-    let l = the (tie.At-loop Inv-loop μ-loop) (search) .loop in
-    (l .j < mostColumns + 1) × (l .j < length (l .newgas))
-new-cell c =
-    let l : tie.At-loop Inv-loop μ-loop = search in
-    let line = start-of l .pre .line in
-    (omega (arith, c .loop-test .taken, line .few), omega (arith, c .loop-test .taken, line .room, l .loop .inv .2))
+mul-newgas-2 : tie.Need-mul-newgas-2 Inv-loop μ-loop
+mul-newgas-2 c = omega (arith, new-cell (search))
 
-mul-newgas : tie.Need-mul-newgas Inv-loop μ-loop
-mul-newgas c = omega (arith, new-cell (search))
+slice-write-newgas-2 : tie.Need-slice-write-newgas-2 Inv-loop μ-loop
+slice-write-newgas-2 c = new-cell (search) .1
 
-slice-write-newgas : tie.Need-slice-write-newgas Inv-loop μ-loop
-slice-write-newgas c = new-cell (search) .1
+add-j-2 : tie.Need-add-j-2 Inv-loop μ-loop
+add-j-2 c = omega (arith, new-cell (search))
 
-add-j : tie.Need-add-j Inv-loop μ-loop
-add-j c = omega (arith, new-cell (search))
-
-loop-less-2 : tie.Need-loop-less-2 Inv-loop μ-loop
-loop-less-2 c =
+loop-less-3 : tie.Need-loop-less-3 Inv-loop μ-loop
+loop-less-3 c =
     let turn : tie.In-loop Inv-loop μ-loop = search in
     omega (arith, turn .loop-test .taken)
 
-loop-again-2 : tie.Need-loop-again-2 Inv-loop μ-loop
-loop-again-2 c =
+loop-again-3 : tie.Need-loop-again-3 Inv-loop μ-loop
+loop-again-3 c =
     let turn : tie.In-loop Inv-loop μ-loop = search in
     let l : tie.At-loop Inv-loop μ-loop = search in
     let line = start-of l .pre .line in
@@ -221,8 +328,9 @@ loop-again-2 c =
       l .loop .inv .1,
       search needs,
       entries-more _ (l .loop .newgas) j _ made (new-cell (search) .1) (made-more (l .loop .newgas) (omega arith) (l .loop .inv .3))
-          (i + j, omega arith, edge-passes line (l .loop .inv .0) h (reached (search)) (adds (c .before)) (c .minus .ensures)),
+          (i + j, omega arith, edge-passes line (l .loop .inv .0) h (reached (search)) (adds (c .before)) (c .minus2 .ensures)),
       search needs,
+      l .loop .inv .5 ∙ sym (ends-inside line (l .loop .inv .0) h (inside-it (search))),
     )
 
 add-place-at-2 : tie.Need-add-place-at-2 Inv-loop μ-loop
@@ -232,7 +340,7 @@ returns-2 : tie.Need-returns-2 Inv-loop μ-loop
 returns-2 c =
     let l : tie.At-loop Inv-loop μ-loop = search in
     rw (c .place-at2 .ensures)
-    (record { walking = record { stands = l .loop .inv .0; made = l .loop .inv .3 }; turned = λ h. absurd (omega arith); onward = (omega arith, l .loop .inv .4) })
+    (record { walking = record { stands = l .loop .inv .0; made = l .loop .inv .3; ended = l .loop .inv .5 }; turned = λ h. absurd (omega arith); onward = (omega arith, l .loop .inv .4) })
 
 pub walk-turn-spec : {M : Type 1} → statement M
 walk-turn-spec =
@@ -255,16 +363,24 @@ walk-turn-spec =
     returns
     (λ c. search needs)  -- loop-less
     loop-again
-    air-inside-requires
-    slope-at-requires
-    low-piece-requires
     plus-requires-2
     minus-requires
     mul-newgas
     slice-write-newgas
     add-j
+    add-ends
     loop-less-2
     loop-again-2
+    air-inside-requires
+    slope-at-requires
+    low-piece-requires
+    plus-requires-3
+    minus-requires-2
+    mul-newgas-2
+    slice-write-newgas-2
+    add-j-2
+    loop-less-3
+    loop-again-3
     add-place-at-2
     (λ c κs. search needs)  -- place-at-requires-2
     (λ c. search needs)  -- same-length-2

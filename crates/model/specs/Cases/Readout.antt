@@ -1,4 +1,4 @@
--- Cases y4-1 to y4-16 of document 02, Slip 4: the remap's count, as one table with one theorem about `step`; then, computed, which pairs of m9's column share air, and the counts of columns that differ.
+-- Cases y4-1 to y4-16 for document 02, Slip 4: the remap's count, as one table with one theorem about `step`; then, computed, which pairs of m9's column share air, and the counts of columns that differ.
 -- Assumes nothing. Numbers that the documents do not give come from the second implementation (reference/cases/readout.txt).
 use Prim.Native.Nat.{ℕ}
 use mathlib.Core.List.{List, [], _∷_, _++_}
@@ -17,7 +17,7 @@ use Rattle.model.specs.Cases.Further.{keeps, ten, twoLayers, middle}
 abbrev atEdges : ℕ → ℕ → Call
 atEdges a b = remap (0 ∷ 0 ∷ a ∷ 0 ∷ b ∷ 0 ∷ 0 ∷ 65536 ∷ [])
 
--- three layers of six columns that differ, by one tracer or two
+-- three layers of six columns that differ, with one tracer or two
 abbrev variedAir : List ℕ
 variedAir = six 100 150 100 50 30 100 ++ six 100 100 50 50 70 100 ++ six 100 100 90 150 150 50
 
@@ -53,7 +53,7 @@ readouts =
     gives "y4-11" varied (remap (0 ∷ 0 ∷ 0 ∷ 21846 ∷ 0 ∷ 43691 ∷ 0 ∷ 65536 ∷ [])) 28
     (six 100 116 80 83 83 83 ++ six 100 117 80 83 83 83 ++ six 100 117 80 84 84 84)
     (six 10 15 24 106 134 49 ++ six 70 71 99 53 50 90 ++ six 15 39 32 26 31 106) ∷
-    -- an old layer with three new ones in it, and a new one over two old ones
+    -- an old layer with three new edges in it, and a new layer with two whole old ones in it
     gives "y4-12"
     (world (grid 4 1 4 1) (replicate 6 20 ++ replicate 6 90 ++ replicate 6 20 ++ replicate 6 30) (replicate 6 5 ++ replicate 6 7 ++ replicate 6 0 ++ replicate 6 9))
     (remap (0 ∷ 0 ∷ 30 ∷ 0 ∷ 60 ∷ 0 ∷ 100 ∷ 0 ∷ 0 ∷ 65536 ∷ [])) 42
@@ -64,7 +64,7 @@ readouts =
     -- refused, by one column alone and by the table: count 0
     refuses "y4-14" varied (atEdges 100 240) 12 ∷
     refuses "y4-15" varied (remap (0 ∷ 0 ∷ 100 ∷ 0 ∷ 200 ∷ 0 ∷ 1 ∷ 65536 ∷ [])) 11 ∷
-    -- all ten columns of two rows
+    -- all ten columns of a grid with two rows, the caps' included
     gives "y4-16" (world (grid 4 2 2 1) (ten 120 101 97 133 88 140 92 111 105 150 ++ ten 160 99 118 76 131 94 127 83 109 145) (ten 10 3 250 88 131 40 97 222 15 60 ++ ten 70 12 180 33 205 141 9 64 118 52))
     (middle 97 0) 29
     (replicate 10 97 ++ ten 183 103 118 112 122 137 122 97 117 198)

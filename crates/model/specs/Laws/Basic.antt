@@ -11,7 +11,7 @@ use borrow.Author.Tests.{ltb-true, ltb-false}
 use lib.Dec.{ltb}
 use lib.ListN.{length, getD, take, drop, set, length-append, length-take, length-drop, List·getD-append, List·getD-eq-default}
 use lib.Seq.{getD-take, getD-drop, getD-set-same, getD-set-other, take-set-lt, take-set-le, drop-set-add, drop-set-lt, ext-getD, length-take-le, getD-append-add, drop-append-add, take-at, drop-at}
-use Rattle.model.specs.Basic.{at, part, written, joined, tabFrom, tab, zeros, sum, every, some, smallest}
+use Rattle.model.specs.Basic.{at, part, written, joined, tabFrom, tab, zeros, sum, howMany, every, some, smallest}
 
 -- ---- numbers below n + 1: those below n, and n
 pub below-cases : {i n : ℕ} → i < suc n → (i ≡ n) ⊎ (i < n)
@@ -197,10 +197,29 @@ unfolding every
 every-ext zero p q h = refl
 every-ext (suc n) p q h = ap₂ _&&_ (every-ext n p q (λ i r. h i (omega arith))) (h n (omega arith))
 
-pub some-ext : (n : ℕ) (p q : ℕ → Bool) → ((i : ℕ) → i < n → p i ≡ q i) → some n p ≡ some n q
-unfolding some
-some-ext zero p q h = refl
-some-ext (suc n) p q h = ap₂ _||_ (some-ext n p q (λ i r. h i (omega arith))) (h n (omega arith))
+-- how many: none of 0 numbers, one number more, at most all, by a test that gives the same
+pub how-many-none : (p : ℕ → Bool) → howMany 0 p ≡ 0
+unfolding howMany
+how-many-none p = refl
+
+pub how-many-more : (n : ℕ) (p : ℕ → Bool) (b : Bool) → p n ≡ b → howMany (suc n) p ≡ elim b [ true ↦ suc (howMany n p) | false ↦ howMany n p ]
+unfolding howMany
+how-many-more n p b is = ap (λ (b : Bool). elim b [ true ↦ suc (howMany n p) | false ↦ howMany n p ]) is
+
+pub how-many-most : (n : ℕ) (p : ℕ → Bool) → howMany n p ≤ n
+unfolding howMany
+how-many-most zero p = omega arith
+how-many-most (suc n) p = more (p n) (how-many-most n p)
+  where
+    more : (b : Bool) {m : ℕ} → m ≤ n → elim b [ true ↦ suc m | false ↦ m ] ≤ suc n
+    more true h = omega (arith, h)
+    more false h = omega (arith, h)
+
+pub how-many-ext : (n : ℕ) (p q : ℕ → Bool) → ((i : ℕ) → i < n → p i ≡ q i) → howMany n p ≡ howMany n q
+unfolding howMany
+how-many-ext zero p q h = refl
+how-many-ext (suc n) p q h =
+    ap₂ (λ (b : Bool) (m : ℕ). elim b [ true ↦ suc m | false ↦ m ]) (h n (omega arith)) (how-many-ext n p q (λ i r. h i (omega arith)))
 
 pub some-true : (n : ℕ) (p : ℕ → Bool) (i : ℕ) → i < n → p i ≡ true → some n p ≡ true
 unfolding some

@@ -11,19 +11,19 @@ use borrow.Author.Tests.{ltb-true, ltb-false, eqb-true, eqb-false}
 use lib.Dec.{ltb, eqb}
 use Rattle.model.specs.Basic.{at, sum, howMany, some, distance}
 use Rattle.model.specs.Remap.{airAbove, edge, shareAir, columnCount, commonEdges}
-use Rattle.model.specs.Laws.Basic.{le-or-lt, sum-ext, sum-zero, sum-add, sum-same, sum-first, steps-rise}
+use Rattle.model.specs.Laws.Basic.{le-or-lt, how-many-most, sum-ext, sum-zero, sum-add, sum-same, sum-first, steps-rise}
 
 -- ---- tests counted: 1 where x lies before y, 1 where both are the same, 1 where two layers share air
 abbrev before : ℕ → ℕ → ℕ
 before x y = min 1 (y - x)
 
-abbrev same : ℕ → ℕ → ℕ
+abbrev pub same : ℕ → ℕ → ℕ
 same x y = 1 - distance x y
 
 abbrev meets : ℕ → ℕ → ℕ → ℕ → ℕ
 meets from to lo hi = before (max from lo) (min to hi)
 
-abbrev pub bit : Bool → ℕ
+abbrev bit : Bool → ℕ
 bit b = elim b [ true ↦ 1 | false ↦ 0 ]
 
 bit-before : (x y : ℕ) → bit (ltb x y) ≡ before x y
@@ -33,7 +33,7 @@ bit-before x y = go (ltb x y) refl
     go true e = omega (arith, ltb-true x y e)
     go false e = omega (arith, ltb-false x y e)
 
-pub how-many-bits : (n : ℕ) (p : ℕ → Bool) → howMany n p ≡ sum n (λ k. bit (p k))
+how-many-bits : (n : ℕ) (p : ℕ → Bool) → howMany n p ≡ sum n (λ k. bit (p k))
 unfolding howMany sum
 how-many-bits zero p = refl
 how-many-bits (suc n) p = more (p n) ∙ ap (λ (m : ℕ). m + bit (p n)) (how-many-bits n p)
@@ -41,15 +41,6 @@ how-many-bits (suc n) p = more (p n) ∙ ap (λ (m : ℕ). m + bit (p n)) (how-m
     more : (b : Bool) → elim b [ true ↦ suc (howMany n p) | false ↦ howMany n p ] ≡ howMany n p + bit b
     more true = omega arith
     more false = omega arith
-
-how-many-most : (n : ℕ) (p : ℕ → Bool) → howMany n p ≤ n
-unfolding howMany
-how-many-most zero p = omega arith
-how-many-most (suc n) p = more (p n) (how-many-most n p)
-  where
-    more : (b : Bool) {m : ℕ} → m ≤ n → elim b [ true ↦ suc m | false ↦ m ] ≤ suc n
-    more true h = omega (arith, h)
-    more false h = omega (arith, h)
 
 -- numbers that rise strictly are at a place once or never
 once :
@@ -196,6 +187,29 @@ module _
       inner : (j : ℕ) → j < i → at-place a (suc i) (b (suc j)) ≡ sum i (λ k. same (a (suc k)) (b (suc j)))
       inner j h = omega (arith, sum-first i (λ k. same (a k) (b (suc j))), first, rise j (omega arith))
 
+  -- the same of the ends: the last is the bottom's
+  module _ (last : b (suc i) ≡ a (suc i)) where
+    end-below : (k : ℕ) → k < i → a (suc k) < a (suc i)
+    end-below k h = omega (arith, rises (suc k) (omega arith), steps-rise (suc i) a (λ k p. omega (arith, rises k p)) (suc (suc k)) (omega arith))
+
+    edge-below : (j : ℕ) → j < i → b (suc j) < a (suc i)
+    edge-below j h = omega (arith, last, rise (suc j) (omega arith), steps-rise (suc i) b (λ j p. omega (arith, rise j p)) (suc (suc j)) (omega arith))
+
+    end-places :
+        sum (suc i) (λ j. sum (suc i) (λ k. same (a (suc k)) (b (suc j)))) ≡ 1 + sum i (λ j. sum i (λ k. same (a (suc k)) (b (suc j))))
+    unfolding sum
+    end-places =
+        omega (
+          arith,
+          sum-ext i (λ j. sum i (λ k. same (a (suc k)) (b (suc j))) + same (a (suc i)) (b (suc j))) (λ j. sum i (λ k. same (a (suc k)) (b (suc j))))
+              (λ j h. omega (arith, edge-below j h)),
+          bottom,
+          last,
+        )
+      where
+        bottom : sum i (λ k. same (a (suc k)) (b (suc i))) ≡ 0
+        bottom = sum-ext i _ (λ k. 0) (λ k h. omega (arith, last, end-below k h)) ∙ sum-zero i
+
 -- ---- the pairs of an old and a new layer that share air
 module _ (K : ℕ) (table air : List ℕ) where
   -- edge j of the new layers; edge k of the old ones is airAbove air k
@@ -237,6 +251,21 @@ module _ (K : ℕ) (table air : List ℕ) where
               common-is i e,
               all-stretches (airAbove air) K air-rises none-above new K rises first last,
               rw (sym e) at (inner-places (airAbove air) i (λ k p. air-rises k (omega (arith, e))) none-above new (λ j p. rises j (omega (arith, e))) first),
+              e,
+            )
+
+    -- 2K less the edges after the first at which an old layer ends, the bottom among them
+    pub column-count-by-ends :
+        0 < K → columnCount K table air + sum K (λ j. sum K (λ k. same (airAbove air (suc k)) (new (suc j)))) ≡ 2 * K
+    column-count-by-ends h = go (K - 1) (omega arith)
+      where
+        go : (i : ℕ) → K ≡ suc i → columnCount K table air + sum K (λ j. sum K (λ k. same (airAbove air (suc k)) (new (suc j)))) ≡ 2 * K
+        go i e =
+            omega (
+              arith,
+              column-count-is h,
+              common-is i e,
+              rw (sym e) at (end-places (airAbove air) i (λ k p. air-rises k (omega (arith, e))) none-above new (λ j p. rises j (omega (arith, e))) first (ap new (sym e) ∙ last ∙ ap (airAbove air) e)),
               e,
             )
 

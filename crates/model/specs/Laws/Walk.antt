@@ -2,18 +2,18 @@
 -- Assumes air in every layer, edges that never fall from 0 on, and layers that reach the last edge.
 use Prim.Native.Nat.{ℕ, zero, suc, _+_, _-_, _≤_, _<_}
 use mathlib.Core.List.{List}
-use mathlib.Core.Bool.{Bool, true, false}
+use mathlib.Core.Bool.{Bool, true, false, _&&_, and-false}
 use mathlib.Core.Logic.{⊎-elim}
 use mathlib.Core.Path.{_≡_, refl, sym, _∙_, ap, ap₂}
 use native.Mathlib.Nat.{le-trans}
 use native.Mathlib.Omega.{arith}
-use borrow.Author.Tests.{le-leb, lt-leb, lt-ltb, le-ltb, ltb-true}
-use lib.Dec.{leb, ltb}
+use borrow.Author.Tests.{le-leb, lt-leb, lt-ltb, le-ltb, ltb-true, eq-eqb, ne-eqb}
+use lib.Dec.{leb, ltb, eqb}
 use Rattle.model.specs.Basic.{at, sum, tab}
 use Rattle.model.specs.Scheme.{Rule}
 use Rattle.model.specs.Remap.{ColumnLayer, airAbove, edge, layers, amountAbove}
-use Rattle.model.specs.Walk.{Walk, atTop, passLayer, passEdge, walkStep, walk, layerOf, columnWalk, budget, InBudget}
-use Rattle.model.specs.Laws.Basic.{le-or-lt, sum-fewer, steps-rise}
+use Rattle.model.specs.Walk.{Walk, atTop, passLayer, passEdge, walkStep, walk, passesEnd, endsPassed, layerOf, columnWalk, budget, InBudget}
+use Rattle.model.specs.Laws.Basic.{le-or-lt, how-many-none, how-many-more, how-many-most, how-many-ext, sum-fewer, steps-rise}
 use Rattle.model.specs.Laws.Above.{airOf, tracerOf, amount-none, amount-at}
 use Rattle.model.specs.Laws.Column.{Edges, layers-are}
 
@@ -52,6 +52,27 @@ module _ (f : ℕ → ColumnLayer) (e : ℕ → ℕ) (m : ℕ) (w : Walk) where
   pub step-none : m ≤ w .edges → walkStep f e m w ≡ w
   unfolding walkStep
   step-none h = rw (le-ltb _ _ h, walkStep)
+
+-- the ends passed by no step, and by one more: an end, or none
+module _ (f : ℕ → ColumnLayer) (e : ℕ → ℕ) (m : ℕ) where
+  pub ends-none : endsPassed f e m 0 ≡ 0
+  ends-none = how-many-none _
+
+  pub ends-most : (s : ℕ) → endsPassed f e m s ≤ s
+  ends-most s = how-many-most s _
+
+  module _ (s : ℕ) {w : Walk} (is : walk f e m s ≡ w) where
+    here : (b : Bool) → passesEnd f e m w ≡ b → passesEnd f e m (walk f e m s) ≡ b
+    here b test = ap (passesEnd f e m) is ∙ test
+
+    pub ends-more : w .edges < m → e (suc (w .edges)) ≡ w .above + f (w .layers) .air → endsPassed f e m (suc s) ≡ suc (endsPassed f e m s)
+    ends-more h ends = how-many-more s _ true (here true (ap₂ _&&_ (lt-ltb _ _ h) (eq-eqb _ _ ends)))
+
+    pub ends-same : (e (suc (w .edges)) ≡ w .above + f (w .layers) .air → ⊥) → endsPassed f e m (suc s) ≡ endsPassed f e m s
+    ends-same other = how-many-more s _ false (here false (ap (λ (b : Bool). ltb (w .edges) m && b) (ne-eqb _ _ other) ∙ and-false (ltb (w .edges) m)))
+
+    pub ends-over : m ≤ w .edges → endsPassed f e m (suc s) ≡ endsPassed f e m s
+    ends-over h = how-many-more s _ false (here false (ap (λ (b : Bool). b && eqb (e (suc (w .edges))) (w .above + f (w .layers) .air)) (le-ltb _ _ h)))
 
 module _
     (f : ℕ → ColumnLayer) (n : ℕ) (some : 1 ≤ n) (has : (k : ℕ) → k < n → 1 ≤ f k .air)
@@ -166,6 +187,18 @@ module _
     unfolding walk
     walk-same zero = refl
     walk-same (suc s) = step-same (walk f e m s) (stands s .layer) ∙ ap (walkStep g d m) (walk-same s)
+
+    pub ends-alike : (s : ℕ) → endsPassed f e m s ≡ endsPassed g d m s
+    ends-alike s =
+        how-many-ext s _ _ (λ t h. go t (ltb (walk f e m t .edges) m) refl ∙ ap (passesEnd g d m) (walk-same t))
+      where
+        go : (t : ℕ) (b : Bool) → ltb (walk f e m t .edges) m ≡ b → passesEnd f e m (walk f e m t) ≡ passesEnd g d m (walk f e m t)
+        go t true q =
+            ap₂ (λ (l : ColumnLayer) (x : ℕ). ltb (walk f e m t .edges) m && eqb x (walk f e m t .above + l .air))
+            (layersAre (walk f e m t .layers) (stands t .layer)) (edgesAre (suc (walk f e m t .edges)) (ltb-true _ _ q))
+        go t false q =
+            ap (λ (b : Bool). b && eqb (e (suc (walk f e m t .edges))) (walk f e m t .above + f (walk f e m t .layers) .air)) q ∙
+            sym (ap (λ (b : Bool). b && eqb (d (suc (walk f e m t .edges))) (walk f e m t .above + g (walk f e m t .layers) .air)) q)
 
   -- from n + m − 1 steps on the last edge is passed; before them it is not, if the last layer ends there
   pub walk-reaches : (s : ℕ) → n + m ≤ suc s → walk f e m s .edges ≡ m

@@ -1,20 +1,20 @@
--- `remap::columns_serve` meets its contract. The loop's invariant: the columns passed serve, and their pairs are counted.
+-- `remap::columns_serve` meets its contract. The loop's invariant: the columns passed serve.
 use Prim.Native.Nat.{_+_, _-_}
 use mathlib.Core.Path.{_≡_}
 use native.Mathlib.Omega.{arith}
 use lib.ListN.{length}
 use Rattle.model.specs.Limits.{mostLayers}
-use Rattle.remap.specs.Served.{ServedUpto, read-need, upto-start, not-served, spans-here, one-more, all-served}
+use Rattle.remap.specs.Served.{ServedUpto, read-need, upto-start, not-served, one-more, all-served}
 use borrow.Author.Needs.{needs}
 use Rattle.remap.proofs.columns_serve.Statement.{statement}
 use Rattle.remap.proofs.columns_serve.Tie as tie
 
 abbrev Inv-loop : tie.InvT-loop
-Inv-loop air table cells k columnair₀ e₀ count₀ c₀ columnair e count c =
-    ServedUpto air table cells k c count × (length columnair ≡ mostLayers) × (length e ≡ mostLayers + 1)
+Inv-loop air table cells k columnair₀ e₀ c₀ columnair e c =
+    ServedUpto air table cells k c × (length columnair ≡ mostLayers) × (length e ≡ mostLayers + 1)
 
 abbrev μ-loop : tie.MeasureT-loop
-μ-loop air table cells k columnair₀ e₀ count₀ c₀ columnair e count c = cells - c
+μ-loop air table cells k columnair₀ e₀ c₀ columnair e c = cells - c
 
 loop-holds : tie.Need-loop-holds Inv-loop μ-loop
 loop-holds c =
@@ -42,23 +42,6 @@ returns c =
     let start : tie.Start Inv-loop μ-loop = search in
     not-served (start .pre) (turn .loop-test .taken) (edges .read-edges .ensures) (tested .edges-serve .ensures) (c .if1 .left)
 
-pairs-requires : tie.Need-pairs-requires Inv-loop μ-loop
-pairs-requires c κs =
-    let yes : tie.Then1 Inv-loop μ-loop = search in
-    let tested : tie.After-edges-serve Inv-loop μ-loop = search in
-    let edges : tie.After-read-edges Inv-loop μ-loop = search in
-    let turn : tie.In-loop Inv-loop μ-loop = search in
-    let start : tie.Start Inv-loop μ-loop = search in
-    spans-here (start .pre) (turn .loop-test .taken) (edges .read-edges .ensures) (tested .edges-serve .ensures) (yes .if1 .taken)
-
-add-count : tie.Need-add-count Inv-loop μ-loop
-add-count c =
-    let at : tie.At-loop Inv-loop μ-loop = search in
-    let start : tie.Start Inv-loop μ-loop = search in
-    let upto = at .loop .inv .0 in
-    let need = start .pre in
-    omega (arith, upto .few, upto .inside, need .few, c .pairs .ensures .most, need .fit)
-
 loop-again : tie.Need-loop-again Inv-loop μ-loop
 loop-again c =
     let yes : tie.Then1 Inv-loop μ-loop = search in
@@ -68,7 +51,7 @@ loop-again c =
     let at : tie.At-loop Inv-loop μ-loop = search in
     let start : tie.Start Inv-loop μ-loop = search in
     let more = one-more (start .pre) (turn .loop-test .taken) (edges .read-edges .ensures) (tested .edges-serve .ensures) (yes .if1 .taken)
-    (at .loop .inv .0) (c .pairs .ensures) in
+    (at .loop .inv .0) in
     (more, search needs, search needs)
 
 returns-2 : tie.Need-returns-2 Inv-loop μ-loop
@@ -90,10 +73,6 @@ columns-serve-spec =
     (λ c. search needs)  -- slice-aggregate-edges-serve
     edges-serve-requires
     returns
-    (λ c. search needs)  -- slice-aggregate-pairs
-    (λ c. search needs)  -- slice-aggregate-pairs-2
-    pairs-requires
-    add-count
     (λ c. search needs)  -- add-c
     (λ c. search needs)  -- loop-less
     loop-again

@@ -9,11 +9,11 @@ use Rattle.remap.proofs.move_column.Statement.{statement}
 use Rattle.remap.proofs.move_column.Tie as tie
 
 abbrev Inv-loop : tie.InvT-loop
-Inv-loop tracers₀ air e c cells k n column₀ q₀ size₀ rising₀ newgas₀ steps₀ t₀ tracers column q size rising newgas steps t =
-    TracersUpto tracers₀ air e c cells k n t tracers steps
+Inv-loop tracers₀ air e c cells k n column₀ q₀ size₀ rising₀ newgas₀ steps₀ ends₀ t₀ tracers column q size rising newgas steps ends t =
+    TracersUpto tracers₀ air e c cells k n t tracers steps ends
 
 abbrev μ-loop : tie.MeasureT-loop
-μ-loop tracers₀ air e c cells k n column₀ q₀ size₀ rising₀ newgas₀ steps₀ t₀ tracers column q size rising newgas steps t = n - t
+μ-loop tracers₀ air e c cells k n column₀ q₀ size₀ rising₀ newgas₀ steps₀ ends₀ t₀ tracers column q size rising newgas steps ends t = n - t
 
 loop-holds : tie.Need-loop-holds Inv-loop μ-loop
 loop-holds c =
@@ -70,7 +70,7 @@ loop-again c =
     let turn : tie.In-loop Inv-loop μ-loop = search in
     let at : tie.At-loop Inv-loop μ-loop = search in
     let start : tie.Start Inv-loop μ-loop = search in
-    tracers-more (start .pre) (turn .loop-test .taken) (at .loop .inv) (moved .move-gas .ensures .0) _ (moved .move-gas .ensures .1)
+    tracers-more (start .pre) (turn .loop-test .taken) (at .loop .inv) (moved .move-gas .ensures .0) _ (moved .move-gas .ensures .1) (moved .move-gas .ensures .2)
 
 same-length : tie.Need-same-length Inv-loop μ-loop
 same-length c =

@@ -4,17 +4,19 @@ use mathlib.Core.Path.{_≡_, _∙_}
 use native.Mathlib.Omega.{arith}
 use lib.ListN.{length}
 use Rattle.model.specs.Limits.{mostLayers}
-use Rattle.remap.specs.Moved.{MovedUpto, moved-none, air-room, air-read, air-served, tracers-need, all-steps, moved-more, moved-all}
+use Rattle.model.specs.Walk.{budget}
+use Rattle.remap.specs.Served.{countAt}
+use Rattle.remap.specs.Moved.{MovedUpto, moved-none, air-room, air-read, air-served, tracers-need, all-steps, pairs-here, moved-more, moved-all}
 use borrow.Author.Needs.{needs}
 use Rattle.remap.proofs.move_columns.Statement.{statement}
 use Rattle.remap.proofs.move_columns.Tie as tie
 
 abbrev Inv-loop : tie.InvT-loop
-Inv-loop tracers₀ air₀ table cells k n columnair₀ e₀ steps₀ c₀ tracers air columnair e steps c =
-    MovedUpto tracers₀ air₀ table cells k n c tracers air steps × (length columnair ≡ mostLayers) × (length e ≡ mostLayers + 1)
+Inv-loop tracers₀ air₀ table cells k n columnair₀ e₀ steps₀ count₀ c₀ tracers air columnair e steps count c =
+    MovedUpto tracers₀ air₀ table cells k n c tracers air steps count × (length columnair ≡ mostLayers) × (length e ≡ mostLayers + 1)
 
 abbrev μ-loop : tie.MeasureT-loop
-μ-loop tracers₀ air₀ table cells k n columnair₀ e₀ steps₀ c₀ tracers air columnair e steps c = cells - c
+μ-loop tracers₀ air₀ table cells k n columnair₀ e₀ steps₀ count₀ c₀ tracers air columnair e steps count c = cells - c
 
 loop-holds : tie.Need-loop-holds Inv-loop μ-loop
 loop-holds c =
@@ -47,6 +49,35 @@ add-steps c =
     let at : tie.At-loop Inv-loop μ-loop = search in
     let start : tie.Start Inv-loop μ-loop = search in
     omega (arith, all-steps (start .pre) (turn .loop-test .taken) (at .loop .inv .0) _ (moved .move-column .ensures .1))
+
+-- the column's pairs and ends are 2k
+pairs : (c : tie.After-move-column Inv-loop μ-loop) →
+    let edges : tie.After-read-edges Inv-loop μ-loop = search in
+    let at : tie.At-loop Inv-loop μ-loop = search in
+    let start : tie.Start Inv-loop μ-loop = search in
+    let a = start .args in
+    countAt (a .k) (a .cells) (a .table .now) (a .air .now) (at .loop .c) + c .move-column .result .ends ≡ budget (a .k)
+pairs c =
+    let edges : tie.After-read-edges Inv-loop μ-loop = search in
+    let turn : tie.In-loop Inv-loop μ-loop = search in
+    let at : tie.At-loop Inv-loop μ-loop = search in
+    let start : tie.Start Inv-loop μ-loop = search in
+    pairs-here (start .pre) (turn .loop-test .taken) (at .loop .inv .0) (edges .read-edges .ensures) (c .move-column .ensures .2)
+
+sub-pairs : tie.Need-sub-pairs Inv-loop μ-loop
+sub-pairs c = omega (arith, pairs (search))
+
+cast-count : tie.Need-cast-count Inv-loop μ-loop
+cast-count c =
+    let start : tie.Start Inv-loop μ-loop = search in
+    omega (arith, start .pre .moves .columns .fit)
+
+add-count : tie.Need-add-count Inv-loop μ-loop
+add-count c =
+    let turn : tie.In-loop Inv-loop μ-loop = search in
+    let at : tie.At-loop Inv-loop μ-loop = search in
+    let start : tie.Start Inv-loop μ-loop = search in
+    omega (arith, at .loop .inv .0 .fewPairs, turn .loop-test .taken, start .pre .moves .columns .few, start .pre .moves .columns .fit)
 
 new-air-requires : tie.Need-new-air-requires Inv-loop μ-loop
 new-air-requires c κs =
@@ -81,7 +112,7 @@ loop-again c =
     let start : tie.Start Inv-loop μ-loop = search in
     let inv = at .loop .inv in
     let tracers = moved .move-column .ensures in
-    let more = moved-more (start .pre) (turn .loop-test .taken) (inv .0) (edges .read-edges .ensures) _ (tracers .0) (tracers .1)
+    let more = moved-more (start .pre) (turn .loop-test .taken) (inv .0) (edges .read-edges .ensures) _ (tracers .0) (tracers .1) (tracers .2)
     (made .new-air .ensures) (written .write-column .ensures) in (
       more,
       made .new-air .kept .1 .1 .0 ∙ edges .read-edges .kept .1 .1 .1 .1 .1 .0 ∙ inv .1,
@@ -116,6 +147,10 @@ move-columns-spec =
     (λ c. search needs)  -- slice-aggregate-move-column-2
     move-column-requires
     add-steps
+    (λ c. search needs)  -- mul-pairs
+    sub-pairs
+    cast-count
+    add-count
     (λ c. search needs)  -- slice-aggregate-new-air
     (λ c. search needs)  -- slice-aggregate-new-air-2
     new-air-requires

@@ -34,6 +34,7 @@ returns c =
       gas-moved (start-of copied .pre) _ (copied .read-ratios .ensures .0) (cap .is-cap .ensures) (made .remap-gas .ensures)
           (written .write-column .ensures),
       made .remap-gas .ensures .exact,
+      made .remap-gas .ensures .counted,
     )
 
 pub move-gas-spec : {M : Type 1} → statement M

@@ -34,8 +34,7 @@ returns-2 c =
     let moved : tie.After-move-columns = search in
     let cells : tie.After-layer-cells = search in
     let accepted : tie.Then1 = search in
-    let zero = sym (accepted .before .number .ensures) ∙ accepted .if1 .taken in
-    remap-agrees (found accepted) (cells .layer-cells .ensures .0) zero (moved .move-columns .ensures)
+    remap-agrees (found accepted) (cells .layer-cells .ensures .0) (moved .move-columns .ensures)
 
 pub remap-spec : {M : Type 1} → statement M
 remap-spec =

@@ -11,7 +11,7 @@ use Rattle.units.specs.Grid.{worldOf, in-range}
 use Rattle.places.specs.declared.Lent.the-variants.{Table}
 use Rattle.places.specs.Walk.{Left, Like, next, stop, placed, fits, fails}
 use Rattle.places.specs.Tested.{Passed, own-left, common-placed}
-use Rattle.remap.specs.RemapPlace.{fromServing, columns-need, serves-is, count-is}
+use Rattle.remap.specs.RemapPlace.{fromServing, columns-need, serves-is}
 use borrow.Author.Needs.{needs}
 use Rattle.remap.proofs.remap_place.Statement.{statement}
 use Rattle.remap.proofs.remap_place.Tie as tie
@@ -74,11 +74,11 @@ columns-serve-requires c κs =
     columns-need (world s) (c .layer-cells .ensures .0) (passed common .fits) (pairs common) (table-fit table)
 
 -- whether all columns serve
-serving : (c : tie.After-columns-serve) → let s : tie.Start = search in c .columns-serve .result .ok ≡ remapServes (world s) (s .args .table .now)
+serving : (c : tie.After-columns-serve) → let s : tie.Start = search in c .columns-serve .result ≡ remapServes (world s) (s .args .table .now)
 serving c =
     let cells : tie.After-layer-cells = search in
     let s : tie.Start = search in
-    serves-is (world s) (cells .layer-cells .ensures .0) (c .columns-serve .ensures)
+    serves-is (world s) (cells .layer-cells .ensures .0) (s .args .table .now) (c .columns-serve .ensures)
 
 returns-3 : tie.Need-returns-3
 returns-3 c =
@@ -100,7 +100,6 @@ returns-4 c =
       fits = passed common .fits;
       pairs = pairs common;
       tableFit = table-fit table;
-      counted = count-is (world s) (cells .layer-cells .ensures .0) (served .columns-serve .ensures) (c .if3 .taken);
     }
 
 pub remap-place-spec : {M : Type 1} → statement M
