@@ -1,5 +1,6 @@
 //! What the long sweeps of the comparison met: each end of their fluxes, their refusals alone and together.
 
+use crate::situations;
 use reference::{Call, World};
 
 const NAMES: [&str; 11] = [
@@ -62,23 +63,15 @@ impl Situations {
             number == 17 && ends_at(0),
             number == 17 && ends_at(65_536),
         ];
-        for (times, met) in self.met.iter_mut().zip(met) {
-            *times += u64::from(met);
-        }
+        situations::add(&mut self.met, &met);
     }
 
     pub fn print(&self) {
-        let all: Vec<String> = NAMES
-            .iter()
-            .zip(self.met)
-            .map(|(name, times)| format!("{name} {times}"))
-            .collect();
-        println!("long sweeps: {}", all.join(", "));
+        situations::print("long sweeps", &NAMES, &self.met);
     }
 
     /// The situations that were not met.
-    pub fn missing(&self) -> impl Iterator<Item = String> + '_ {
-        let unmet = NAMES.iter().zip(self.met).filter(|(_, times)| *times == 0);
-        unmet.map(|(name, _)| format!("no long sweep: {name}"))
+    pub fn missing(&self) -> Vec<String> {
+        situations::missing("long sweep", &NAMES, &self.met)
     }
 }

@@ -18,6 +18,7 @@ mod reached;
 mod readout;
 mod records;
 mod runner;
+mod situations;
 mod worlds;
 
 use reference::{Answer, Call, World};
@@ -194,7 +195,7 @@ fn compare_calls(lists: u64) {
     emitters.print();
     readout.print();
     if lists >= FULL {
-        let unmet = long.missing().chain(emitters.missing());
+        let unmet = long.missing().into_iter().chain(emitters.missing());
         all_reached(&seen, unmet.chain(readout.missing()));
     }
 }

@@ -1,6 +1,7 @@
 //! What the accepted remaps of the comparison met: columns with each number of pairs. Their count is also found from the air before and
 //! after alone: for each column 2K - 1 less the inner edges in common.
 
+use crate::situations;
 use reference::{Answer, Call, World};
 use std::collections::BTreeSet;
 
@@ -69,23 +70,15 @@ impl Situations {
             pairs.iter().any(|&n| n != pairs[last]),
             before.grid.n > 1,
         ];
-        for (times, met) in self.met.iter_mut().zip(met) {
-            *times += u64::from(met);
-        }
+        situations::add(&mut self.met, &met);
     }
 
     pub fn print(&self) {
-        let all: Vec<String> = NAMES
-            .iter()
-            .zip(self.met)
-            .map(|(name, times)| format!("{name} {times}"))
-            .collect();
-        println!("accepted remaps: {}", all.join(", "));
+        situations::print("accepted remaps", &NAMES, &self.met);
     }
 
     /// The situations that were not met.
-    pub fn missing(&self) -> impl Iterator<Item = String> + '_ {
-        let unmet = NAMES.iter().zip(self.met).filter(|(_, times)| *times == 0);
-        unmet.map(|(name, _)| format!("no accepted remap: {name}"))
+    pub fn missing(&self) -> Vec<String> {
+        situations::missing("accepted remap", &NAMES, &self.met)
     }
 }
