@@ -1,7 +1,7 @@
 //! The calls, each with one answer.
 
 use crate::grid::{Grid, World, MOST_TRACER};
-use crate::{emitters, long, meridional, refusal, remap, zonal};
+use crate::{emitters, long, meridional, presses, refusal, remap, zonal};
 
 /// A call with its arguments. A remap's table is one flat list a, b, a, b, ...
 #[derive(Clone, Debug, PartialEq, Eq)]
@@ -25,6 +25,17 @@ pub enum Call {
     LongZonal {
         layer: u32,
         row: u32,
+        fluxes: Vec<i32>,
+    },
+    CountZonal {
+        layer: u32,
+        row: u32,
+        fluxes: Vec<i32>,
+    },
+    ZonalWithCount {
+        layer: u32,
+        row: u32,
+        given: u32,
         fluxes: Vec<i32>,
     },
     Meridional {
@@ -86,44 +97,43 @@ fn count_or_refusal(world: &mut World, call: &Call) -> Result<u64, u32> {
 
 /// The call from its indices on.
 fn carry_out(world: &mut World, call: &Call) -> Result<u64, u32> {
-    match *call {
+    match call {
         Call::Load => {
             emitters::leave_none(world);
             Ok(0)
         }
-        Call::Emission {
+        &Call::Emission {
             tracer,
             cell,
             amount,
         } => emission(world, tracer, cell, amount),
-        Call::Withdrawal {
+        &Call::Withdrawal {
             tracer,
             cell,
             amount,
         } => withdrawal(world, tracer, cell, amount),
-        Call::Zonal {
+        Call::Zonal { layer, row, fluxes } => zonal::sweep(world, *layer, *row, fluxes),
+        Call::LongZonal { layer, row, fluxes } => long::sweep(world, *layer, *row, fluxes),
+        Call::CountZonal { layer, row, fluxes } => presses::count(world, *layer, *row, fluxes),
+        Call::ZonalWithCount {
             layer,
             row,
-            ref fluxes,
-        } => zonal::sweep(world, layer, row, fluxes),
-        Call::LongZonal {
-            layer,
-            row,
-            ref fluxes,
-        } => long::sweep(world, layer, row, fluxes),
-        Call::Meridional { layer, ref fluxes } => meridional::sweep(world, layer, fluxes),
-        Call::Remap { ref table } => remap::remap(world, table),
-        Call::Total { tracer } => total(world, tracer),
-        Call::Cell { tracer, cell } => cell_amount(world, tracer, cell),
-        Call::AddEmitter {
+            given,
+            fluxes,
+        } => presses::sweep_with_count(world, *layer, *row, *given, fluxes),
+        Call::Meridional { layer, fluxes } => meridional::sweep(world, *layer, fluxes),
+        Call::Remap { table } => remap::remap(world, table),
+        &Call::Total { tracer } => total(world, tracer),
+        &Call::Cell { tracer, cell } => cell_amount(world, tracer, cell),
+        &Call::AddEmitter {
             tracer,
             cell,
             id,
             units,
         } => emitters::add(world, tracer, [cell, id, units]),
-        Call::RemoveEmitter { tracer, id } => emitters::remove(world, tracer, id),
-        Call::Tick { tracer } => emitters::tick(world, tracer),
-        Call::UnitsATick { tracer } => emitters::units_a_tick(world, tracer),
+        &Call::RemoveEmitter { tracer, id } => emitters::remove(world, tracer, id),
+        &Call::Tick { tracer } => emitters::tick(world, tracer),
+        &Call::UnitsATick { tracer } => emitters::units_a_tick(world, tracer),
     }
 }
 
@@ -131,9 +141,10 @@ fn carry_out(world: &mut World, call: &Call) -> Result<u64, u32> {
 fn check_lengths(world: &World, call: &Call) -> Result<(), u32> {
     let grid = &world.grid;
     let arguments = match call {
-        Call::Zonal { fluxes, .. } | Call::LongZonal { fluxes, .. } => {
-            fluxes.len() == grid.zonal_fluxes()
-        }
+        Call::Zonal { fluxes, .. }
+        | Call::LongZonal { fluxes, .. }
+        | Call::CountZonal { fluxes, .. }
+        | Call::ZonalWithCount { fluxes, .. } => fluxes.len() == grid.zonal_fluxes(),
         Call::Meridional { fluxes, .. } => fluxes.len() == grid.meridional_fluxes(),
         Call::Remap { table } => table.len() == grid.table_numbers(),
         _ => true,

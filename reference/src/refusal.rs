@@ -40,3 +40,5 @@ pub const LONG_AIR: u32 = 17;
 pub const NO_PLACE: u32 = 18;
 /// "19 when the id is absent" (document 02)
 pub const NO_EMITTER: u32 = 19;
+/// "20 when the given count differs from the smallest that serves" (document 02)
+pub const COUNT: u32 = 20;

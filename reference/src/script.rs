@@ -147,18 +147,6 @@ fn read_call(name: &str, arguments: &[&str]) -> Result<Call, String> {
                 amount,
             }
         }
-        "zonal" => {
-            let ([layer, row], fluxes) = fixed_then_fluxes(arguments)?;
-            Call::Zonal { layer, row, fluxes }
-        }
-        "long_zonal" => {
-            let ([layer, row], fluxes) = fixed_then_fluxes(arguments)?;
-            Call::LongZonal { layer, row, fluxes }
-        }
-        "meridional" => {
-            let ([layer], fluxes) = fixed_then_fluxes(arguments)?;
-            Call::Meridional { layer, fluxes }
-        }
         "remap" => Call::Remap {
             table: numbers(arguments)?,
         },
@@ -169,6 +157,38 @@ fn read_call(name: &str, arguments: &[&str]) -> Result<Call, String> {
         "cell" => {
             let [tracer, cell] = fixed(arguments)?;
             Call::Cell { tracer, cell }
+        }
+        _ => return read_sweep(name, arguments),
+    })
+}
+
+/// The sweeps, and the count before a sweep.
+fn read_sweep(name: &str, arguments: &[&str]) -> Result<Call, String> {
+    Ok(match name {
+        "zonal" => {
+            let ([layer, row], fluxes) = fixed_then_fluxes(arguments)?;
+            Call::Zonal { layer, row, fluxes }
+        }
+        "long_zonal" => {
+            let ([layer, row], fluxes) = fixed_then_fluxes(arguments)?;
+            Call::LongZonal { layer, row, fluxes }
+        }
+        "count_zonal" => {
+            let ([layer, row], fluxes) = fixed_then_fluxes(arguments)?;
+            Call::CountZonal { layer, row, fluxes }
+        }
+        "zonal_with_count" => {
+            let ([layer, row, given], fluxes) = fixed_then_fluxes(arguments)?;
+            Call::ZonalWithCount {
+                layer,
+                row,
+                given,
+                fluxes,
+            }
+        }
+        "meridional" => {
+            let ([layer], fluxes) = fixed_then_fluxes(arguments)?;
+            Call::Meridional { layer, fluxes }
         }
         _ => return read_emitter_call(name, arguments),
     })

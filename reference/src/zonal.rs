@@ -9,7 +9,7 @@ use std::ops::Range;
 /// "size above 1,048,560 (zonal)"
 const MOST_FLUX: u32 = 1_048_560;
 /// "the sweep uses the smallest n from 1 to 16"
-const MOST_SUBSTEPS: i64 = 16;
+const MOST_SUBSTEPS: u32 = 16;
 
 /// "flux i crosses the face from column i to column i + 1 (the last to column 0), positive
 /// eastward. High side is east."
@@ -35,10 +35,10 @@ fn region(columns: usize) -> Region {
 }
 
 /// "n serves if all n substeps, one after another, are allowed"
-fn serves(region: &Region, air: &[i64], fluxes: &[i64], n: i64) -> bool {
+fn serves(region: &Region, air: &[i64], fluxes: &[i64], n: u32) -> bool {
     let mut air = air.to_vec();
     (1..=n).all(|s| {
-        let part = parts(fluxes, s, n);
+        let part = parts(fluxes, i64::from(s), i64::from(n));
         let allowed = region.allowed(&air, &part);
         air = region.air_after(&air, &part);
         allowed
@@ -47,7 +47,7 @@ fn serves(region: &Region, air: &[i64], fluxes: &[i64], n: i64) -> bool {
 
 /// "the sweep uses the smallest n from 1 to 16, and that n is its count"; if none serves,
 /// refusal 9.
-fn smallest_count(region: &Region, air: &[i64], fluxes: &[i64]) -> Result<i64, u32> {
+fn smallest_count(region: &Region, air: &[i64], fluxes: &[i64]) -> Result<u32, u32> {
     (1..=MOST_SUBSTEPS)
         .find(|&n| serves(region, air, fluxes, n))
         .ok_or(refusal::ZONAL)
@@ -67,20 +67,38 @@ pub(crate) fn row_of(grid: Grid, layer: u32, row: u32, fluxes: &[i32]) -> Result
     Ok((grid.row_range(layer, row), fluxes))
 }
 
-/// The sweep, from the check of its indices on. "The sweep writes only that row's cells inside
-/// its layer, in the air and in all tracers".
-pub fn sweep(world: &mut World, layer: u32, row: u32, fluxes: &[i32]) -> Result<u64, u32> {
+/// A sweep that no place refuses, before it is made: its row's cells, its fluxes, and the smallest
+/// count that serves.
+pub(crate) struct Ready {
+    cells: Range<usize>,
+    fluxes: Vec<i64>,
+    pub smallest: u32,
+}
+
+/// The sweep made ready, from the check of its indices on, or refusal 5, 8 or 9.
+pub(crate) fn ready(world: &World, layer: u32, row: u32, fluxes: &[i32]) -> Result<Ready, u32> {
     let grid = world.grid;
     let (cells, fluxes) = row_of(grid, layer, row, fluxes)?;
-    let region = region(grid.columns());
+    let air = signed(&world.air[cells.clone()]);
+    let smallest = smallest_count(&region(grid.columns()), &air, &fluxes)?;
+    Ok(Ready {
+        cells,
+        fluxes,
+        smallest,
+    })
+}
 
+/// The n substeps of a sweep, one after another, for an n that serves. "The sweep writes only that
+/// row's cells inside its layer, in the air and in all tracers".
+pub(crate) fn carry_out(world: &mut World, ready: &Ready, n: u32) {
+    let Ready { cells, fluxes, .. } = ready;
+    let region = region(world.grid.columns());
     let mut air = signed(&world.air[cells.clone()]);
-    let n = smallest_count(&region, &air, &fluxes)?;
-    let mut tracers: Vec<Vec<i64>> = (0..grid.n as usize)
+    let mut tracers: Vec<Vec<i64>> = (0..world.grid.n as usize)
         .map(|t| signed(&world.tracer(t)[cells.clone()]))
         .collect();
     for s in 1..=n {
-        let part = parts(&fluxes, s, n);
+        let part = parts(fluxes, i64::from(s), i64::from(n));
         for tracer in &mut tracers {
             *tracer = region.tracer_after(&air, tracer, &part);
         }
@@ -91,5 +109,11 @@ pub fn sweep(world: &mut World, layer: u32, row: u32, fluxes: &[i32]) -> Result<
     for (t, tracer) in tracers.iter().enumerate() {
         write(&mut world.tracer_mut(t)[cells.clone()], tracer);
     }
-    Ok(n.unsigned_abs())
+}
+
+/// The single sweep: "the sweep uses the smallest n from 1 to 16, and that n is its count".
+pub fn sweep(world: &mut World, layer: u32, row: u32, fluxes: &[i32]) -> Result<u64, u32> {
+    let ready = ready(world, layer, row, fluxes)?;
+    carry_out(world, &ready, ready.smallest);
+    Ok(u64::from(ready.smallest))
 }

@@ -207,6 +207,14 @@ fn serves(row_air: &[u32], fluxes: &[i32], n: i64) -> bool {
     true
 }
 
+/// The smallest count that serves for a row of the world.
+fn smallest(world: &World, layer: u32, row: u32, fluxes: &[i32]) -> Option<i64> {
+    let grid = &world.grid;
+    let first = layer as usize * layer_cells(grid) + 1 + (row * grid.w) as usize;
+    let row_air = &world.air[first..first + grid.w as usize];
+    (1..=16).find(|&n| serves(row_air, fluxes, n))
+}
+
 /// The smallest count, the range after each substep, and the sum of the substeps. Each substep
 /// is made as a sweep of its own, with the part as its fluxes.
 fn expect_zonal(
@@ -217,11 +225,7 @@ fn expect_zonal(
     fluxes: &[i32],
     answer: Answer,
 ) {
-    let grid = &before.grid;
-    let first = layer as usize * layer_cells(grid) + 1 + (row * grid.w) as usize;
-    let row_air = &before.air[first..first + grid.w as usize];
-    let smallest = (1..=16).find(|&n| serves(row_air, fluxes, n));
-    let Some(n) = smallest else {
+    let Some(n) = smallest(before, layer, row, fluxes) else {
         assert_eq!(answer, refused(9));
         return;
     };
@@ -241,6 +245,20 @@ fn expect_call_properties(before: &World, after: &World, asked: &Call, answer: A
         Call::Zonal { layer, row, fluxes } if answer.number == 0 || answer.number == 9 => {
             expect_zonal(before, after, *layer, *row, fluxes, answer);
         }
+        Call::CountZonal { layer, row, fluxes } if answer.number == 0 || answer.number == 9 => {
+            let count = smallest(before, *layer, *row, fluxes);
+            assert_eq!(answer, count.map_or(refused(9), |n| accepted(n as u64)));
+            assert_eq!(before, after);
+        }
+        Call::ZonalWithCount {
+            layer,
+            row,
+            given,
+            fluxes,
+        } if [0, 9, 20].contains(&answer.number) => match smallest(before, *layer, *row, fluxes) {
+            Some(n) if n != i64::from(*given) => assert_eq!(answer, refused(20)),
+            _ => expect_zonal(before, after, *layer, *row, fluxes, answer),
+        },
         Call::LongZonal { layer, row, fluxes } if answer.number == 0 => {
             assert_eq!(answer.count, 0);
             expect_long_range(before, after, *layer, *row, fluxes);
@@ -312,6 +330,10 @@ struct Met {
     accepted_sweeps: u32,
     many_substeps: u32,
     accepted_long: u32,
+    accepted_counts: u32,
+    accepted_presses: u32,
+    presses_of_many_substeps: u32,
+    wrong_counts: u32,
     accepted_meridional: u32,
     accepted_remaps: u32,
     emitters_added: u32,
@@ -324,12 +346,18 @@ struct Met {
 impl Met {
     fn note(&mut self, asked: &Call, answer: Answer) {
         match asked {
+            _ if answer.number == 20 => self.wrong_counts += 1,
             _ if answer.number != 0 => self.refused += 1,
             Call::Zonal { .. } => {
                 self.accepted_sweeps += 1;
                 self.many_substeps += u32::from(answer.count > 1);
             }
             Call::LongZonal { .. } => self.accepted_long += 1,
+            Call::CountZonal { .. } => self.accepted_counts += 1,
+            Call::ZonalWithCount { .. } => {
+                self.accepted_presses += 1;
+                self.presses_of_many_substeps += u32::from(answer.count > 1);
+            }
             Call::Meridional { .. } => self.accepted_meridional += 1,
             Call::Remap { .. } => self.accepted_remaps += 1,
             Call::AddEmitter { .. } => self.emitters_added += 1,
@@ -379,6 +407,10 @@ fn conservation_ratio_and_range_on_random_lists() {
     assert!(met.accepted_sweeps > 5_000);
     assert!(met.many_substeps > 2_000);
     assert!(met.accepted_long > 5_000);
+    assert!(met.accepted_counts > 3_000);
+    assert!(met.accepted_presses > 5_000);
+    assert!(met.presses_of_many_substeps > 2_000);
+    assert!(met.wrong_counts > 1_000);
     assert!(met.accepted_meridional > 5_000);
     assert!(met.accepted_remaps > 3_000);
     assert!(met.emitters_added > 5_000);

@@ -1,5 +1,5 @@
 //! Refusals 1 to 12 at both sides of their limits, and their order; 16 and 17 are in long.rs, 18
-//! and 19 in emitters.rs.
+//! and 19 in emitters.rs, 20 in presses.rs.
 
 mod common;
 use common::*;
@@ -391,6 +391,8 @@ fn refusals_come_in_row_order() {
             withdrawal(9, 99, u32::MAX),
             zonal(9, 9, &[i32::MIN; 4]),
             long_zonal(9, 9, &[i32::MIN; 4]),
+            count_zonal(9, 9, &[i32::MIN; 4]),
+            zonal_with_count(9, 9, 0, &[i32::MIN; 4]),
             meridional(9, &[i32::MIN; 8]),
             Call::Total { tracer: 9 },
             Call::Cell {
@@ -452,6 +454,8 @@ fn any_numbers_and_lengths_never_panic() {
         match &mut asked {
             Call::Zonal { fluxes, .. }
             | Call::LongZonal { fluxes, .. }
+            | Call::CountZonal { fluxes, .. }
+            | Call::ZonalWithCount { fluxes, .. }
             | Call::Meridional { fluxes, .. }
                 if random.one_in(2) =>
             {
@@ -467,7 +471,7 @@ fn any_numbers_and_lengths_never_panic() {
             _ => {}
         }
         let answer = checked_call(&mut world, &asked);
-        assert!(answer.number <= 12 || (16..=19).contains(&answer.number));
+        assert!(answer.number <= 12 || (16..=20).contains(&answer.number));
         if answer.number == 0 {
             assert_eq!(call(&mut world, &Call::Load), accepted(0));
         }

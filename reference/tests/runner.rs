@@ -26,6 +26,8 @@ fn has_record(asked: &Call) -> bool {
     !matches!(
         asked,
         Call::LongZonal { .. }
+            | Call::CountZonal { .. }
+            | Call::ZonalWithCount { .. }
             | Call::AddEmitter { .. }
             | Call::RemoveEmitter { .. }
             | Call::Tick { .. }

@@ -82,6 +82,29 @@ fn a_grid_line_gives_an_empty_ledger() {
 }
 
 #[test]
+fn two_presses_in_a_script() {
+    let script = "grid 4 1 1 1\n\
+                  air 100 100 100 100 100 100\n\
+                  tracers 0 0 100 200 100 0\n\
+                  count_zonal 0 0 0 50 0 0\n\
+                  show\n\
+                  zonal_with_count 0 0 2 0 50 0 0\n\
+                  zonal_with_count 0 0 1\n\
+                  zonal_with_count 0 0 1 0 50 0 0\n\
+                  show\n\
+                  zonal_with_count 0 0\n";
+    let outcome = run(script);
+    let error = "line 10: 3 numbers are expected and 2 found".to_string();
+    assert_eq!(outcome.error, Some(error));
+    assert_eq!(
+        outcome.lines,
+        "count_zonal 0 1\nair 100 100 100 100 100 100\ntracers 0 0 100 200 100 0\n\
+         zonal_with_count 20 0\nzonal_with_count 2 0\nzonal_with_count 0 1\n\
+         air 100 100 50 150 100 100\ntracers 0 0 38 262 100 0\n"
+    );
+}
+
+#[test]
 fn pairs_of_a_column() {
     let script = "air 100 100 100\n\
                   pairs 0 0 150 0 200 0 0 65536\n\
@@ -127,6 +150,12 @@ fn a_bad_line_is_named() {
         "total x",
         "zonal 0",
         "zonal 0 0 1.5",
+        "count_zonal 0",
+        "count_zonal 0 0 x",
+        "zonal_with_count 0 0",
+        "zonal_with_count 0 0 -1 0 0 0 0",
+        "zonal_with_count 0 0 4294967296 0 0 0 0",
+        "zonal_with_count 0 0 1 2147483648",
         "meridional",
         "emission 0 0 4294967296",
         "load 1",

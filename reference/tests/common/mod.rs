@@ -75,6 +75,23 @@ pub fn long_zonal(layer: u32, row: u32, fluxes: &[i32]) -> Call {
     }
 }
 
+pub fn count_zonal(layer: u32, row: u32, fluxes: &[i32]) -> Call {
+    Call::CountZonal {
+        layer,
+        row,
+        fluxes: fluxes.to_vec(),
+    }
+}
+
+pub fn zonal_with_count(layer: u32, row: u32, given: u32, fluxes: &[i32]) -> Call {
+    Call::ZonalWithCount {
+        layer,
+        row,
+        given,
+        fluxes: fluxes.to_vec(),
+    }
+}
+
 pub fn meridional(layer: u32, fluxes: &[i32]) -> Call {
     Call::Meridional {
         layer,
@@ -140,6 +157,8 @@ pub fn each_call(grid: &Grid) -> Vec<Call> {
         withdrawal(0, 0, 0),
         zonal(0, 0, &vec![0; grid.w as usize]),
         long_zonal(0, 0, &vec![0; grid.w as usize]),
+        count_zonal(0, 0, &vec![0; grid.w as usize]),
+        zonal_with_count(0, 0, 1, &vec![0; grid.w as usize]),
         meridional(0, &vec![0; (grid.w * (grid.r + 1)) as usize]),
         remap(&even_table(grid.k)),
         Call::Total { tracer: 0 },
@@ -269,7 +288,7 @@ fn random_index(random: &mut Random, number: usize) -> u32 {
     (random.next() % number as u64) as u32
 }
 
-fn random_row_fluxes(random: &mut Random, row_air: &[u32]) -> Vec<i32> {
+pub fn random_row_fluxes(random: &mut Random, row_air: &[u32]) -> Vec<i32> {
     let columns = row_air.len();
     let least = i64::from(*row_air.iter().min().unwrap());
     let base = match random.next() % 4 {
@@ -362,7 +381,7 @@ fn random_table(random: &mut Random, layers: u32) -> Vec<u32> {
 }
 
 /// A layer, a row, and fluxes for its air. Layer and row are mostly present.
-fn random_row(
+pub fn random_row(
     random: &mut Random,
     world: &World,
     fluxes: fn(&mut Random, &[u32]) -> Vec<i32>,
@@ -374,6 +393,21 @@ fn random_row(
     let row_air = world.air.get(first..first + grid.w as usize);
     let spare = vec![100; grid.w as usize];
     (layer, row, fluxes(random, row_air.unwrap_or(&spare)))
+}
+
+/// The count before a sweep, or the sweep with a count given to it, mostly the right one.
+fn random_press(random: &mut Random, world: &World) -> Call {
+    let (layer, row, fluxes) = random_row(random, world, random_row_fluxes);
+    let counted = count_zonal(layer, row, &fluxes);
+    if random.one_in(3) {
+        return counted;
+    }
+    let given = match random.next() % 8 {
+        0 => random.amount(0, 20),
+        1 => random.next() as u32,
+        _ => call(&mut world.clone(), &counted).count as u32,
+    };
+    zonal_with_count(layer, row, given, &fluxes)
 }
 
 /// A call on the emitters, with few ids, so that they are met again.
@@ -404,7 +438,7 @@ fn random_emitter_call(random: &mut Random, world: &World) -> Call {
 pub fn random_call(random: &mut Random, world: &World) -> Call {
     let grid = &world.grid;
     let (cells, layer_cells) = (cells(grid), layer_cells(grid));
-    match random.next() % 26 {
+    match random.next() % 32 {
         0 => emission(
             random_index(random, grid.n as usize),
             random_index(random, cells),
@@ -440,6 +474,7 @@ pub fn random_call(random: &mut Random, world: &World) -> Call {
             Call::LongZonal { layer, row, fluxes }
         }
         20..=25 => random_emitter_call(random, world),
+        26..=31 => random_press(random, world),
         _ => Call::Cell {
             tracer: random_index(random, grid.n as usize),
             cell: random_index(random, cells),
