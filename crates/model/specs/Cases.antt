@@ -6,6 +6,7 @@ pub mod Long
 pub mod Emitters
 pub mod Walk
 pub mod Readout
+pub mod Presses
 use Prim.Native.Nat.{ℕ}
 use Prim.Native.String.{String}
 use mathlib.Core.List.{List, [], _∷_, cons≢nil}

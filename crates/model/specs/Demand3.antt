@@ -9,14 +9,14 @@ use lib.ListN.{take, replicate}
 use Rattle.model.specs.Basic.{tab}
 use Rattle.model.specs.World.{World, block, gasTotal, airTotal}
 use Rattle.model.specs.Emitters.{presentUnits}
-use Rattle.model.specs.Step.{Call, load, emission, withdrawal, zonal, longZonal, meridional, remap, total, cell, addEmitter, removeEmitter, tick, unitsATick, brokenRecord, firstOf, meaning, lentFits, ownPlaces, refusal, step}
+use Rattle.model.specs.Step.{Call, load, emission, withdrawal, zonal, longZonal, meridional, remap, total, cell, addEmitter, removeEmitter, tick, unitsATick, countZonal, zonalWithCount, brokenRecord, firstOf, meaning, lentFits, ownPlaces, refusal, step}
 use Rattle.model.specs.Lists.{Loaded, loadedWorld, listed, callAt, after, point, history, HasRatio, CallInRange, LoadedAlike, Alike, namesNoOther, SameReply}
 use Rattle.model.specs.Laws.Step.{Reached, answer-is, own-refusal, loaded-reached, loaded-alike}
 use Rattle.model.specs.Laws.Keeps.{Kept, MeaningKeeps, StepKeeps, step-keeps, names-grid}
 use Rattle.model.specs.Laws.Lists.{listed-take, listed-at, point-range, list-kept, list-alike, points-ratio}
 use Rattle.model.specs.Laws.Amounts.{emission-keeps, withdrawal-keeps, total-keeps, cell-keeps}
 use Rattle.model.specs.Laws.Standing.{record-sound, record-left, no-place, add-keeps, remove-keeps, tick-keeps, units-keeps, reading-is-sum}
-use Rattle.model.specs.Laws.Zonal.{zonal-keeps}
+use Rattle.model.specs.Laws.Zonal.{zonal-keeps, count-keeps, with-count-keeps}
 use Rattle.model.specs.Laws.LongZonal.{long-keeps}
 use Rattle.model.specs.Laws.Meridional.{meridional-keeps}
 use Rattle.model.specs.Laws.Remap.{remap-keeps}
@@ -58,6 +58,8 @@ call-keeps (addEmitter t c id units) e = add-keeps t c id units
 call-keeps (removeEmitter t id) e = remove-keeps t id
 call-keeps (tick t) e = tick-keeps t
 call-keeps (unitsATick t) e = units-keeps t
+call-keeps (countZonal k r fluxes) e = count-keeps k r fluxes
+call-keeps (zonalWithCount k r n fluxes) e = with-count-keeps k r n fluxes
 
 pub any-keeps : (call : Call) → meaning call .listed ≡ true → (w : World) → Reached w → StepKeeps w call
 any-keeps call e = step-keeps call (call-keeps call e)
@@ -114,7 +116,7 @@ emitters-reached w calls start no-loads i =
           (answer, reading-is-sum now t answer),
     )
 
--- Two lists that meet the premises, their answers, counts and totals by computation, so that the theorem is not empty: calls of every kind, on the world of m9 and on that of m1, six of them refused.
+-- Two lists that meet the premises, their answers, counts and totals by computation, so that the theorem is not empty: calls of every kind, on the world of m9 and on that of m1, seven of them refused.
 abbrev worked : List Call
 worked =
     emission 0 1 268433655 ∷ emission 0 1 1 ∷ withdrawal 0 1 268433600 ∷ emission 0 3 20 ∷
@@ -132,7 +134,9 @@ worked =
 abbrev ticks : List Call
 ticks =
     addEmitter 0 3 77 5 ∷ addEmitter 0 2 77 6 ∷ tick 0 ∷ tick 0 ∷ unitsATick 0 ∷ removeEmitter 0 77 ∷ removeEmitter 0 77 ∷
-    cell 0 3 ∷ []
+    cell 0 3 ∷
+    countZonal 0 0 (replicate 4 (pos 150)) ∷ zonalWithCount 0 0 1 (replicate 4 (pos 150)) ∷ zonalWithCount 0 0 2 (replicate 4 (pos 150)) ∷
+    []
 
 pub worked-start : Loaded stair × Loaded peak
 unfolding computes
@@ -144,19 +148,19 @@ worked-listed = (refl, refl)
 
 pub worked-answers :
     (tab 13 (λ i. step (point (loadedWorld stair) worked i) (callAt worked i) .answer) ≡ 0 ∷ 6 ∷ 0 ∷ 0 ∷ 0 ∷ 0 ∷ 9 ∷ 0 ∷ 16 ∷ 0 ∷ 12 ∷ 0 ∷ 0 ∷ [])
-    × (tab 8 (λ i. step (point (loadedWorld peak) ticks i) (callAt ticks i) .answer) ≡ 0 ∷ 18 ∷ 0 ∷ 0 ∷ 0 ∷ 0 ∷ 19 ∷ 0 ∷ [])
+    × (tab 11 (λ i. step (point (loadedWorld peak) ticks i) (callAt ticks i) .answer) ≡ 0 ∷ 18 ∷ 0 ∷ 0 ∷ 0 ∷ 0 ∷ 19 ∷ 0 ∷ 0 ∷ 20 ∷ 0 ∷ [])
 unfolding computes after
 worked-answers = (refl, refl)
 
 pub worked-counts :
     (tab 13 (λ i. step (point (loadedWorld stair) worked i) (callAt worked i) .count) ≡ 0 ∷ 0 ∷ 0 ∷ 0 ∷ 1 ∷ 1 ∷ 0 ∷ 0 ∷ 0 ∷ 28 ∷ 0 ∷ 1875 ∷ 177 ∷ [])
-    × (tab 8 (λ i. step (point (loadedWorld peak) ticks i) (callAt ticks i) .count) ≡ 0 ∷ 0 ∷ 0 ∷ 0 ∷ 5 ∷ 0 ∷ 0 ∷ 210 ∷ [])
+    × (tab 11 (λ i. step (point (loadedWorld peak) ticks i) (callAt ticks i) .count) ≡ 0 ∷ 0 ∷ 0 ∷ 0 ∷ 5 ∷ 0 ∷ 0 ∷ 210 ∷ 2 ∷ 0 ∷ 2 ∷ [])
 unfolding computes after
 worked-counts = (refl, refl)
 
 pub worked-totals :
     (tab 14 (λ i. gasTotal (point (loadedWorld stair) worked i) 0) ≡ 1800 ∷ 268435455 ∷ 268435455 ∷ 1855 ∷ replicate 10 1875)
-    × (tab 9 (λ i. gasTotal (point (loadedWorld peak) ticks i) 0) ≡ 400 ∷ 400 ∷ 400 ∷ 405 ∷ replicate 5 410)
+    × (tab 12 (λ i. gasTotal (point (loadedWorld peak) ticks i) 0) ≡ 400 ∷ 400 ∷ 400 ∷ 405 ∷ replicate 8 410)
 unfolding computes after
 worked-totals = (refl, refl)
 
@@ -166,7 +170,7 @@ worked-air = refl
 
 pub worked-emitted :
     (tab 14 (λ i. history (loadedWorld stair) 0 (take i worked) .emitted) ≡ 0 ∷ replicate 3 268433655 ++ replicate 10 268433675)
-    × (tab 9 (λ i. history (loadedWorld peak) 0 (take i ticks) .emitted) ≡ 0 ∷ 0 ∷ 0 ∷ 5 ∷ replicate 5 10)
+    × (tab 12 (λ i. history (loadedWorld peak) 0 (take i ticks) .emitted) ≡ 0 ∷ 0 ∷ 0 ∷ 5 ∷ replicate 8 10)
 unfolding computes history
 worked-emitted = (refl, refl)
 

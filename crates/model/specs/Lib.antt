@@ -17,3 +17,4 @@ pub mod Corollaries
 pub mod Inventory
 pub mod Budget
 pub mod Readout
+pub mod Presses

@@ -1,4 +1,4 @@
--- Document 01, "Refusals by place of checking" and "Emission, withdrawal, load, readings", and the long sweep and the emitters of document 02: a call, what it means, and `step`, what it answers and leaves.
+-- Document 01, "Refusals by place of checking" and "Emission, withdrawal, load, readings", and the long sweep, the emitters and the two presses of document 02: a call, what it means, and `step`, what it answers and leaves.
 -- Total in any world and any arguments. A place's test is computed only when it is reached.
 use Prim.Native.Nat.{ℕ, zero, suc, _+_, _*_, _-_}
 use mathlib.Core.List.{List, [], _∷_, _++_}
@@ -31,6 +31,8 @@ pub data Call : Type 0 where
   removeEmitter : (t id : ℕ) → Call
   tick : (t : ℕ) → Call
   unitsATick : (t : ℕ) → Call
+  countZonal : (k r : ℕ) → List ℤ → Call
+  zonalWithCount : (k r n : ℕ) → List ℤ → Call
 
 -- A place: its number, and the test of whether it applies
 pub record Place : Type 0 where
@@ -190,6 +192,26 @@ sweeps mesh start fluxes count lent places =
           (gasAfter (ruleOf w t) (mesh (w .grid)) fluxes (count w) (cells w (w .air)) (cells w (gas w t)));
     }
 
+-- a zonal sweep of row r in layer k with so many substeps; `more` are the places that it has behind 9. 9: "no n from 1 to 16 serves"
+abbrev pub sweepsRow : ℕ → ℕ → List ℤ → (World → ℕ) → List Place → Meaning
+sweepsRow k r fluxes count more =
+    sweeps (λ g. ring (g .W)) (λ g. rowStart g k r) fluxes count (λ g. eqb (length fluxes) (g .W))
+    (absent k (λ g. g .K) ∷ absent r (λ g. g .R) ∷ fluxTooLarge fluxes zonalLimit ∷ place 9 (λ w. eqb (zonalCount w k r fluxes) 0) ∷ more)
+
+-- one that has the places of another and "gives the count and writes nothing"
+abbrev pub counts : Meaning → Meaning
+counts m =
+    record {
+      listed = m .listed;
+      lent = m .lent;
+      places = m .places;
+      count = m .count;
+      next = λ before. before;
+      names = m .names;
+      exchange = λ w t. noExchange;
+      range = λ w next t. Unit {0};
+    }
+
 abbrev pub meaning : Call → Meaning
 -- "A load checks lent air and tracers, changes nothing in them, and they are the world from then on."
 -- (02) "A load leaves none standing, and doesn't test the old ones." It begins a list and stands in none.
@@ -209,10 +231,8 @@ meaning (emission t c amount) =
     changes t c (place 6 (λ w. ltb totalLimit (gasTotal w t + amount))) (λ T. T + amount) (record { emitted = amount; withdrawn = 0 })
 meaning (withdrawal t c amount) =
     changes t c (place 7 (λ w. ltb (amountAt w t c) amount)) (λ T. T - amount) (record { emitted = 0; withdrawn = amount })
--- 9: "no n from 1 to 16 serves"
-meaning (zonal k r fluxes) =
-    sweeps (λ g. ring (g .W)) (λ g. rowStart g k r) fluxes (λ w. zonalCount w k r fluxes) (λ g. eqb (length fluxes) (g .W))
-    (absent k (λ g. g .K) ∷ absent r (λ g. g .R) ∷ fluxTooLarge fluxes zonalLimit ∷ place 9 (λ w. eqb (zonalCount w k r fluxes) 0) ∷ [])
+-- "the sweep uses the smallest n from 1 to 16, and that n is its count"
+meaning (zonal k r fluxes) = sweepsRow k r fluxes (λ w. zonalCount w k r fluxes) []
 -- 16: "when a flux's size exceeds the row's air", 17: "when air afterwards leaves 1 to 65,535", "in that order after 8, with its zonal limit, in a long sweep"
 meaning (longZonal k r fluxes) =
     record {
@@ -269,6 +289,11 @@ meaning (tick t) =
     }
 -- (02) "A reading gives the tracer's units a tick, kept up to date"
 meaning (unitsATick t) = reads (tracer t) (absent t (λ g. g .N) ∷ brokenRecord ∷ []) (λ w. keptUnits (block w t))
+-- (02) "Add a call that gives the count and writes nothing, and a second that carries the sweep out with a count given to it."
+-- 20: "when the given count differs from the smallest that serves, tested after 9 in the second call"
+meaning (countZonal k r fluxes) = counts (sweepsRow k r fluxes (λ w. zonalCount w k r fluxes) [])
+meaning (zonalWithCount k r n fluxes) =
+    sweepsRow k r fluxes (λ w. n) (place 20 (λ w. not (eqb n (zonalCount w k r fluxes))) ∷ [])
 
 -- 2: "a lent length is not the grid's"; a sweep's fluxes and a remap's table are lent too
 abbrev pub lentFits : Grid → Call → Bool

@@ -1,7 +1,9 @@
--- A grid in its ranges: its bounds, the greatest numbers of cells, faces and amounts, and that its layers and rows lie among its cells.
+-- A grid in its ranges: its bounds, the greatest numbers of cells, faces and amounts, that its layers and rows lie among its cells, and that two of them lie apart.
 use Prim.Native.Nat.{ℕ, suc, _+_, _*_, _≤_, _<_}
 use mathlib.Core.Bool.{true, and-eq-true-iff}
 use mathlib.Core.Path.{_≡_}
+use mathlib.Core.Logic.{_≢_, _⊎_, inl, inr}
+use native.Mathlib.Decide.{ℕ-discrete}
 use native.Mathlib.Nat.{mul-le-mul, mul-le-mul-right}
 use native.Mathlib.Omega.{arith}
 use borrow.Author.Tests.{leb-true}
@@ -9,6 +11,7 @@ use lib.Dec.{leb}
 use Rattle.model.specs.Limits.{mostColumns, mostRows, mostLayers, mostTracers, mostLayerCells, mostFaces, mostCells, mostAmounts}
 use Rattle.model.specs.World.{Grid, layerCells, worldCells, layerStart, rowStart}
 use Rattle.model.specs.Step.{within, gridFits}
+use Rattle.model.specs.Laws.Basic.{le-or-lt}
 
 -- W, R, K and N are in their ranges
 pub record InRange (g : Grid) : Type 0 where
@@ -69,3 +72,35 @@ layer-inside g k h = omega (arith, mul-le-mul-right (layerCells g) h)
 pub row-inside : (g : Grid) (k r : ℕ) → k < g .K → r < g .R → rowStart g k r + g .W ≤ worldCells g
 row-inside g k r hk hr =
     omega (arith, mul-le-mul-right (layerCells g) hk, mul-le-mul-right (g .W) hr)
+
+-- ---- two layers, and two rows of the grid, lie apart: n cells from cell b on, and m cells from cell a on
+abbrev pub Apart : ℕ → ℕ → ℕ → ℕ → Type 0
+Apart a m b n = (b + n ≤ a) ⊎ (a + m ≤ b)
+
+row-in-layer : (g : Grid) (k r : ℕ) → r < g .R → rowStart g k r + g .W ≤ layerStart g k + layerCells g
+row-in-layer g k r h = omega (arith, mul-le-mul-right (g .W) h)
+
+-- a layer, and a row of another one
+pub layer-apart : (g : Grid) (l k r : ℕ) → r < g .R → l ≢ k → Apart (layerStart g l) (layerCells g) (rowStart g k r) (g .W)
+layer-apart g l k r h other = go (le-or-lt l k)
+  where
+    go : (l ≤ k) ⊎ (k < l) → Apart (layerStart g l) (layerCells g) (rowStart g k r) (g .W)
+    go (inl before) = let above : suc l ≤ k = omega arith in inr (omega (arith, mul-le-mul-right (layerCells g) above))
+    go (inr behind) = inl (omega (arith, row-in-layer g k r h, mul-le-mul-right (layerCells g) behind))
+
+-- two rows, of two layers or of one
+pub rows-apart :
+    (g : Grid) (l s k r : ℕ) → s < g .R → r < g .R → (l ≡ k → s ≢ r) → Apart (rowStart g l s) (g .W) (rowStart g k r) (g .W)
+rows-apart g l s k r hs hr other = go (ℕ-discrete l k)
+  where
+    one-layer : s ≢ r → (s ≤ r) ⊎ (r < s) → Apart (rowStart g k s) (g .W) (rowStart g k r) (g .W)
+    one-layer differs (inl before) = let south : suc s ≤ r = omega arith in inr (omega (arith, mul-le-mul-right (g .W) south))
+    one-layer differs (inr behind) = inl (omega (arith, mul-le-mul-right (g .W) behind))
+
+    two-layers : Apart (layerStart g l) (layerCells g) (rowStart g k r) (g .W) → Apart (rowStart g l s) (g .W) (rowStart g k r) (g .W)
+    two-layers (inl below) = inl (omega arith)
+    two-layers (inr above) = inr (omega (arith, row-in-layer g l s hs))
+
+    go : Dec (l ≡ k) → Apart (rowStart g l s) (g .W) (rowStart g k r) (g .W)
+    go (yes e) = rw e (one-layer (other e) (le-or-lt s r))
+    go (no e) = two-layers (layer-apart g l k r hr e)

@@ -9,7 +9,7 @@ use borrow.Author.Tests.{ltb-true, lt-ltb, not-false}
 use lib.Dec.{ltb}
 use Rattle.model.specs.Basic.{at, sum}
 use Rattle.model.specs.World.{Grid, World, worldCells, gas, block, gasTotal, airTotal}
-use Rattle.model.specs.Step.{Call, Place, firstOf, absent, Exchange, noExchange, Named, nobody, tracer, Meaning, meaning, reads, lentFits, ownPlaces, accepted, refused, refusal, step}
+use Rattle.model.specs.Step.{Call, Place, firstOf, absent, Exchange, noExchange, Named, nobody, tracer, Meaning, meaning, reads, counts, lentFits, ownPlaces, accepted, refused, refusal, step}
 use Rattle.model.specs.Lists.{exchanged, added, HasRatio, CallInRange, Alike, namesOwn, namesNoOther, SameReply}
 use Rattle.model.specs.Laws.Step.{Reached, firstOf-same, step-accepted, step-refused, answer-is, own-refusal, lent-refusal, accepted-passed}
 
@@ -155,6 +155,21 @@ reads-keep names ps count places counts =
             kept = kept-same reached (λ t. refl);
             inRange = λ t h. tt;
             alike = λ own v rv a named. (a, counts own w v a named e);
+            apart = λ own other. alike-same own w;
+          };
+    }
+
+-- one that counts and writes nothing keeps all, if the call whose count it gives keeps what a call keeps
+pub counts-keep : {m : Meaning} → MeaningKeeps m → MeaningKeeps (counts m)
+counts-keep keeps =
+    record {
+      samePlaces = keeps .samePlaces;
+      accepts =
+          λ w reached e.
+          record {
+            kept = kept-same reached (λ t. refl);
+            inRange = λ t h. tt;
+            alike = λ own v rv a named. (a, keeps .accepts w reached e .alike own v rv a named .1);
             apart = λ own other. alike-same own w;
           };
     }

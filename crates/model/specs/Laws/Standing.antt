@@ -19,7 +19,7 @@ use Rattle.model.specs.Sweep.{swept}
 use Rattle.model.specs.Remap.{remapped}
 use Rattle.model.specs.Long.{longSwept}
 use Rattle.model.specs.Emitters.{standing, keptUnits, presentUnits, hasId, recordFits, emitterAdded, emitterRemoved, ticked}
-use Rattle.model.specs.Step.{Call, load, emission, withdrawal, zonal, longZonal, meridional, remap, total, cell, Result, Place, firstOf, absent, brokenRecord, addEmitter, removeEmitter, tick, unitsATick, Exchange, noExchange, Named, nobody, tracer, meaning, enters, ownPlaces, accepted, refused, refusal, step}
+use Rattle.model.specs.Step.{Call, load, emission, withdrawal, zonal, longZonal, meridional, remap, total, cell, Result, Place, firstOf, absent, brokenRecord, addEmitter, removeEmitter, tick, unitsATick, countZonal, zonalWithCount, Exchange, noExchange, Named, nobody, tracer, meaning, enters, ownPlaces, accepted, refused, refusal, step}
 use Rattle.model.specs.Lists.{exchanged, Alike, namesOwn}
 use Rattle.model.specs.Laws.Basic.{every-at, every-true, length-part, at-part, InPart, Outside, part-or-outside, length-written, at-written-within, at-written-outside, length-rewritten, part-rewritten, part-not-rewritten}
 use Rattle.model.specs.Laws.Emitters.{Sound, kept-is, record-fitting, sound-fits, added-sound, removed-sound, length-added, added-has, add-remove, length-ticked, ticked-sum, ticked-none, unitsIn, ticked-at}
@@ -506,6 +506,8 @@ beside t (removeEmitter u id) held other w reached e =
     (block-unchanged w reached u (p .there) _ (removed-sound (reached .emitters u (p .there)) id has .many) t (differs u t other), refl)
 beside t (tick u) held other w reached e = (refl, not-exchanged u t _ other)
 beside t (unitsATick u) held other w reached e = (refl, refl)
+beside t (countZonal k r fluxes) held other w reached e = (refl, refl)
+beside t (zonalWithCount k r n fluxes) held other w reached e = (refl, refl)
 
 -- .. whether it is accepted or not
 pub step-beside :

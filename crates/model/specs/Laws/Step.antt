@@ -1,12 +1,13 @@
 -- Laws of `step`: the first place that applies, an accepted and a refused call, and what an accepted load tells of a world: none of the refusals 1 to 4 is met there but for a call's own lent list.
 use Prim.Native.Nat.{ℕ, zero, suc, _*_, _≤_, _<_}
-use mathlib.Core.List.{List, _∷_, _++_}
-use mathlib.Core.Bool.{Bool, true, false, not, and-eq-true-iff}
+use mathlib.Core.List.{List, [], _∷_, _++_}
+use mathlib.Core.Bool.{Bool, true, false, not, _&&_, and-eq-true-iff}
 use mathlib.Core.Path.{_≡_, refl, sym, _∙_, ap}
+use mathlib.Core.Logic.{_≢_}
 use native.Mathlib.Nat.{mul-le-mul-right}
 use native.Mathlib.Omega.{arith}
 use borrow.Author.Tests.{ltb-true, leb-true, le-leb, eqb-true, eq-eqb, not-false}
-use lib.Dec.{lit<}
+use lib.Dec.{ltb, lit<}
 use lib.ListN.{length}
 use Rattle.model.specs.Limits.{totalLimit, blockNumbers}
 use Rattle.model.specs.Basic.{at, part, zeros}
@@ -49,6 +50,28 @@ firstOf-same p ps w v same rest = go (p .applies w) refl
     go true q = stops p ps w q ∙ sym (stops p ps v (sym same ∙ q))
     go false q = passes p ps w q ∙ rest q ∙ sym (passes p ps v (sym same ∙ q))
 
+-- places behind others are tested where none of the first applies, and only there
+unfoldable pub numbered : List Place → Bool
+numbered [] = true
+numbered (p ∷ ps) = ltb 0 (p .number) && numbered ps
+
+pub behind-passed : (ps qs : List Place) (w : World) → numbered ps ≡ true → firstOf ps w ≡ 0 → firstOf (ps ++ qs) w ≡ firstOf qs w
+unfolding numbered
+behind-passed [] qs w positive e = refl
+behind-passed (p ∷ ps) qs w positive e =
+    let n = and-eq-true-iff (ltb 0 (p .number)) (numbered ps) .0 positive in
+    let q = passed p ps w (ltb-true _ _ (n .0)) e in
+    passes p (ps ++ qs) w (q .0) ∙ behind-passed ps qs w (n .1) (q .1)
+
+pub behind-stopped : (ps qs : List Place) (w : World) (n : ℕ) → firstOf ps w ≡ suc n → firstOf (ps ++ qs) w ≡ suc n
+unfolding firstOf
+behind-stopped [] qs w n e = absurd (omega arith)
+behind-stopped (p ∷ ps) qs w n e = go (p .applies w) refl (behind-stopped ps qs w n)
+  where
+    go : (b : Bool) → p .applies w ≡ b → (firstOf ps w ≡ suc n → firstOf (ps ++ qs) w ≡ suc n) → firstOf (p ∷ ps ++ qs) w ≡ suc n
+    go true q rest = stops p (ps ++ qs) w q ∙ sym (stops p ps w q) ∙ e
+    go false q rest = passes p (ps ++ qs) w q ∙ rest (sym (passes p ps w q) ∙ e)
+
 -- ---- an accepted call and a refused one
 pub step-accepted : (w : World) (call : Call) → refusal w call ≡ 0 → step w call ≡ accepted w call
 unfolding step
@@ -69,6 +92,14 @@ answer-is w call = go (refusal w call) refl
     go : (n : ℕ) → refusal w call ≡ n → step w call .answer ≡ n
     go zero e = rw (step-accepted w call e) (accepted-answer w call)
     go (suc n) e = rw (step-refused w call n e)
+
+pub refused-changes-nothing : (w : World) (call : Call) → step w call .answer ≢ 0 → (step w call .count ≡ 0) × (step w call .next ≡ w)
+unfolding refused
+refused-changes-nothing w call closed = go (refusal w call) refl
+  where
+    go : (n : ℕ) → refusal w call ≡ n → (step w call .count ≡ 0) × (step w call .next ≡ w)
+    go zero e = absurd (closed (answer-is w call ∙ e))
+    go (suc n) e = rw (step-refused w call n e) (refl, refl)
 
 -- ---- what places 1 to 4 tell of a world that passes them
 pub record Fits (w : World) : Type 0 where
