@@ -1,7 +1,7 @@
 // The public calls for C and Rust. Each takes the grid's four numbers and the lent buffers, and returns one number: answer · 2^32 + count.
 // The reading of the units a tick has a count of 64 bits, so it has two exports: one for the answer, one for the count.
 ghost use mathlib.Core.Path.{_≡_};
-ghost use Rattle.model.specs.Step.{load, emission, withdrawal, zonal, longZonal, meridional, remap, total, cell as cell-call, addEmitter, removeEmitter, tick, unitsATick};
+ghost use Rattle.model.specs.Step.{load, emission, withdrawal, zonal, longZonal, meridional, remap, total, cell as cell-call, addEmitter, removeEmitter, tick, unitsATick, countZonal, zonalWithCount};
 ghost use Rattle.boundary.specs.Returned.{packedOf, Returns, Answers, Counts, lentWorld};
 use units::Answer;
 use units::Grid;
@@ -266,4 +266,43 @@ pub extern "C" fn puldeho_raw_units_a_tick_number(
 {
     let g = Grid { w, r, k, n };
     wide_count(emitters::units_a_tick(g, air, tracers, ledger, tracer))
+}
+
+#[no_mangle]
+pub extern "C" fn puldeho_raw_count_zonal(
+    w: u32,
+    r: u32,
+    k: u32,
+    n: u32,
+    air: &[u32],
+    tracers: &[u32],
+    ledger: &[u32],
+    layer: u32,
+    row: u32,
+    fluxes: &[i32],
+) -> u64
+    ensures { λ x. ⌜ Returns (lentWorld w r k n (now (air .entry)) (now (tracers .entry)) (now (ledger .entry))) (countZonal layer row (now (fluxes .entry))) x (lentWorld w r k n (now (air .entry)) (now (tracers .entry)) (now (ledger .entry))) ⌝ }
+{
+    let g = Grid { w, r, k, n };
+    packed(zonal::count_zonal(g, air, tracers, ledger, layer, row, fluxes))
+}
+
+#[no_mangle]
+pub extern "C" fn puldeho_raw_zonal_with_count(
+    w: u32,
+    r: u32,
+    k: u32,
+    n: u32,
+    air: &mut [u32],
+    tracers: &mut [u32],
+    ledger: &[u32],
+    layer: u32,
+    row: u32,
+    given: u32,
+    fluxes: &[i32],
+) -> u64
+    ensures { λ x. ⌜ Returns (lentWorld w r k n (now (air .entry)) (now (tracers .entry)) (now (ledger .entry))) (zonalWithCount layer row given (now (fluxes .entry))) x (lentWorld w r k n (now (air .exit)) (now (tracers .exit)) (now (ledger .entry))) ⌝ }
+{
+    let g = Grid { w, r, k, n };
+    packed(zonal::zonal_with_count(g, air, tracers, ledger, layer, row, given, fluxes))
 }

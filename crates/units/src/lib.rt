@@ -96,6 +96,7 @@ pub enum Refusal {
     LongAir,
     EmitterAdded,
     EmitterAbsent,
+    GivenCount,
 }
 
 // What a call answers: accepted, with its count, or refused.
@@ -146,6 +147,7 @@ pub fn refusal_number(r: Refusal) -> u32
         Refusal::LongAir => 17,
         Refusal::EmitterAdded => 18,
         Refusal::EmitterAbsent => 19,
+        Refusal::GivenCount => 20,
     }
 }
 

@@ -1,5 +1,5 @@
-// The zonal sweep of one row in one layer.
-ghost use Rattle.model.specs.Step.{zonal as zonal-call};
+// The zonal sweep of one row in one layer; the count before the sweep, and the sweep with a given count.
+ghost use Rattle.model.specs.Step.{zonal as zonal-call, countZonal, zonalWithCount};
 ghost use Rattle.units.specs.Answer.{Agrees};
 ghost use Rattle.units.specs.Grid.{gridOf, worldOf};
 ghost use Rattle.zonal.specs.ZonalPlace.{IsZonalPlace};
@@ -48,7 +48,7 @@ fn zonal_place(
     }
 }
 
-// The row's lent air and the row of every tracer, swept.
+// The row from cell `first` on, swept in the air and in all tracers; of the air only its cells are lent on.
 fn sweep_row(
     g: Grid,
     air: &mut [u32],
@@ -57,14 +57,15 @@ fn sweep_row(
     substeps: u32,
     fluxes: &[i32],
 )
-    requires { ⌜ RowReady (gridOf g) (now tracers) (now air) first (now fluxes) substeps ⌝ }
-    ensures { λ x. ⌜ IsSwept (gridOf g) (now (tracers .entry)) (now (air .entry)) first (now (fluxes .entry)) substeps (now (air .exit)) (now (tracers .exit)) ⌝ }
+    requires { ⌜ RowReady (gridOf g) (now air) (now tracers) first (now fluxes) substeps ⌝ }
+    ensures { λ x. ⌜ IsSwept (gridOf g) (now (air .entry)) (now (tracers .entry)) first (now (fluxes .entry)) substeps (now (air .exit)) (now (tracers .exit)) ⌝ }
 {
     let w = g.w as usize;
     let n = g.n as usize;
+    let end = first + w;
     let cells = world_cells(g) as usize;
     let rows = load_rows(tracers, first, cells, w, n);
-    let swept = sweep_rows(rows, air, fluxes, substeps, n);
+    let swept = sweep_rows(rows, &mut air[first..end], fluxes, substeps, n);
     store_rows(swept, tracers, first, cells, w, n);
 }
 
@@ -85,9 +86,49 @@ pub fn zonal(
     if number(answer) == 0 {} else {
         return answer;
     }
-    let first = place.first;
     let substeps = place.found as u32;
-    let end = first + (g.w as usize);
-    sweep_row(g, &mut air[first..end], tracers, first, substeps, fluxes);
+    sweep_row(g, air, tracers, place.first, substeps, fluxes);
     Answer::Accepted(substeps)
+}
+
+// The count of the sweep before it is made; everything is only read.
+pub fn count_zonal(
+    g: Grid,
+    air: &[u32],
+    tracers: &[u32],
+    ledger: &[u32],
+    layer: u32,
+    row: u32,
+    fluxes: &[i32],
+) -> Answer
+    ensures { λ x. ⌜ Agrees (worldOf g (now (air .entry)) (now (tracers .entry)) (now (ledger .entry))) (countZonal layer row (now (fluxes .entry))) x (worldOf g (now (air .entry)) (now (tracers .entry)) (now (ledger .entry))) ⌝ }
+{
+    let place = zonal_place(g, air, tracers, ledger, layer, row, fluxes);
+    place.answer
+}
+
+// The same sweep with a given count, which must be the one that it has.
+pub fn zonal_with_count(
+    g: Grid,
+    air: &mut [u32],
+    tracers: &mut [u32],
+    ledger: &[u32],
+    layer: u32,
+    row: u32,
+    given: u32,
+    fluxes: &[i32],
+) -> Answer
+    ensures { λ x. ⌜ Agrees (worldOf g (now (air .entry)) (now (tracers .entry)) (now (ledger .entry))) (zonalWithCount layer row given (now (fluxes .entry))) x (worldOf g (now (air .exit)) (now (tracers .exit)) (now (ledger .entry))) ⌝ }
+{
+    let place = zonal_place(g, air, tracers, ledger, layer, row, fluxes);
+    let answer = place.answer;
+    if number(answer) == 0 {} else {
+        return answer;
+    }
+    let substeps = place.found as u32;
+    if given == substeps {} else {
+        return Answer::Refused(Refusal::GivenCount);
+    }
+    sweep_row(g, air, tracers, place.first, given, fluxes);
+    Answer::Accepted(given)
 }

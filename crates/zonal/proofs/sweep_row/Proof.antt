@@ -40,9 +40,14 @@ sweep-row-spec =
     (tie.spec
     (λ c. search needs)  -- cast-w
     (λ c. search needs)  -- cast-n
+    (λ c. search needs)  -- add-end
     (λ c κs. search needs)  -- world-cells-requires
     (λ c. search needs)  -- cast-cells
     load-rows-requires
+    (λ c. search needs)  -- mul-sweep-rows
+    (λ c. search needs)  -- sub-sweep-rows
+    (λ c. search needs)  -- part-sweep-rows-start
+    (λ c. search needs)  -- part-sweep-rows-end
     sweep-rows-requires
     store-rows-requires
     (λ c. search needs)  -- same-length

@@ -3,7 +3,6 @@ use mathlib.Core.Path.{sym, _∙_}
 use native.Mathlib.Omega.{arith}
 use Rattle.units.specs.Grid.{worldOf}
 use Rattle.places.specs.Walk.{itself, refuses}
-use Rattle.row_place.specs.RowPlace.{row-near, row-in-air}
 use Rattle.zonal.specs.ZonalPlace.{ZonalFound}
 use Rattle.zonal.specs.RowSwept.{row-ready, zonal-agrees}
 use borrow.Author.Needs.{needs}
@@ -29,21 +28,6 @@ cast-substeps c =
     let accepted : tie.Then1 = search needs in
     omega (arith, found accepted .most)
 
-add-end : tie.Need-add-end
-add-end c =
-    let accepted : tie.Then1 = search needs in
-    omega (arith, row-near (found accepted .row))
-
-mul-sweep-row : tie.Need-mul-sweep-row
-mul-sweep-row c =
-    let accepted : tie.Then1 = search needs in
-    omega (arith, row-near (found accepted .row))
-
-part-sweep-row-end : tie.Need-part-sweep-row-end
-part-sweep-row-end c =
-    let accepted : tie.Then1 = search needs in
-    row-in-air (found accepted .row)
-
 sweep-row-requires : tie.Need-sweep-row-requires
 sweep-row-requires c κs =
     let accepted : tie.Then1 = search needs in
@@ -65,12 +49,6 @@ zonal-spec =
     (λ c. search needs)  -- same-length-2
     returns
     cast-substeps
-    (λ c. search needs)  -- cast-end
-    add-end
-    mul-sweep-row
-    (λ c. search needs)  -- sub-sweep-row
-    (λ c. search needs)  -- part-sweep-row-start
-    part-sweep-row-end
     sweep-row-requires
     (λ c. search needs)  -- same-length-3
     (λ c. search needs)  -- same-length-4
