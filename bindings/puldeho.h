@@ -1,5 +1,5 @@
 /*
- * Puldeho, the transport core of the tracer console, for C (C99 or later) and C++: version 0.4.1.
+ * Puldeho, the transport core of the tracer console, for C (C99 or later) and C++: version 0.5.0.
  * Made by tools/bindings from the tables of bindings/: not to be edited.
  *
  * To compile and link, on x86-64 Linux: cc program.c $(pkg-config --cflags --libs puldeho)
@@ -39,7 +39,9 @@
  *   puldeho_raw_load                   16,576
  *   puldeho_raw_emission                  464
  *   puldeho_raw_withdrawal                400
- *   puldeho_raw_zonal                  25,536
+ *   puldeho_raw_zonal                  25,696
+ *   puldeho_raw_count_zonal            17,552
+ *   puldeho_raw_zonal_with_count       25,696
  *   puldeho_raw_long_zonal             18,656
  *   puldeho_raw_meridional             93,968
  *   puldeho_raw_remap                  17,840
@@ -59,11 +61,11 @@
 #include <stdint.h>
 #include <string.h>
 
-#define PULDEHO_VERSION "0.4.1"
+#define PULDEHO_VERSION "0.5.0"
 #define PULDEHO_VERSION_MAJOR 0
-#define PULDEHO_VERSION_MINOR 4
-#define PULDEHO_VERSION_PATCH 1
-#define PULDEHO_ABI puldeho_abi_0_4
+#define PULDEHO_VERSION_MINOR 5
+#define PULDEHO_VERSION_PATCH 0
+#define PULDEHO_ABI puldeho_abi_0_5
 
 /* the most air of a cell; the least is 1 */
 #define PULDEHO_AIR_LIMIT 65535
@@ -154,7 +156,9 @@ enum puldeho_refusal {
     /* the tracer has 16 emitters or already has that id */
     PULDEHO_REFUSAL_EMITTER_ADDED = 18,
     /* the tracer has no emitter of that id */
-    PULDEHO_REFUSAL_EMITTER_ABSENT = 19
+    PULDEHO_REFUSAL_EMITTER_ABSENT = 19,
+    /* the given count differs from the smallest that serves */
+    PULDEHO_REFUSAL_GIVEN_COUNT = 20
 };
 
 /* Why a call was refused: the condition of a refusal, in words. */
@@ -195,6 +199,8 @@ static inline const char *puldeho_refusal_text(enum puldeho_refusal refusal)
         return "the tracer has 16 emitters or already has that id";
     case PULDEHO_REFUSAL_EMITTER_ABSENT:
         return "the tracer has no emitter of that id";
+    case PULDEHO_REFUSAL_GIVEN_COUNT:
+        return "the given count differs from the smallest that serves";
     }
     return "no refusal of this version";
 }
@@ -237,6 +243,8 @@ static inline const char *puldeho_refusal_remedy(enum puldeho_refusal refusal)
         return "remove a stack before you add it again with another cell or other units; add stacks of one cell as one emitter, with the sum of their units (to close one of them, remove the emitter and add it again with the rest); what does not fit 16 emitters give by emission";
     case PULDEHO_REFUSAL_EMITTER_ABSENT:
         return "remove each stack once, from the tracer that it was added to, and add the emitters anew after a load";
+    case PULDEHO_REFUSAL_GIVEN_COUNT:
+        return "count again with count_zonal, for the same layer, row and fluxes, look at the new count, and give that";
     }
     return "compile the program anew, with the header of the library that it is linked with";
 }
@@ -277,6 +285,20 @@ static inline size_t puldeho_ledger_length(struct puldeho_grid grid)
 /* The length of fluxes of a zonal call: W. In it: flux i crosses the face from column i to
  * column i + 1, the last to column 0; positive eastward. */
 static inline size_t puldeho_zonal_fluxes_length(struct puldeho_grid grid)
+{
+    return (size_t)grid.w;
+}
+
+/* The length of fluxes of a count_zonal call: W. In it: flux i crosses the face from column
+ * i to column i + 1, the last to column 0; positive eastward. */
+static inline size_t puldeho_count_zonal_fluxes_length(struct puldeho_grid grid)
+{
+    return (size_t)grid.w;
+}
+
+/* The length of fluxes of a zonal_with_count call: W. In it: flux i crosses the face from
+ * column i to column i + 1, the last to column 0; positive eastward. */
+static inline size_t puldeho_zonal_with_count_fluxes_length(struct puldeho_grid grid)
 {
     return (size_t)grid.w;
 }
@@ -500,6 +522,35 @@ static inline enum puldeho_refusal puldeho_zonal(
     uint32_t *substeps);
 
 /*
+ * Counts the substeps of a zonal sweep of one row of one layer by W fluxes, positive eastward,
+ * before it is made, to be seen and then given to zonal_with_count. Writes nothing. Refusals,
+ * in order: 1 2 3 4 5 8 9. substeps: the number of substeps that the sweep takes, 1 to 16.
+ * fluxes has puldeho_count_zonal_fluxes_length(grid) numbers.
+ */
+PULDEHO_MUST_USE PULDEHO_NOT_NULL(1) PULDEHO_LIST(read_only, 4, 5)
+static inline enum puldeho_refusal puldeho_count_zonal(
+    const struct puldeho_world *world,
+    uint32_t layer,
+    uint32_t row,
+    const int32_t *fluxes, size_t fluxes_length,
+    uint32_t *substeps);
+
+/*
+ * Makes the sweep of zonal, if the given count is the one that count_zonal gives for the same
+ * layer, row and fluxes now; with any other count it is refused with 20. Writes air and
+ * tracers. Refusals, in order: 1 2 3 4 5 8 9 20. substeps: the given count. fluxes has
+ * puldeho_zonal_with_count_fluxes_length(grid) numbers.
+ */
+PULDEHO_MUST_USE PULDEHO_NOT_NULL(1) PULDEHO_LIST(read_only, 5, 6)
+static inline enum puldeho_refusal puldeho_zonal_with_count(
+    struct puldeho_world *world,
+    uint32_t layer,
+    uint32_t row,
+    uint32_t given,
+    const int32_t *fluxes, size_t fluxes_length,
+    uint32_t *substeps);
+
+/*
  * Sweeps one row of one layer by W fluxes, positive eastward, without substeps: a face takes
  * whole cells and then a part of the next. Its amounts are not those of zonal. Writes air and
  * tracers. Refusals, in order: 1 2 3 4 5 8 16 17. fluxes has
@@ -640,6 +691,23 @@ enum puldeho_refusal puldeho_why_zonal(
     char *text, size_t size);
 
 PULDEHO_NOT_NULL(1) PULDEHO_LIST(read_only, 4, 5) PULDEHO_LIST(write_only, 6, 7)
+enum puldeho_refusal puldeho_why_count_zonal(
+    const struct puldeho_world *world,
+    uint32_t layer,
+    uint32_t row,
+    const int32_t *fluxes, size_t fluxes_length,
+    char *text, size_t size);
+
+PULDEHO_NOT_NULL(1) PULDEHO_LIST(read_only, 5, 6) PULDEHO_LIST(write_only, 7, 8)
+enum puldeho_refusal puldeho_why_zonal_with_count(
+    const struct puldeho_world *world,
+    uint32_t layer,
+    uint32_t row,
+    uint32_t given,
+    const int32_t *fluxes, size_t fluxes_length,
+    char *text, size_t size);
+
+PULDEHO_NOT_NULL(1) PULDEHO_LIST(read_only, 4, 5) PULDEHO_LIST(write_only, 6, 7)
 enum puldeho_refusal puldeho_why_long_zonal(
     const struct puldeho_world *world,
     uint32_t layer,
@@ -741,6 +809,27 @@ uint64_t puldeho_raw_zonal(
     const uint32_t *ledger, size_t ledger_length,
     uint32_t layer,
     uint32_t row,
+    const int32_t *fluxes, size_t fluxes_length);
+
+PULDEHO_MUST_USE PULDEHO_LIST(read_only, 5, 6) PULDEHO_LIST(read_only, 7, 8) PULDEHO_LIST(read_only, 9, 10) PULDEHO_LIST(read_only, 13, 14)
+uint64_t puldeho_raw_count_zonal(
+    uint32_t w, uint32_t r, uint32_t k, uint32_t n,
+    const uint32_t *air, size_t air_length,
+    const uint32_t *tracers, size_t tracers_length,
+    const uint32_t *ledger, size_t ledger_length,
+    uint32_t layer,
+    uint32_t row,
+    const int32_t *fluxes, size_t fluxes_length);
+
+PULDEHO_MUST_USE PULDEHO_LIST(read_write, 5, 6) PULDEHO_LIST(read_write, 7, 8) PULDEHO_LIST(read_only, 9, 10) PULDEHO_LIST(read_only, 14, 15)
+uint64_t puldeho_raw_zonal_with_count(
+    uint32_t w, uint32_t r, uint32_t k, uint32_t n,
+    uint32_t *air, size_t air_length,
+    uint32_t *tracers, size_t tracers_length,
+    const uint32_t *ledger, size_t ledger_length,
+    uint32_t layer,
+    uint32_t row,
+    uint32_t given,
     const int32_t *fluxes, size_t fluxes_length);
 
 PULDEHO_MUST_USE PULDEHO_LIST(read_write, 5, 6) PULDEHO_LIST(read_write, 7, 8) PULDEHO_LIST(read_only, 9, 10) PULDEHO_LIST(read_only, 13, 14)
@@ -900,6 +989,42 @@ static inline enum puldeho_refusal puldeho_zonal(
         world->ledger != NULL ? world->ledger : world->own_ledger, puldeho_lent_ledger_length(world),
         layer,
         row,
+        fluxes, fluxes_length), substeps);
+}
+
+static inline enum puldeho_refusal puldeho_count_zonal(
+    const struct puldeho_world *world,
+    uint32_t layer,
+    uint32_t row,
+    const int32_t *fluxes, size_t fluxes_length,
+    uint32_t *substeps)
+{
+    return puldeho_refusal_and_count(puldeho_raw_count_zonal(
+        world->grid.w, world->grid.r, world->grid.k, world->grid.n,
+        world->air, world->air_length,
+        world->tracers, world->tracers_length,
+        world->ledger != NULL ? world->ledger : world->own_ledger, puldeho_lent_ledger_length(world),
+        layer,
+        row,
+        fluxes, fluxes_length), substeps);
+}
+
+static inline enum puldeho_refusal puldeho_zonal_with_count(
+    struct puldeho_world *world,
+    uint32_t layer,
+    uint32_t row,
+    uint32_t given,
+    const int32_t *fluxes, size_t fluxes_length,
+    uint32_t *substeps)
+{
+    return puldeho_refusal_and_count(puldeho_raw_zonal_with_count(
+        world->grid.w, world->grid.r, world->grid.k, world->grid.n,
+        world->air, world->air_length,
+        world->tracers, world->tracers_length,
+        world->ledger != NULL ? world->ledger : world->own_ledger, puldeho_lent_ledger_length(world),
+        layer,
+        row,
+        given,
         fluxes, fluxes_length), substeps);
 }
 

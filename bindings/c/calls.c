@@ -60,6 +60,44 @@ static bool make_zonal(struct puldeho_world *world, char *rest, struct outcome *
     return true;
 }
 
+static bool make_count_zonal(struct puldeho_world *world, char *rest, struct outcome *outcome)
+{
+    uint32_t layer;
+    uint32_t row;
+    struct list fluxes;
+    uint32_t substeps;
+    if (!take_u32(&rest, &layer)
+        || !take_u32(&rest, &row)
+        || !take_i32s(&rest, &fluxes)
+        || !at_end(rest))
+        return false;
+    outcome->why = puldeho_why_count_zonal(world, layer, row, (const int32_t *)fluxes.numbers, fluxes.length, outcome->text, sizeof outcome->text);
+    outcome->refusal = puldeho_count_zonal(world, layer, row, (const int32_t *)fluxes.numbers, fluxes.length, &substeps);
+    outcome->count = substeps;
+    free(fluxes.numbers);
+    return true;
+}
+
+static bool make_zonal_with_count(struct puldeho_world *world, char *rest, struct outcome *outcome)
+{
+    uint32_t layer;
+    uint32_t row;
+    uint32_t given;
+    struct list fluxes;
+    uint32_t substeps;
+    if (!take_u32(&rest, &layer)
+        || !take_u32(&rest, &row)
+        || !take_u32(&rest, &given)
+        || !take_i32s(&rest, &fluxes)
+        || !at_end(rest))
+        return false;
+    outcome->why = puldeho_why_zonal_with_count(world, layer, row, given, (const int32_t *)fluxes.numbers, fluxes.length, outcome->text, sizeof outcome->text);
+    outcome->refusal = puldeho_zonal_with_count(world, layer, row, given, (const int32_t *)fluxes.numbers, fluxes.length, &substeps);
+    outcome->count = substeps;
+    free(fluxes.numbers);
+    return true;
+}
+
 static bool make_long_zonal(struct puldeho_world *world, char *rest, struct outcome *outcome)
 {
     uint32_t layer;
@@ -193,6 +231,8 @@ const struct call calls[] = {
     {"emission", make_emission},
     {"withdrawal", make_withdrawal},
     {"zonal", make_zonal},
+    {"count_zonal", make_count_zonal},
+    {"zonal_with_count", make_zonal_with_count},
     {"long_zonal", make_long_zonal},
     {"meridional", make_meridional},
     {"remap", make_remap},

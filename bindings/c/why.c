@@ -33,7 +33,7 @@ struct text {
 /* A call with its own arguments; what it does not have is 0. */
 struct call {
     const struct puldeho_world *world;
-    uint32_t tracer, cell, amount, layer, row, id, units;
+    uint32_t tracer, cell, amount, layer, row, id, units, given;
     const int32_t *fluxes;
     const uint32_t *table;
     size_t length; /* of fluxes or table */
@@ -638,17 +638,17 @@ static int refused_substep(const struct mesh *mesh, int count, struct substep *s
     return 0;
 }
 
-/* One sweep of `air` with the smallest count that serves; false if none does. `step` is room for its substeps. */
-static bool sweep(const struct mesh *mesh, int32_t *air, struct substep *step)
+/* One sweep of `air` with the smallest count that serves, which it gives; 0 if none does. `step` is room for its substeps. */
+static int sweep(const struct mesh *mesh, int32_t *air, struct substep *step)
 {
     for (int count = 1; count <= mesh->most_substeps; count++) {
         memcpy(step->air, air, mesh->cells * sizeof air[0]);
         if (refused_substep(mesh, count, step) == 0) {
             memcpy(air, step->air, mesh->cells * sizeof air[0]);
-            return true;
+            return count;
         }
     }
-    return false;
+    return 0;
 }
 
 static void cut_fluxes(const struct mesh *mesh, int s, int sweeps, int32_t *parts)
@@ -666,7 +666,7 @@ static bool accepted_as(const struct mesh *mesh, int sweeps, struct substep *ste
     world_air(mesh, air);
     for (int s = 1; s <= sweeps; s++) {
         cut_fluxes(mesh, s, sweeps, parts);
-        if (!sweep(&cut, air, step))
+        if (sweep(&cut, air, step) == 0)
             return false;
     }
     return true;
@@ -837,6 +837,36 @@ static enum puldeho_refusal meridional_place(const struct call *call, struct tex
 {
     struct mesh layer = layer_of(call);
     return sweep_of(&layer, PULDEHO_REFUSAL_MERIDIONAL, text);
+}
+
+/* 20: the given count. */
+
+/* What is to be said of a count that is not the smallest. */
+static const char *given_words(const struct mesh *row, uint32_t given, struct substep *step)
+{
+    if (given == 0)
+        return ", as a refused count_zonal gives";
+    if (given > (uint32_t)row->most_substeps)
+        return ", more than any sweep takes";
+    world_air(row, step->air);
+    return refused_substep(row, (int)given, step) == 0 ? ", which serves too and is not the smallest" : ", which does not serve";
+}
+
+static enum puldeho_refusal given_place(const struct call *call, struct text *text)
+{
+    struct substep step;
+    int32_t air[PULDEHO_MOST_COLUMNS];
+    struct mesh row = row_of(call);
+    world_air(&row, air);
+    int smallest = sweep(&row, air, &step);
+    if (call->given == (uint32_t)smallest)
+        return PULDEHO_ACCEPTED;
+    say(text, "the sweep takes ");
+    say_counted(text, smallest, "substep");
+    say(text, " now, and the given count is ");
+    say_number(text, call->given);
+    say(text, "%s; count_zonal gives the count as it is now, for the same layer, row and fluxes", given_words(&row, call->given, &step));
+    return PULDEHO_REFUSAL_GIVEN_COUNT;
 }
 
 /* 16 and 17: the long sweep. */
@@ -1050,6 +1080,9 @@ static place *const withdrawal_places[] = {
 static place *const zonal_places[] = {
     grid_place, air_length_place, tracers_length_place, ledger_length_place, zonal_length_place, air_place, totals_place,
     layer_place, row_place, zonal_fluxes_place, zonal_place, NULL};
+static place *const zonal_with_count_places[] = {
+    grid_place, air_length_place, tracers_length_place, ledger_length_place, zonal_length_place, air_place, totals_place,
+    layer_place, row_place, zonal_fluxes_place, zonal_place, given_place, NULL};
 static place *const long_zonal_places[] = {
     grid_place, air_length_place, tracers_length_place, ledger_length_place, zonal_length_place, air_place, totals_place,
     layer_place, row_place, zonal_fluxes_place, long_flux_place, long_air_place, NULL};
@@ -1122,6 +1155,22 @@ enum puldeho_refusal puldeho_why_zonal(
 {
     struct call call = {.world = world, .layer = layer, .row = row, .fluxes = fluxes, .length = fluxes_length};
     return first_refusal(&call, zonal_places, text, size);
+}
+
+enum puldeho_refusal puldeho_why_count_zonal(
+    const struct puldeho_world *world, uint32_t layer, uint32_t row, const int32_t *fluxes, size_t fluxes_length,
+    char *text, size_t size)
+{
+    return puldeho_why_zonal(world, layer, row, fluxes, fluxes_length, text, size);
+}
+
+enum puldeho_refusal puldeho_why_zonal_with_count(
+    const struct puldeho_world *world, uint32_t layer, uint32_t row, uint32_t given, const int32_t *fluxes,
+    size_t fluxes_length, char *text, size_t size)
+{
+    struct call call = {
+        .world = world, .layer = layer, .row = row, .given = given, .fluxes = fluxes, .length = fluxes_length};
+    return first_refusal(&call, zonal_with_count_places, text, size);
 }
 
 enum puldeho_refusal puldeho_why_long_zonal(

@@ -14,18 +14,18 @@ enum {
     CALLS = 16000,
     MOST_LIST = 256,
     MOST_LEDGER = 3 * PULDEHO_LEDGER_BLOCK + 1,
-    MOST_REFUSAL = PULDEHO_REFUSAL_EMITTER_ABSENT
+    MOST_REFUSAL = PULDEHO_REFUSAL_GIVEN_COUNT
 };
 
 enum name {
-    LOAD, EMISSION, WITHDRAWAL, ZONAL, LONG_ZONAL, MERIDIONAL, REMAP, TOTAL, CELL,
+    LOAD, EMISSION, WITHDRAWAL, ZONAL, COUNT_ZONAL, ZONAL_WITH_COUNT, LONG_ZONAL, MERIDIONAL, REMAP, TOTAL, CELL,
     ADD_EMITTER, REMOVE_EMITTER, TICK, UNITS_A_TICK, NAMES
 };
 
 /* A call with its own arguments. */
 struct request {
     enum name name;
-    uint32_t tracer, cell, amount, layer, row, id, units;
+    uint32_t tracer, cell, amount, layer, row, id, units, given;
     int32_t fluxes[MOST_LIST];
     uint32_t table[MOST_LIST];
     size_t length;
@@ -40,6 +40,7 @@ static unsigned long long_instead[2]; /* texts of zonal sweeps that do not name 
 static unsigned long faults[4]; /* texts of ledgers with too many emitters, an absent cell, an id twice, a false sum */
 static unsigned long full[2], twice; /* texts of 16 emitters, with none in the same cell and with one; of an id again */
 static unsigned long absent[2], ticks; /* texts of an absent id that no other tracer has, and that one has; of a tick */
+static unsigned long given[4]; /* texts of given counts of 0, above 16, that serve and are not the smallest, that do not serve */
 
 static void differs(const char *what, const char *text)
 {
@@ -69,6 +70,10 @@ static enum puldeho_refusal why(const struct puldeho_world *world, const struct 
     case EMISSION: refusal = puldeho_why_emission(world, r->tracer, r->cell, r->amount, text, size); break;
     case WITHDRAWAL: refusal = puldeho_why_withdrawal(world, r->tracer, r->cell, r->amount, text, size); break;
     case ZONAL: refusal = puldeho_why_zonal(world, r->layer, r->row, fluxes, r->length, text, size); break;
+    case COUNT_ZONAL: refusal = puldeho_why_count_zonal(world, r->layer, r->row, fluxes, r->length, text, size); break;
+    case ZONAL_WITH_COUNT:
+        refusal = puldeho_why_zonal_with_count(world, r->layer, r->row, r->given, fluxes, r->length, text, size);
+        break;
     case LONG_ZONAL: refusal = puldeho_why_long_zonal(world, r->layer, r->row, fluxes, r->length, text, size); break;
     case MERIDIONAL: refusal = puldeho_why_meridional(world, r->layer, fluxes, r->length, text, size); break;
     case REMAP: refusal = puldeho_why_remap(world, table, r->length, text, size); break;
@@ -91,6 +96,9 @@ static enum puldeho_refusal library(struct puldeho_world *world, const struct re
     case EMISSION: return puldeho_emission(world, r->tracer, r->cell, r->amount);
     case WITHDRAWAL: return puldeho_withdrawal(world, r->tracer, r->cell, r->amount);
     case ZONAL: return puldeho_zonal(world, r->layer, r->row, r->fluxes, r->length, NULL);
+    case COUNT_ZONAL: return puldeho_count_zonal(world, r->layer, r->row, r->fluxes, r->length, NULL);
+    case ZONAL_WITH_COUNT:
+        return puldeho_zonal_with_count(world, r->layer, r->row, r->given, r->fluxes, r->length, NULL);
     case LONG_ZONAL: return puldeho_long_zonal(world, r->layer, r->row, r->fluxes, r->length);
     case MERIDIONAL: return puldeho_meridional(world, r->layer, r->fluxes, r->length, NULL);
     case REMAP: return puldeho_remap(world, r->table, r->length, NULL);
@@ -154,7 +162,16 @@ static bool accepted_as(const struct puldeho_world *world, const struct request 
 /* Whether the sweep is one of a row. */
 static bool of_row(const struct request *r)
 {
-    return r->name == ZONAL || r->name == LONG_ZONAL;
+    return r->name == ZONAL || r->name == COUNT_ZONAL || r->name == ZONAL_WITH_COUNT || r->name == LONG_ZONAL;
+}
+
+/* The single sweep of a zonal request; any other request as it is. */
+static struct request single_of(const struct request *r)
+{
+    struct request single = *r;
+    if (of_row(r) && r->name != LONG_ZONAL)
+        single.name = ZONAL;
+    return single;
 }
 
 /* The air with which a cell of the world ends, written cell by cell and not face by face. */
@@ -455,6 +472,24 @@ static void check_emitters(const struct puldeho_world *world, const struct reque
         check_tick(world, r, text);
 }
 
+/* The text names the count that the library gives now: with it the sweep is accepted, with the given one it is not. */
+static void check_given(const struct puldeho_world *world, const struct request *r, const char *text)
+{
+    uint32_t count = 0;
+    struct request right = *r;
+    enum puldeho_refusal refusal = puldeho_count_zonal(world, r->layer, r->row, r->fluxes, r->length, &count);
+    right.given = count;
+    if (refusal != PULDEHO_ACCEPTED || number_after(text, "the sweep takes ") != count || !accepted_as(world, &right, 1)
+        || number_after(text, "the given count is ") != r->given || r->given == count)
+        differs("the count that would be accepted", text);
+    given[0] += strstr(text, ", as a refused count_zonal gives; ") != NULL && r->given == 0;
+    given[1] += strstr(text, ", more than any sweep takes; ") != NULL && r->given > PULDEHO_MOST_SUBSTEPS;
+    given[2] += strstr(text, ", which serves too and is not the smallest; ") != NULL && r->given > count;
+    given[3] += strstr(text, ", which does not serve; ") != NULL;
+    if (given[0] + given[1] + given[2] + given[3] != reached[PULDEHO_REFUSAL_GIVEN_COUNT])
+        differs("the kind of a given count", text);
+}
+
 /* One call: why.c beside the library, and the text in a small size. */
 
 static void check_size(const struct puldeho_world *world, const struct request *r, const char *text, size_t size)
@@ -486,8 +521,11 @@ static void check_call(const struct puldeho_world *world, const struct request *
         differs("another refusal without a text", text);
     if ((refusal == PULDEHO_ACCEPTED) != (strcmp(text, "the call would be accepted") == 0))
         differs("accepted or not", text);
+    struct request single = single_of(r);
     if (refusal == PULDEHO_REFUSAL_ZONAL || refusal == PULDEHO_REFUSAL_MERIDIONAL)
-        check_sweep(world, r, text);
+        check_sweep(world, &single, text);
+    if (refusal == PULDEHO_REFUSAL_GIVEN_COUNT)
+        check_given(world, r, text);
     if (refusal == PULDEHO_REFUSAL_LONG_FLUX || refusal == PULDEHO_REFUSAL_LONG_AIR)
         check_long(world, r, text);
     if (refusal == PULDEHO_REFUSAL_REMAP)
@@ -679,13 +717,23 @@ static void fill_table(struct request *r, uint32_t k, uint32_t scale)
         r->table[any() % r->length] = one_in(2) ? 2097121 : wild();
 }
 
+/* The count of the row's sweep, one beside it, or any other; 0 where the sweep is refused. */
+static uint32_t any_count(const struct puldeho_world *world, const struct request *r)
+{
+    uint32_t count = 0;
+    if (one_in(4))
+        return one_in(2) ? from_to(0, 18) : wild();
+    (void)!puldeho_count_zonal(world, r->layer, r->row, r->fluxes, r->length, &count);
+    return count + (one_in(2) ? 0u : one_in(2) ? from_to(1, 3) : one_in(2) ? 0u - count : 0u - 1u);
+}
+
 static void any_request(const struct puldeho_world *world, uint32_t scale, struct request *r)
 {
     struct puldeho_grid grid = world->grid;
     size_t wanted = 0;
     r->name = (enum name)(any() % NAMES);
     if (one_in(2))
-        r->name = one_in(2) ? one_in(2) ? ZONAL : LONG_ZONAL : one_in(2) ? MERIDIONAL : REMAP;
+        r->name = one_in(2) ? one_in(3) ? ZONAL_WITH_COUNT : one_in(2) ? ZONAL : LONG_ZONAL : one_in(2) ? MERIDIONAL : REMAP;
     if (of_row(r))
         wanted = puldeho_zonal_fluxes_length(grid);
     if (r->name == MERIDIONAL)
@@ -704,6 +752,7 @@ static void any_request(const struct puldeho_world *world, uint32_t scale, struc
         fill_table(r, grid.k, scale);
     else
         fill_fluxes(r, grid.w == 0 ? 1 : grid.w, scale);
+    r->given = any_count(world, r);
 }
 
 static void seeded_call(void)
@@ -746,6 +795,9 @@ struct fixed {
 #define CASE_P SMALL, AIR_100, .tracers = {0, 0, 100, 200, 100, 0}
 #define LISTED(...) {__VA_ARGS__}
 #define SWEEP_ROW(...) .r = {.name = ZONAL, .length = 4, .fluxes = LISTED(__VA_ARGS__)}
+#define COUNT_ROW(...) .r = {.name = COUNT_ZONAL, .length = 4, .fluxes = LISTED(__VA_ARGS__)}
+#define GIVEN_ROW(COUNT, ...) .r = {.name = ZONAL_WITH_COUNT, .length = 4, .given = COUNT, .fluxes = LISTED(__VA_ARGS__)}
+#define COUNTS_AGAIN "; count_zonal gives the count as it is now, for the same layer, row and fluxes"
 #define LONG_ROW(...) .r = {.name = LONG_ZONAL, .length = 4, .fluxes = LISTED(__VA_ARGS__)}
 #define SWEEP_LAYER(...) .r = {.name = MERIDIONAL, .length = 8, .fluxes = LISTED(__VA_ARGS__)}
 #define TWO_GASES .grid = {4, 1, 1, 2}, AIR_100
@@ -923,6 +975,24 @@ static const struct fixed fixed[] = {
              "s of 2 of a flux F is floor(s*|F|/2) - floor((s - 1)*|F|/2), with the sign of F); the library's "
              "long zonal sweep takes the fluxes whole, and gives other amounts of tracer"},
     {CASE_P, LONG_ROW(400, 400, 400, 400), .refusal = PULDEHO_ACCEPTED, .text = "the call would be accepted"},
+    {CASE_P, COUNT_ROW(0, 50, 0, 0), .refusal = PULDEHO_ACCEPTED, .text = "the call would be accepted"},
+    {CASE_P, GIVEN_ROW(1, 0, 50, 0, 0), .refusal = PULDEHO_ACCEPTED, .text = "the call would be accepted"},
+    {CASE_P, GIVEN_ROW(0, 0, 50, 0, 0), .refusal = PULDEHO_REFUSAL_GIVEN_COUNT,
+     .text = "the sweep takes 1 substep now, and the given count is 0, as a refused count_zonal gives" COUNTS_AGAIN},
+    {CASE_P, GIVEN_ROW(2, 0, 50, 0, 0), .refusal = PULDEHO_REFUSAL_GIVEN_COUNT,
+     .text = "the sweep takes 1 substep now, and the given count is 2, which serves too and is not the smallest" COUNTS_AGAIN},
+    {CASE_P, GIVEN_ROW(1, 150, 150, 150, 150), .refusal = PULDEHO_REFUSAL_GIVEN_COUNT,
+     .text = "the sweep takes 2 substeps now, and the given count is 1, which does not serve" COUNTS_AGAIN},
+    {CASE_P, GIVEN_ROW(17, 1600, 1600, 1600, 1600), .refusal = PULDEHO_REFUSAL_GIVEN_COUNT,
+     .text = "the sweep takes 16 substeps now, and the given count is 17, more than any sweep takes" COUNTS_AGAIN},
+    {CASE_P, GIVEN_ROW(4294967295u, 0, 50, 0, 0), .refusal = PULDEHO_REFUSAL_GIVEN_COUNT,
+     .text = "the sweep takes 1 substep now, and the given count is 4294967295 (-1, if the number was signed), more than any "
+             "sweep takes" COUNTS_AGAIN},
+    {CASE_P, .r = {.name = ZONAL_WITH_COUNT, .length = 8, .given = 17}, .refusal = PULDEHO_REFUSAL_LENGTHS,
+     .text = "fluxes has length 8, the grid wants 4 (W; here W = 4, R = 1, K = 1, N = 1); fluxes of the other sweep have "
+             "that length"},
+    {CASE_P, GIVEN_ROW(17, 0, 0, 1048561, 0), .refusal = PULDEHO_REFUSAL_FLUXES,
+     .text = "flux 2 (between columns 2 and 3) is 1048561, its size must be at most 1048560; fluxes above: 1 of 4"},
     {CASE_P, .r = {.name = LONG_ZONAL, .length = 8}, .refusal = PULDEHO_REFUSAL_LENGTHS,
      .text = "fluxes has length 8, the grid wants 4 (W; here W = 4, R = 1, K = 1, N = 1); fluxes of the other sweep have "
              "that length"},
@@ -1094,7 +1164,7 @@ static bool all_reached(void)
     bool all = changes > 0 && ends[0] && cuts[0] && uncut[0] && ends[1] && cuts[1] && uncut[1];
     all = all && long_ends && turns[0] && turns[1] && long_instead[0] && long_instead[1];
     all = all && faults[0] && faults[1] && faults[2] && faults[3] && full[0] && full[1] && twice;
-    all = all && absent[0] && absent[1] && ticks;
+    all = all && absent[0] && absent[1] && ticks && given[0] && given[1] && given[2] && given[3];
     for (size_t i = 0; i <= MOST_REFUSAL; i++)
         all = all && (reached[i] > 0 || is_program(i));
     return all;
@@ -1112,9 +1182,9 @@ int main(void)
         differs("some refusal or kind of text was not reached", "");
     printf("why: %zu texts and %d seeded calls, %lu refused; sweeps of which a cell ends outside %lu, that serve as "
            "parts %lu, that do not %lu; long sweeps of which a cell ends outside %lu, of more than a turn %lu; ledgers with a "
-           "fault %lu, emitters added twice or above 16 %lu, absent %lu, ticks above the limit %lu; %d differences\n", texts,
+           "fault %lu, emitters added twice or above 16 %lu, absent %lu, ticks above the limit %lu; other counts given %lu; %d differences\n", texts,
            CALLS, CALLS + texts - reached[0], ends[0] + ends[1], cuts[0] + cuts[1], uncut[0] + uncut[1], long_ends,
            turns[0] + turns[1], faults[0] + faults[1] + faults[2] + faults[3], full[0] + full[1] + twice,
-           absent[0] + absent[1], ticks, differences);
+           absent[0] + absent[1], ticks, given[0] + given[1] + given[2] + given[3], differences);
     return differences == 0 ? 0 : 1;
 }

@@ -1,4 +1,4 @@
-! Puldeho, the transport core of the tracer console, for Fortran 2003 and later: version 0.4.1.
+! Puldeho, the transport core of the tracer console, for Fortran 2003 and later: version 0.5.0.
 ! Made by tools/bindings from the tables of bindings/: not to be edited.
 !
 ! To compile and link: gfortran $(pkg-config --variable=fortran puldeho) program.f90 $(pkg-config --libs puldeho)
@@ -22,7 +22,7 @@ module puldeho
   implicit none
   private
 
-  character(len=*), parameter, public :: puldeho_version = "0.4.1"
+  character(len=*), parameter, public :: puldeho_version = "0.5.0"
 
   ! the most air of a cell; the least is 1
   integer(c_int32_t), parameter, public :: puldeho_air_limit = 65535
@@ -86,6 +86,8 @@ module puldeho
   integer(c_int32_t), parameter, public :: puldeho_refusal_emitter_added = 18
   ! the tracer has no emitter of that id
   integer(c_int32_t), parameter, public :: puldeho_refusal_emitter_absent = 19
+  ! the given count differs from the smallest that serves
+  integer(c_int32_t), parameter, public :: puldeho_refusal_given_count = 20
 
   ! What cell numbers are for a place that the grid has not; every call refuses it, with 5.
   integer(c_int32_t), parameter, public :: puldeho_no_cell = -1
@@ -96,6 +98,8 @@ module puldeho
   public :: puldeho_tracers_length
   public :: puldeho_ledger_length
   public :: puldeho_zonal_fluxes_length
+  public :: puldeho_count_zonal_fluxes_length
+  public :: puldeho_zonal_with_count_fluxes_length
   public :: puldeho_long_zonal_fluxes_length
   public :: puldeho_meridional_fluxes_length
   public :: puldeho_remap_table_length
@@ -126,6 +130,8 @@ module puldeho
     procedure :: emission => world_emission
     procedure :: withdrawal => world_withdrawal
     procedure :: zonal => world_zonal
+    procedure :: count_zonal => world_count_zonal
+    procedure :: zonal_with_count => world_zonal_with_count
     procedure :: long_zonal => world_long_zonal
     procedure :: meridional => world_meridional
     procedure :: remap => world_remap
@@ -138,6 +144,8 @@ module puldeho
     procedure :: why_emission => world_why_emission
     procedure :: why_withdrawal => world_why_withdrawal
     procedure :: why_zonal => world_why_zonal
+    procedure :: why_count_zonal => world_why_count_zonal
+    procedure :: why_zonal_with_count => world_why_zonal_with_count
     procedure :: why_long_zonal => world_why_long_zonal
     procedure :: why_meridional => world_why_meridional
     procedure :: why_remap => world_why_remap
@@ -166,8 +174,8 @@ module puldeho
 
   ! Does nothing. A library of another version, whose functions may take other arguments, has no such name.
   interface
-    subroutine puldeho_abi_0_4() bind(c)
-    end subroutine puldeho_abi_0_4
+    subroutine puldeho_abi_0_5() bind(c)
+    end subroutine puldeho_abi_0_5
   end interface
 
   ! The proved functions. Each returns refusal * 2**32 + count.
@@ -238,6 +246,45 @@ module puldeho
       integer(c_size_t), value :: fluxes_length
       integer(c_int64_t) :: returned
     end function puldeho_raw_zonal
+
+    function puldeho_raw_count_zonal( &
+        w, r, k, n, air, air_length, tracers, tracers_length, ledger, ledger_length, layer, row, fluxes, &
+        fluxes_length) &
+        bind(c) result(returned)
+      import :: c_int32_t, c_int64_t, c_size_t
+      integer(c_int32_t), value :: w, r, k, n
+      integer(c_int32_t), intent(in) :: air(*)
+      integer(c_size_t), value :: air_length
+      integer(c_int32_t), intent(in) :: tracers(*)
+      integer(c_size_t), value :: tracers_length
+      integer(c_int32_t), intent(in) :: ledger(*)
+      integer(c_size_t), value :: ledger_length
+      integer(c_int32_t), value :: layer
+      integer(c_int32_t), value :: row
+      integer(c_int32_t), intent(in) :: fluxes(*)
+      integer(c_size_t), value :: fluxes_length
+      integer(c_int64_t) :: returned
+    end function puldeho_raw_count_zonal
+
+    function puldeho_raw_zonal_with_count( &
+        w, r, k, n, air, air_length, tracers, tracers_length, ledger, ledger_length, layer, row, given, &
+        fluxes, fluxes_length) &
+        bind(c) result(returned)
+      import :: c_int32_t, c_int64_t, c_size_t
+      integer(c_int32_t), value :: w, r, k, n
+      integer(c_int32_t), intent(inout) :: air(*)
+      integer(c_size_t), value :: air_length
+      integer(c_int32_t), intent(inout) :: tracers(*)
+      integer(c_size_t), value :: tracers_length
+      integer(c_int32_t), intent(in) :: ledger(*)
+      integer(c_size_t), value :: ledger_length
+      integer(c_int32_t), value :: layer
+      integer(c_int32_t), value :: row
+      integer(c_int32_t), value :: given
+      integer(c_int32_t), intent(in) :: fluxes(*)
+      integer(c_size_t), value :: fluxes_length
+      integer(c_int64_t) :: returned
+    end function puldeho_raw_zonal_with_count
 
     function puldeho_raw_long_zonal( &
         w, r, k, n, air, air_length, tracers, tracers_length, ledger, ledger_length, layer, row, fluxes, &
@@ -455,6 +502,35 @@ module puldeho
       integer(c_int) :: refusal
     end function c_why_zonal
 
+    function c_why_count_zonal( &
+        world, layer, row, fluxes, fluxes_length, words, words_size) &
+        bind(c, name="puldeho_why_count_zonal") result(refusal)
+      import :: c_char, c_int, c_int32_t, c_size_t, c_world
+      type(c_world), intent(in) :: world
+      integer(c_int32_t), value :: layer
+      integer(c_int32_t), value :: row
+      integer(c_int32_t), intent(in) :: fluxes(*)
+      integer(c_size_t), value :: fluxes_length
+      character(kind=c_char), intent(out) :: words(*)
+      integer(c_size_t), value :: words_size
+      integer(c_int) :: refusal
+    end function c_why_count_zonal
+
+    function c_why_zonal_with_count( &
+        world, layer, row, given, fluxes, fluxes_length, words, words_size) &
+        bind(c, name="puldeho_why_zonal_with_count") result(refusal)
+      import :: c_char, c_int, c_int32_t, c_size_t, c_world
+      type(c_world), intent(in) :: world
+      integer(c_int32_t), value :: layer
+      integer(c_int32_t), value :: row
+      integer(c_int32_t), value :: given
+      integer(c_int32_t), intent(in) :: fluxes(*)
+      integer(c_size_t), value :: fluxes_length
+      character(kind=c_char), intent(out) :: words(*)
+      integer(c_size_t), value :: words_size
+      integer(c_int) :: refusal
+    end function c_why_zonal_with_count
+
     function c_why_long_zonal( &
         world, layer, row, fluxes, fluxes_length, words, words_size) &
         bind(c, name="puldeho_why_long_zonal") result(refusal)
@@ -579,7 +655,7 @@ contains
     integer(c_int32_t), intent(out) :: refusal
     type(puldeho_world) :: loaded
 
-    call puldeho_abi_0_4()
+    call puldeho_abi_0_5()
     call copy_lists(loaded, grid, air, tracers)
     refusal = refusal_of(puldeho_raw_load( &
         loaded%grid%w, loaded%grid%r, loaded%grid%k, loaded%grid%n, loaded%air, size(loaded%air, &
@@ -665,6 +741,53 @@ contains
     refusal = refusal_of(returned)
     if (present(substeps)) substeps = count_of(returned)
   end subroutine world_zonal
+
+  ! Counts the substeps of a zonal sweep of one row of one layer by W fluxes, positive eastward, before it is
+  ! made, to be seen and then given to zonal_with_count. Refusals, in order: 1 2 3 4 5 8 9.
+  ! substeps: the number of substeps that the sweep takes, 1 to 16.
+  subroutine world_count_zonal(world, layer, row, fluxes, refusal, substeps)
+    class(puldeho_world), intent(in) :: world
+    integer(c_int32_t), intent(out) :: refusal
+    integer(c_int32_t), intent(in) :: layer
+    integer(c_int32_t), intent(in) :: row
+    integer(c_int32_t), intent(in) :: fluxes(:)
+    integer(c_int32_t), intent(out), optional :: substeps
+    integer(c_int64_t) :: returned
+
+    refusal = puldeho_refusal_grid_range
+    if (present(substeps)) substeps = 0
+    if (.not. has_lists(world)) return
+    returned = puldeho_raw_count_zonal( &
+        world%grid%w, world%grid%r, world%grid%k, world%grid%n, world%air, size(world%air, kind=c_size_t), &
+        world%tracers, size(world%tracers, kind=c_size_t), world%ledger, size(world%ledger, kind=c_size_t), &
+        layer, row, fluxes, size(fluxes, kind=c_size_t))
+    refusal = refusal_of(returned)
+    if (present(substeps)) substeps = count_of(returned)
+  end subroutine world_count_zonal
+
+  ! Makes the sweep of zonal, if the given count is the one that count_zonal gives for the same layer, row and
+  ! fluxes now; with any other count it is refused with 20. Refusals, in order: 1 2 3 4 5 8 9 20.
+  ! substeps: the given count.
+  subroutine world_zonal_with_count(world, layer, row, given, fluxes, refusal, substeps)
+    class(puldeho_world), intent(inout) :: world
+    integer(c_int32_t), intent(out) :: refusal
+    integer(c_int32_t), intent(in) :: layer
+    integer(c_int32_t), intent(in) :: row
+    integer(c_int32_t), intent(in) :: given
+    integer(c_int32_t), intent(in) :: fluxes(:)
+    integer(c_int32_t), intent(out), optional :: substeps
+    integer(c_int64_t) :: returned
+
+    refusal = puldeho_refusal_grid_range
+    if (present(substeps)) substeps = 0
+    if (.not. has_lists(world)) return
+    returned = puldeho_raw_zonal_with_count( &
+        world%grid%w, world%grid%r, world%grid%k, world%grid%n, world%air, size(world%air, kind=c_size_t), &
+        world%tracers, size(world%tracers, kind=c_size_t), world%ledger, size(world%ledger, kind=c_size_t), &
+        layer, row, given, fluxes, size(fluxes, kind=c_size_t))
+    refusal = refusal_of(returned)
+    if (present(substeps)) substeps = count_of(returned)
+  end subroutine world_zonal_with_count
 
   ! Sweeps one row of one layer by W fluxes, positive eastward, without substeps: a face takes whole cells and
   ! then a part of the next. Its amounts are not those of zonal. Refusals, in order: 1 2 3 4 5 8 16 17.
@@ -889,6 +1012,38 @@ contains
         world_of(world), layer, row, fluxes, size(fluxes, kind=c_size_t), words, int(why_size, c_size_t))
     text = text_of(words)
   end subroutine world_why_zonal
+
+  ! Why the call count_zonal is refused in this world, in words; ask after the refusal, before the world changes.
+  subroutine world_why_count_zonal(world, layer, row, fluxes, text)
+    class(puldeho_world), intent(in), target :: world
+    integer(c_int32_t), intent(in) :: layer
+    integer(c_int32_t), intent(in) :: row
+    integer(c_int32_t), intent(in) :: fluxes(:)
+    character(len=:), allocatable, intent(out) :: text
+    character(kind=c_char) :: words(why_size)
+    integer(c_int) :: refusal
+
+    refusal = c_why_count_zonal( &
+        world_of(world), layer, row, fluxes, size(fluxes, kind=c_size_t), words, int(why_size, c_size_t))
+    text = text_of(words)
+  end subroutine world_why_count_zonal
+
+  ! Why the call zonal_with_count is refused in this world, in words; ask after the refusal, before the world changes.
+  subroutine world_why_zonal_with_count(world, layer, row, given, fluxes, text)
+    class(puldeho_world), intent(in), target :: world
+    integer(c_int32_t), intent(in) :: layer
+    integer(c_int32_t), intent(in) :: row
+    integer(c_int32_t), intent(in) :: given
+    integer(c_int32_t), intent(in) :: fluxes(:)
+    character(len=:), allocatable, intent(out) :: text
+    character(kind=c_char) :: words(why_size)
+    integer(c_int) :: refusal
+
+    refusal = c_why_zonal_with_count( &
+        world_of(world), layer, row, given, fluxes, size(fluxes, kind=c_size_t), words, int(why_size, &
+        c_size_t))
+    text = text_of(words)
+  end subroutine world_why_zonal_with_count
 
   ! Why the call long_zonal is refused in this world, in words; ask after the refusal, before the world changes.
   subroutine world_why_long_zonal(world, layer, row, fluxes, text)
@@ -1159,6 +1314,24 @@ contains
     length = grid%w
   end function puldeho_zonal_fluxes_length
 
+  ! The length of fluxes of a count_zonal call: W. In it: flux i crosses the face from column i to column i +
+  ! 1, the last to column 0; positive eastward.
+  pure function puldeho_count_zonal_fluxes_length(grid) result(length)
+    type(puldeho_grid), intent(in) :: grid
+    integer(c_int32_t) :: length
+
+    length = grid%w
+  end function puldeho_count_zonal_fluxes_length
+
+  ! The length of fluxes of a zonal_with_count call: W. In it: flux i crosses the face from column i to column
+  ! i + 1, the last to column 0; positive eastward.
+  pure function puldeho_zonal_with_count_fluxes_length(grid) result(length)
+    type(puldeho_grid), intent(in) :: grid
+    integer(c_int32_t) :: length
+
+    length = grid%w
+  end function puldeho_zonal_with_count_fluxes_length
+
   ! The length of fluxes of a long_zonal call: W. In it: flux i crosses the face from column i to column i +
   ! 1, the last to column 0; positive eastward.
   pure function puldeho_long_zonal_fluxes_length(grid) result(length)
@@ -1241,6 +1414,8 @@ contains
       text = "the tracer has 16 emitters or already has that id"
     case (puldeho_refusal_emitter_absent)
       text = "the tracer has no emitter of that id"
+    case (puldeho_refusal_given_count)
+      text = "the given count differs from the smallest that serves"
     case default
       text = "no refusal of this version"
     end select
@@ -1306,6 +1481,9 @@ contains
     case (puldeho_refusal_emitter_absent)
       text = "remove each stack once, from the tracer that it was added to, and add the emitters anew " // &
           "after a load"
+    case (puldeho_refusal_given_count)
+      text = "count again with count_zonal, for the same layer, row and fluxes, look at the new count, " // &
+          "and give that"
     case default
       text = "compile the program anew, with the module of the library that it is linked with"
     end select

@@ -1,5 +1,5 @@
 ! The Fortran module: words that say why a call is refused, a world that is kept and brought back, a load that is refused,
-! long sweeps, emitters, readings of a world that is only read, lengths, cell numbers, the count and the most steps of a remap.
+! long sweeps, the count before a sweep, emitters, readings of a world that is only read, lengths, cell numbers, the count and the most steps of a remap.
 ! The exit status is not 0 if anything differs.
 program test
   use, intrinsic :: iso_fortran_env, only: int64
@@ -43,6 +43,8 @@ program test
   world = kept
   call long_sweeps(world)
   world = kept
+  call two_presses(world)
+  world = kept
   call emitters(world)
   world = kept
   world%tracers(3) = 150
@@ -78,6 +80,28 @@ contains
     call gives(puldeho_accepted)
     if (any(one%tracers /= [0, 0, 37, 263, 100, 0])) error stop "a long sweep differs"
   end subroutine long_sweeps
+
+  ! The count before the sweep, and the sweep with it; a negative count is refused as any other is.
+  subroutine two_presses(one)
+    type(puldeho_world), intent(inout) :: one
+    integer :: substeps
+
+    call one%count_zonal(0, 0, [150, 150, 150, 150], refusal, substeps)
+    call gives(puldeho_accepted)
+    if (substeps /= 2) error stop "the count differs"
+    call one%zonal_with_count(0, 0, -1, [150, 150, 150, 150], refusal, substeps)
+    call gives(puldeho_refusal_given_count)
+    if (substeps /= 0) error stop "a refused sweep has a count"
+    call one%why_zonal_with_count(0, 0, 1, [150, 150, 150, 150], text)
+    call says("the sweep takes 2 substeps now, and the given count is 1, which does not serve")
+    call one%zonal_with_count(0, 0, 2, [150, 150, 150, 150], refusal, substeps)
+    call gives(puldeho_accepted)
+    if (substeps /= 2) error stop "the given count differs"
+    call one%count_zonal(0, 0, [0, 100, 0, 0], refusal, substeps)
+    call gives(puldeho_refusal_zonal)
+    call one%why_count_zonal(0, 0, [0, 100, 0, 0], text)
+    call says("cell 2 (layer 0, row 0, column 1) has air 100")
+  end subroutine two_presses
 
   ! The units a tick are of 64 bits; negative units stand, and no tick gives them.
   subroutine emitters(one)

@@ -1,5 +1,6 @@
 # @MADE@
 """Refusals, lengths and calls, as the tables have them."""
+import collections
 import enum
 
 __all__ = ["Refusal", @EXPORTED@]
@@ -52,7 +53,7 @@ class Lengths:
     def cells_in_layer(self):
         """C, the cells of a layer: its R*W cells and the two caps."""
         return 2 + self.r * self.w
-@LENGTHS@@BOUNDS@
+@LENGTHS@@BOUNDS@@PAIRS@
 
 class Calls:
     """The calls, each over the world's lists."""

@@ -67,7 +67,7 @@ impl World {
         self.grid
     }
 @READ@@METHODS@@WHYS@}
-
+@PAIRS@
 /// The calls over lists that the caller keeps and lends, each with the grid: any numbers and lengths are answered.
 /// A later version may lend further lists; programs over [`World`] do not change then.
 pub mod raw {

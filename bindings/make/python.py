@@ -1,6 +1,6 @@
 """The Python package's made part, bindings/python/puldeho/calls.py."""
-from tables import MADE, WHY_SIZE, WORLD, abi, bound_text, constant, filled, full_name, in_terms, is_wide, largest, length_name, length_text, own
-from tables import world_lists, wrapped
+from tables import MADE, WHY_SIZE, WORLD, abi, bound_text, constant, filled, first_of, full_name, held, holder, in_terms, is_list, is_wide, largest, length_name, length_text, own
+from tables import second_of, world_lists, wrapped
 
 
 def table(tables, field):
@@ -27,15 +27,34 @@ def signature(call):
     return '    "%s": (%s%s),\n' % (call.name, listed, "," if len(call.parameters) == 1 else "")
 
 
-def method(call):
+def method(pairs, call):
     """The call as a method of the world."""
-    mine = [p.name for p in own(call)]
+    mine, first, second = [p.name for p in own(call)], first_of(pairs, call), second_of(pairs, call)
     count = "" if call.count is None else " Returns %s." % call.count.text
+    made = ["%sself._make(%s)" % ("return " if call.count else "", ", ".join(['"%s"' % call.name] + mine))]
+    if first is not None:
+        count = " Returns a %s with %s, %s." % (first.type, " and ".join([", ".join(mine), call.count.name]), call.count.text)
+        made = ['%s = self._held("%s", "%s", %s)' % (p.name, call.name, p.name, p.name) for p in own(call) if is_list(p)]
+        made += ["return %s(%s)" % (first.type, ", ".join(mine + ['self._make(%s)' % ", ".join(['"%s"' % call.name] + mine)]))]
+    if second is not None:
+        fields = ["counted." + holder(second, p) for p in own(call)]
+        made = [
+            "if not isinstance(counted, %s):" % second.type,
+            '    raise TypeError("%s takes what %s gave, and has a %%s" %% type(counted).__name__)' % (call.name, second.first.name),
+            "return self._make(%s)" % ", ".join(['"%s"' % call.name] + fields),
+        ]
+        mine, count = ["counted"], " counted: what %s gave. Returns %s." % (second.first.name, call.count.text)
     text = "%s%s Refusals, in order: %s." % (call.does, count, call.refusals)
-    made = "self._make(%s)" % ", ".join(['"%s"' % call.name] + mine)
-    return '\n    def %s(%s):\n%s\n        %s\n' % (
-        call.name, ", ".join(["self"] + mine), wrapped('"""%s"""' % text, 110, "        "),
-        "return " + made if call.count else made)
+    return '\n    def %s(%s):\n%s\n%s' % (
+        call.name, ", ".join(["self"] + mine), wrapped('"""%s"""' % text, 110, "        "), "".join("        %s\n" % line for line in made))
+
+
+def counted(pair):
+    """The type of what a pair's first call gives and its second takes."""
+    text = '"""%s. World.%s gives it, and World.%s takes it."""' % (pair.what, pair.first.name, pair.second.name)
+    fields = " ".join(p.name for p in held(pair))
+    return '\n\nclass %s(collections.namedtuple("%s", "%s")):\n%s\n\n    __slots__ = ()\n' % (
+        pair.type, pair.type, fields, wrapped(text, 110, "    "))
 
 
 def reading(lent):
@@ -55,7 +74,7 @@ def calls(tables):
         "ABI": abi(tables),
         "SONAME": "libpuldeho.so.%s.%s" % (major, minor),
         "LIMITS": "".join("# %s\n%s = %d\n" % (l.what[0].upper() + l.what[1:], l.name, l.number) for l in tables.limits),
-        "EXPORTED": ", ".join('"%s"' % l.name for l in tables.limits),
+        "EXPORTED": ", ".join('"%s"' % name for name in [pair.type for pair in tables.pairs] + [l.name for l in tables.limits]),
         "REFUSALS": "".join("    %s = %d\n" % (constant(r.name), r.number) for r in tables.refusals),
         "WHYSIZE": str(WHY_SIZE),
         "CONDITIONS": table(tables, "condition"),
@@ -68,5 +87,6 @@ def calls(tables):
         "LENGTHS": "".join(number(length_name(l), l.length, length_text(l)) + shape(l) for l in tables.lists),
         "BOUNDS": "".join(number(b.name, b.most, bound_text(b, tables)) for b in tables.bounds),
         "SHAPES": "".join('    ("%s", "%s"): "%s_shape",\n' % (l.owner, l.name, full_name(l)) for l in tables.lists),
-        "METHODS": "".join(method(call) for call in tables.calls if call.name != "load"),
+        "PAIRS": "".join(map(counted, tables.pairs)),
+        "METHODS": "".join(method(tables.pairs, call) for call in tables.calls if call.name != "load"),
     })

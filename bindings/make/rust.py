@@ -1,6 +1,6 @@
 """The Rust wrapper's made part, bindings/rust/src/calls.rs, and the comparison's calls, compare/src/library.rs."""
-from tables import GRID, MADE, RAW, WHY_SIZE, WORLD, abi, bound_text, exports, filled, in_terms, is_list, is_wide, is_written, largest, length_name
-from tables import length_text, own, world_lists
+from tables import GRID, MADE, RAW, WHY_SIZE, WORLD, abi, bound_text, exports, filled, first_of, held, holder, in_terms, is_list, is_wide, is_written, largest, length_name
+from tables import length_text, own, second_of, world_lists
 
 POINTERS = {"&[u32]": ("*const u32", "as_ptr"), "&mut [u32]": ("*mut u32", "as_mut_ptr"), "&[i32]": ("*const i32", "as_ptr")}
 
@@ -59,19 +59,47 @@ def raw(call):
     )
 
 
-def method(call):
+def taken(pairs, call):
+    """What a method takes after the world, and the argument that it makes of each of the call's own parameters."""
+    pair = second_of(pairs, call)
+    if pair is None:
+        return "".join(", %s: %s" % p for p in own(call)), {p.name: p.name for p in own(call)}
+    fields = {p.name: "%scounted.%s" % ("&" if is_list(p) else "", holder(pair, p)) for p in own(call)}
+    return ", counted: &%s" % pair.type, fields
+
+
+def method(pairs, call):
     """The call as a method of the world."""
-    signature = "".join(", %s: %s" % p for p in own(call))
-    lent = [("&mut self.%s" if is_written(p) else "&self.%s") % p.name if p.name in WORLD else p.name for p in call.parameters]
-    given = "raw::%s(self.grid, %s)" % (call.name, ", ".join(lent))
+    signature, mine = taken(pairs, call)
+    lent = [("&mut self.%s" if is_written(p) else "&self.%s") % p.name if p.name in WORLD else mine[p.name] for p in call.parameters]
+    made = "raw::%s(self.grid, %s)" % (call.name, ", ".join(lent))
     count = "\n    ///\n    /// It gives %s." % call.count.text if call.count else ""
+    gives, pair = call.count.type if call.count else "()", first_of(pairs, call)
+    if pair is not None:
+        fields = ["%s: %s.to_vec()" % (p.name, p.name) if is_list(p) else p.name for p in held(pair)]
+        gives, made = pair.type, "let %s = %s?;\n        Ok(%s { %s })" % (call.count.name, made, pair.type, ", ".join(fields))
+    elif call.count is None:
+        made += "?;\n        Ok(())"
     return (
         "\n    /// %s%s\n    ///\n    /// Refusals, in order: %s.\n"
         "    pub fn %s(&%sself%s) -> Result<%s, Refusal> {\n        %s\n    }\n"
-    ) % (
-        call.does, count, call.refusals, call.name, "mut " if call.world == "changed" else "", signature,
-        call.count.type if call.count else "()", given if call.count else given + "?;\n        Ok(())",
+    ) % (call.does, count, call.refusals, call.name, "mut " if call.world == "changed" else "", signature, gives, made)
+
+
+def counted(pair):
+    """The type of what a pair's first call gives and its second takes. Only the first makes one."""
+    shown = {"u32": ("u32", "u32", ""), "&[u32]": ("Vec<u32>", "&[u32]", "&"), "&[i32]": ("Vec<i32>", "&[i32]", "&")}
+    fields = "".join("    %s: %s,\n" % (p.name, shown[p.type][0]) for p in held(pair))
+    reads = "".join(
+        "\n    /// %s.\n    pub fn %s(&self) -> %s {\n        %sself.%s\n    }\n"
+        % (pair.first.count.text.capitalize() if p.name == pair.first.count.name else "As given to %s" % pair.first.name,
+           p.name, shown[p.type][1], shown[p.type][2], p.name)
+        for p in held(pair)
     )
+    return (
+        "\n/// %s. [`World::%s`] makes it, and [`World::%s`] takes it.\n"
+        "#[derive(Clone, Debug, PartialEq, Eq)]\npub struct %s {\n%s}\n\nimpl %s {%s}\n"
+    ) % (pair.what, pair.first.name, pair.second.name, pair.type, fields, pair.type, reads)
 
 
 def why_extern(call):
@@ -82,15 +110,19 @@ def why_extern(call):
     return "    fn puldeho_why_%s(%s) -> c_int;\n" % (call.name, ", ".join(listed + ["text: *mut c_char", "size: usize"]))
 
 
-def why_method(call):
+def why_method(pairs, call):
     """The same as a method of the world."""
-    given = ["%s.as_ptr(), %s.len()" % (p.name, p.name) if is_list(p) else p.name for p in own(call)]
+    signature, mine = taken(pairs, call)
+    given = []
+    for p in own(call):
+        name = mine[p.name].lstrip("&")
+        given.append("%s.as_ptr(), %s.len()" % (name, name) if is_list(p) else name)
     return (
         "\n    /// Why the call is refused in this world, in words; ask after the refusal, before the world changes.\n"
         "    pub fn why_%s(&self%s) -> String {\n        let world = self.lent();\n"
         "        // SAFETY: each pointer goes with its list's length, and nothing but the text is written.\n"
         "        words(|text, size| unsafe { puldeho_why_%s(%s) })\n    }\n"
-    ) % (call.name, "".join(", %s: %s" % p for p in own(call)), call.name, ", ".join(["&world"] + given + ["text", "size"]))
+    ) % (call.name, signature, call.name, ", ".join(["&world"] + given + ["text", "size"]))
 
 
 def wrapper(tables):
@@ -116,8 +148,9 @@ def wrapper(tables):
             "\n    /// %s.\n    pub fn %s(&self) -> &[u32] {\n        &self.%s\n    }\n" % (l.what[0].upper() + l.what[1:], l.name, l.name)
             for l in lists
         ),
-        "METHODS": "".join(method(call) for call in tables.calls if call.name != "load"),
-        "WHYS": "".join(why_method(call) for call in tables.calls if call.name != "load"),
+        "METHODS": "".join(method(tables.pairs, call) for call in tables.calls if call.name != "load"),
+        "PAIRS": "".join(map(counted, tables.pairs)),
+        "WHYS": "".join(why_method(tables.pairs, call) for call in tables.calls if call.name != "load"),
         "WHYEXTERNS": "".join(map(why_extern, tables.calls)),
         "WHYSIZE": str(WHY_SIZE),
         "CFIELDS": "".join("    {0}: *const u32,\n    {0}_length: usize,\n".format(l.name) for l in lists)

@@ -1,4 +1,4 @@
-"""The tables of bindings/: calls, lists, bounds, limits, refusals, stacks, version. Each is read, and held to the crates that it speaks of."""
+"""The tables of bindings/: calls, pairs, lists, bounds, limits, refusals, stacks, version. Each is read, and held to the crates that it speaks of."""
 import re
 import sys
 import textwrap
@@ -12,7 +12,8 @@ Lent = namedtuple("Lent", "owner kind name shape length what")
 Bound = namedtuple("Bound", "name counted call most what")
 Refusal = namedtuple("Refusal", "number name condition cause remedy")
 Limit = namedtuple("Limit", "name number what")
-Tables = namedtuple("Tables", "calls lists bounds limits refusals programs stack version")
+Pair = namedtuple("Pair", "first second given type what")
+Tables = namedtuple("Tables", "calls pairs lists bounds limits refusals programs stack version")
 
 GRID = ("w", "r", "k", "n")
 # The limit of bindings/limits.txt that is the largest of each of the grid's numbers.
@@ -93,6 +94,21 @@ def read_calls():
             sys.exit("bindings/calls.txt: %s: the world is read or changed, and changed if a list is written" % name)
         calls.append(call)
     return calls
+
+
+def read_pairs(calls):
+    """The table of the pairs: the second call takes what the first takes, and the first's count as one number more."""
+    pairs, known = [], {call.name: call for call in calls}
+    for first, second, given, name, what in rows("bindings/pairs.txt", 5):
+        if first not in known or second not in known:
+            sys.exit("bindings/pairs.txt: %s, %s: no such call" % (first, second))
+        one, two = known[first], known[second]
+        if own(one) != [p for p in own(two) if p.name != given] or Parameter(given, "u32") not in own(two):
+            sys.exit("bindings/pairs.txt: %s does not take what %s takes, and %s" % (second, first, given))
+        if one.world != "read" or one.count is None or is_wide(one) or not re.fullmatch("([A-Z][a-z]+)+", name):
+            sys.exit("bindings/pairs.txt: %s: the first call reads and has a count of 32 bits, and %s is a type's name" % (first, name))
+        pairs.append(Pair(one, two, given, name, what))
+    return pairs
 
 
 # Words that are no names in C, C++, Rust, Python or Fortran, and names that the made functions have for themselves.
@@ -231,10 +247,30 @@ def read_tables():
     version = open("bindings/version.txt", encoding="utf-8").read().strip()
     limits = list(read_limits())
     lists = read_lists(calls, limits)
-    return Tables(calls, lists, read_bounds(calls, lists, limits), limits, refusals, programs, read_stack(calls), version)
+    return Tables(calls, read_pairs(calls), lists, read_bounds(calls, lists, limits), limits, refusals, programs, read_stack(calls), version)
 
 
 # What the makers of the languages share.
+
+
+def first_of(pairs, call):
+    """The pair whose first call this is, or None."""
+    return next((pair for pair in pairs if pair.first.name == call.name), None)
+
+
+def second_of(pairs, call):
+    """The pair whose second call this is, or None."""
+    return next((pair for pair in pairs if pair.second.name == call.name), None)
+
+
+def held(pair):
+    """What a value of the pair's type holds: the first call's own arguments, then its count."""
+    return own(pair.first) + [Parameter(pair.first.count.name, "u32")]
+
+
+def holder(pair, parameter):
+    """The field of such a value that is a parameter of the second call."""
+    return pair.first.count.name if parameter.name == pair.given else parameter.name
 
 
 def abi(tables):

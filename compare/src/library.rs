@@ -21,6 +21,12 @@ pub fn call(world: &mut World, call: &Call) -> Result<u64, Refusal> {
         Call::Zonal { layer, row, fluxes } => {
             raw::zonal(grid, air, tracers, ledger, *layer, *row, fluxes).map(u64::from)
         }
+        Call::CountZonal { layer, row, fluxes } => {
+            raw::count_zonal(grid, air, tracers, ledger, *layer, *row, fluxes).map(u64::from)
+        }
+        Call::ZonalWithCount { layer, row, given, fluxes } => {
+            raw::zonal_with_count(grid, air, tracers, ledger, *layer, *row, *given, fluxes).map(u64::from)
+        }
         Call::LongZonal { layer, row, fluxes } => {
             raw::long_zonal(grid, air, tracers, ledger, *layer, *row, fluxes).map(u64::from)
         }
@@ -58,6 +64,8 @@ pub fn name(call: &Call) -> &'static str {
         Call::Emission { .. } => "emission",
         Call::Withdrawal { .. } => "withdrawal",
         Call::Zonal { .. } => "zonal",
+        Call::CountZonal { .. } => "count_zonal",
+        Call::ZonalWithCount { .. } => "zonal_with_count",
         Call::LongZonal { .. } => "long_zonal",
         Call::Meridional { .. } => "meridional",
         Call::Remap { .. } => "remap",
@@ -77,6 +85,8 @@ pub fn refusals(call: &Call) -> &'static [u32] {
         Call::Emission { .. } => &[1, 2, 3, 4, 5, 6],
         Call::Withdrawal { .. } => &[1, 2, 3, 4, 5, 7],
         Call::Zonal { .. } => &[1, 2, 3, 4, 5, 8, 9],
+        Call::CountZonal { .. } => &[1, 2, 3, 4, 5, 8, 9],
+        Call::ZonalWithCount { .. } => &[1, 2, 3, 4, 5, 8, 9, 20],
         Call::LongZonal { .. } => &[1, 2, 3, 4, 5, 8, 16, 17],
         Call::Meridional { .. } => &[1, 2, 3, 4, 5, 8, 10],
         Call::Remap { .. } => &[1, 2, 3, 4, 11, 12],
@@ -95,6 +105,8 @@ pub const TABLE: &[(&str, &[u32])] = &[
     ("emission", &[1, 2, 3, 4, 5, 6]),
     ("withdrawal", &[1, 2, 3, 4, 5, 7]),
     ("zonal", &[1, 2, 3, 4, 5, 8, 9]),
+    ("count_zonal", &[1, 2, 3, 4, 5, 8, 9]),
+    ("zonal_with_count", &[1, 2, 3, 4, 5, 8, 9, 20]),
     ("long_zonal", &[1, 2, 3, 4, 5, 8, 16, 17]),
     ("meridional", &[1, 2, 3, 4, 5, 8, 10]),
     ("remap", &[1, 2, 3, 4, 11, 12]),
@@ -113,6 +125,8 @@ pub fn line(call: &Call) -> String {
         Call::Emission { tracer, cell, amount } => format!("emission {tracer} {cell} {amount}"),
         Call::Withdrawal { tracer, cell, amount } => format!("withdrawal {tracer} {cell} {amount}"),
         Call::Zonal { layer, row, fluxes } => format!("zonal {layer} {row}{}", numbers(fluxes)),
+        Call::CountZonal { layer, row, fluxes } => format!("count_zonal {layer} {row}{}", numbers(fluxes)),
+        Call::ZonalWithCount { layer, row, given, fluxes } => format!("zonal_with_count {layer} {row} {given}{}", numbers(fluxes)),
         Call::LongZonal { layer, row, fluxes } => format!("long_zonal {layer} {row}{}", numbers(fluxes)),
         Call::Meridional { layer, fluxes } => format!("meridional {layer}{}", numbers(fluxes)),
         Call::Remap { table } => format!("remap{}", numbers(table)),

@@ -14,6 +14,7 @@ mod ledgers;
 #[rustfmt::skip]
 mod library;
 mod long;
+mod presses;
 mod reached;
 mod readout;
 mod records;
@@ -83,6 +84,8 @@ fn smaller(x: u32) -> Vec<u32> {
 fn fluxes_of(call: &mut Call) -> &mut [i32] {
     match call {
         Call::Zonal { fluxes, .. }
+        | Call::CountZonal { fluxes, .. }
+        | Call::ZonalWithCount { fluxes, .. }
         | Call::LongZonal { fluxes, .. }
         | Call::Meridional { fluxes, .. } => fluxes,
         _ => &mut [],
@@ -153,6 +156,7 @@ fn compare_calls(lists: u64) {
     let mut long = long::Situations::default();
     let mut emitters = emitters::Situations::default();
     let mut readout = readout::Situations::default();
+    let mut presses = presses::Situations::default();
     for list in 0..lists {
         let size = if list * 10 < lists * 6 {
             0
@@ -183,6 +187,7 @@ fn compare_calls(lists: u64) {
             long.add(&world, &call, &after, want.number);
             emitters.add(&world, &call, &after, want);
             readout.add(&world, &call, &after, want);
+            presses.add(&world, &call, &after, want);
             world = after;
             *seen.entry((library::name(&call), want.number)).or_default() += 1;
         }
@@ -194,9 +199,11 @@ fn compare_calls(lists: u64) {
     long.print();
     emitters.print();
     readout.print();
+    presses.print();
     if lists >= FULL {
         let unmet = long.missing().into_iter().chain(emitters.missing());
-        all_reached(&seen, unmet.chain(readout.missing()));
+        let unmet = unmet.chain(readout.missing());
+        all_reached(&seen, unmet.chain(presses.missing()));
     }
 }
 

@@ -230,11 +230,63 @@ pub fn world_with_ledger(random: &mut Random, grid: Grid) -> World {
 
 /// Any call of the library.
 pub fn call(random: &mut Random, world: &World) -> Call {
-    match random.below(10) {
+    match random.below(11) {
         0 | 1 => long_call(random, world),
         2..=4 => ledgers::call(random, world),
         5 if random.one_in(2) => remap_at_old_edges(random, world),
+        6 => press(random, world),
         _ => recorded_call(random, world),
+    }
+}
+
+/// Fluxes of a zonal sweep in a world whose air is about so much.
+fn zonal_fluxes(random: &mut Random, world: &World, typical: u64) -> Vec<i32> {
+    let most = typical * random.below(8);
+    let noise = typical / random.between(3, 30);
+    fluxes(
+        random,
+        u64::from(world.grid.w).min(80),
+        most,
+        noise,
+        1_048_560,
+    )
+}
+
+/// A count before the sweep, or a sweep with a given count: the right one, one beside it, 0, or any other. Half of them have one
+/// flux through all faces, so that every count is met.
+fn press(random: &mut Random, world: &World) -> Call {
+    let (layer, row) = (
+        index(random, world.grid.k.into()),
+        index(random, world.grid.r.into()),
+    );
+    let air = row_air(world, layer, row);
+    let least = air.iter().copied().min().map_or(1, u64::from).max(1);
+    let fluxes = if random.one_in(2) {
+        vec![(least * random.between(1, 17)).min(1_048_560) as i32; air.len()]
+    } else {
+        zonal_fluxes(random, world, least.min(65_535))
+    };
+    if random.one_in(4) {
+        return Call::CountZonal { layer, row, fluxes };
+    }
+    let count = Call::CountZonal {
+        layer,
+        row,
+        fluxes: fluxes.clone(),
+    };
+    let right = reference::call(&mut world.clone(), &count).count as u32;
+    let given = match random.below(8) {
+        0 => right.wrapping_sub(1),
+        1 => right + 1,
+        2 => right + random.between(2, 5) as u32,
+        3 => [0, 16, 17, u32::MAX][random.below(4) as usize],
+        _ => right,
+    };
+    Call::ZonalWithCount {
+        layer,
+        row,
+        given,
+        fluxes,
     }
 }
 

@@ -1,13 +1,14 @@
 # Made by tools/bindings from the tables of bindings/: not to be edited.
 """Refusals, lengths and calls, as the tables have them."""
+import collections
 import enum
 
-__all__ = ["Refusal", "AIR_LIMIT", "TOTAL_LIMIT", "ZONAL_LIMIT", "MERIDIONAL_LIMIT", "MOST_SUBSTEPS", "TABLE_LIMIT", "TABLE_SCALE", "MOST_COLUMNS", "MOST_ROWS", "MOST_LAYERS", "MOST_TRACERS", "MOST_EMITTERS", "LEDGER_BLOCK"]
+__all__ = ["Refusal", "CountedZonal", "AIR_LIMIT", "TOTAL_LIMIT", "ZONAL_LIMIT", "MERIDIONAL_LIMIT", "MOST_SUBSTEPS", "TABLE_LIMIT", "TABLE_SCALE", "MOST_COLUMNS", "MOST_ROWS", "MOST_LAYERS", "MOST_TRACERS", "MOST_EMITTERS", "LEDGER_BLOCK"]
 
-VERSION = "0.4.1"
+VERSION = "0.5.0"
 # The shared library of this version. Another version's functions may take other arguments.
-SONAME = "libpuldeho.so.0.4"
-ABI = "puldeho_abi_0_4"
+SONAME = "libpuldeho.so.0.5"
+ABI = "puldeho_abi_0_5"
 
 # The most air of a cell; the least is 1
 AIR_LIMIT = 65535
@@ -56,6 +57,7 @@ class Refusal(enum.IntEnum):
     LONG_AIR = 17
     EMITTER_ADDED = 18
     EMITTER_ABSENT = 19
+    GIVEN_COUNT = 20
 
 
 # Bytes that are room enough for any text that says why a call is refused.
@@ -79,6 +81,7 @@ CONDITIONS = {
     Refusal.LONG_AIR: "air afterwards leaves 1 to 65,535",
     Refusal.EMITTER_ADDED: "the tracer has 16 emitters or already has that id",
     Refusal.EMITTER_ABSENT: "the tracer has no emitter of that id",
+    Refusal.GIVEN_COUNT: "the given count differs from the smallest that serves",
 }
 
 # What to do about each refusal.
@@ -99,6 +102,7 @@ REMEDIES = {
     Refusal.LONG_AIR: "give fluxes that leave every cell 1 to 65,535; if the other sweeps of the step would bring the air back, make the whole step (zonal, meridional, remap) in parts, or make the meridional sweep or a remap first",
     Refusal.EMITTER_ADDED: "remove a stack before you add it again with another cell or other units; add stacks of one cell as one emitter, with the sum of their units (to close one of them, remove the emitter and add it again with the rest); what does not fit 16 emitters give by emission",
     Refusal.EMITTER_ABSENT: "remove each stack once, from the tracer that it was added to, and add the emitters anew after a load",
+    Refusal.GIVEN_COUNT: "count again with count_zonal, for the same layer, row and fluxes, look at the new count, and give that",
 }
 
 # The world's lists, in the order of the C struct.
@@ -112,6 +116,8 @@ SIGNATURES = {
     "emission": (("air", "&[u32]"), ("tracers", "&mut [u32]"), ("ledger", "&[u32]"), ("tracer", "u32"), ("cell", "u32"), ("amount", "u32")),
     "withdrawal": (("air", "&[u32]"), ("tracers", "&mut [u32]"), ("ledger", "&[u32]"), ("tracer", "u32"), ("cell", "u32"), ("amount", "u32")),
     "zonal": (("air", "&mut [u32]"), ("tracers", "&mut [u32]"), ("ledger", "&[u32]"), ("layer", "u32"), ("row", "u32"), ("fluxes", "&[i32]")),
+    "count_zonal": (("air", "&[u32]"), ("tracers", "&[u32]"), ("ledger", "&[u32]"), ("layer", "u32"), ("row", "u32"), ("fluxes", "&[i32]")),
+    "zonal_with_count": (("air", "&mut [u32]"), ("tracers", "&mut [u32]"), ("ledger", "&[u32]"), ("layer", "u32"), ("row", "u32"), ("given", "u32"), ("fluxes", "&[i32]")),
     "long_zonal": (("air", "&mut [u32]"), ("tracers", "&mut [u32]"), ("ledger", "&[u32]"), ("layer", "u32"), ("row", "u32"), ("fluxes", "&[i32]")),
     "meridional": (("air", "&mut [u32]"), ("tracers", "&mut [u32]"), ("ledger", "&[u32]"), ("layer", "u32"), ("fluxes", "&[i32]")),
     "remap": (("air", "&mut [u32]"), ("tracers", "&mut [u32]"), ("ledger", "&[u32]"), ("table", "&[u32]")),
@@ -131,6 +137,8 @@ SHAPES = {
     ("world", "tracers"): "tracers_shape",
     ("world", "ledger"): "ledger_shape",
     ("zonal", "fluxes"): "zonal_fluxes_shape",
+    ("count_zonal", "fluxes"): "count_zonal_fluxes_shape",
+    ("zonal_with_count", "fluxes"): "zonal_with_count_fluxes_shape",
     ("long_zonal", "fluxes"): "long_zonal_fluxes_shape",
     ("meridional", "fluxes"): "meridional_fluxes_shape",
     ("remap", "table"): "remap_table_shape",
@@ -191,6 +199,28 @@ class Lengths:
         return (self.w,)
 
     @property
+    def count_zonal_fluxes_length(self):
+        """The length of fluxes of a count_zonal call: W. In it: flux i crosses the face from column i to
+        column i + 1, the last to column 0; positive eastward."""
+        return self.w
+
+    @property
+    def count_zonal_fluxes_shape(self):
+        """The shape of such an array of numpy; one of one dimension serves too."""
+        return (self.w,)
+
+    @property
+    def zonal_with_count_fluxes_length(self):
+        """The length of fluxes of a zonal_with_count call: W. In it: flux i crosses the face from column i to
+        column i + 1, the last to column 0; positive eastward."""
+        return self.w
+
+    @property
+    def zonal_with_count_fluxes_shape(self):
+        """The shape of such an array of numpy; one of one dimension serves too."""
+        return (self.w,)
+
+    @property
     def long_zonal_fluxes_length(self):
         """The length of fluxes of a long_zonal call: W. In it: flux i crosses the face from column i to
         column i + 1, the last to column 0; positive eastward."""
@@ -233,6 +263,13 @@ class Lengths:
         return self.n * self.cells_in_layer * 2 * self.k
 
 
+class CountedZonal(collections.namedtuple("CountedZonal", "layer row fluxes substeps")):
+    """A zonal sweep that was counted and not made: its layer, row and fluxes, and the substeps that it takes.
+    World.count_zonal gives it, and World.zonal_with_count takes it."""
+
+    __slots__ = ()
+
+
 class Calls:
     """The calls, each over the world's lists."""
 
@@ -259,6 +296,22 @@ class Calls:
         """Sweeps one row of one layer by W fluxes, positive eastward. Returns the number of substeps, 1 to
         16. Refusals, in order: 1 2 3 4 5 8 9."""
         return self._make("zonal", layer, row, fluxes)
+
+    def count_zonal(self, layer, row, fluxes):
+        """Counts the substeps of a zonal sweep of one row of one layer by W fluxes, positive eastward, before
+        it is made, to be seen and then given to zonal_with_count. Returns a CountedZonal with layer, row,
+        fluxes and substeps, the number of substeps that the sweep takes, 1 to 16. Refusals, in order: 1 2 3 4
+        5 8 9."""
+        fluxes = self._held("count_zonal", "fluxes", fluxes)
+        return CountedZonal(layer, row, fluxes, self._make("count_zonal", layer, row, fluxes))
+
+    def zonal_with_count(self, counted):
+        """Makes the sweep of zonal, if the given count is the one that count_zonal gives for the same layer,
+        row and fluxes now; with any other count it is refused with 20. counted: what count_zonal gave.
+        Returns the given count. Refusals, in order: 1 2 3 4 5 8 9 20."""
+        if not isinstance(counted, CountedZonal):
+            raise TypeError("zonal_with_count takes what count_zonal gave, and has a %s" % type(counted).__name__)
+        return self._make("zonal_with_count", counted.layer, counted.row, counted.substeps, counted.fluxes)
 
     def long_zonal(self, layer, row, fluxes):
         """Sweeps one row of one layer by W fluxes, positive eastward, without substeps: a face takes whole

@@ -7,7 +7,8 @@ from . import lists, shared
 from .calls import CONDITIONS, OWN, REMEDIES, SHAPES, SIGNATURES, WHY_SIZE, WORLD, Calls, Lengths, Refusal
 
 # Where `why` says for the world at hand what would help, the general remedy is left out.
-CURED = (Refusal.ZONAL, Refusal.MERIDIONAL, Refusal.REMAP, Refusal.LONG_FLUX, Refusal.LONG_AIR, Refusal.EMITTER_ADDED)
+CURED = (Refusal.ZONAL, Refusal.MERIDIONAL, Refusal.REMAP, Refusal.LONG_FLUX, Refusal.LONG_AIR, Refusal.EMITTER_ADDED,
+         Refusal.GIVEN_COUNT)
 
 
 class Grid(Lengths, collections.namedtuple("Grid", "w r k n")):
@@ -163,6 +164,13 @@ class World(Calls):
         if refusal:
             raise Refused(call, Refusal(refusal), self._why(call, given))
         return count
+
+    def _held(self, call, name, value):
+        """A list of a call's own as a tuple of its numbers, which nobody can change afterwards."""
+        kind = dict(SIGNATURES[call])[name]
+        shape = self.grid.shape(call, name)
+        lent = lists.lent(name, lists.owner(name, value, kind[-4:-1], shape), kind, shape)
+        return tuple(lent.block) if lent.length else ()
 
     def _why(self, call, given):
         """Why the library refuses the call in this world, in words."""

@@ -24,6 +24,8 @@ extern "C" {
     fn puldeho_why_emission(world: *const CWorld, tracer: u32, cell: u32, amount: u32, text: *mut c_char, size: usize) -> c_int;
     fn puldeho_why_withdrawal(world: *const CWorld, tracer: u32, cell: u32, amount: u32, text: *mut c_char, size: usize) -> c_int;
     fn puldeho_why_zonal(world: *const CWorld, layer: u32, row: u32, fluxes: *const i32, fluxes_length: usize, text: *mut c_char, size: usize) -> c_int;
+    fn puldeho_why_count_zonal(world: *const CWorld, layer: u32, row: u32, fluxes: *const i32, fluxes_length: usize, text: *mut c_char, size: usize) -> c_int;
+    fn puldeho_why_zonal_with_count(world: *const CWorld, layer: u32, row: u32, given: u32, fluxes: *const i32, fluxes_length: usize, text: *mut c_char, size: usize) -> c_int;
     fn puldeho_why_long_zonal(world: *const CWorld, layer: u32, row: u32, fluxes: *const i32, fluxes_length: usize, text: *mut c_char, size: usize) -> c_int;
     fn puldeho_why_meridional(world: *const CWorld, layer: u32, fluxes: *const i32, fluxes_length: usize, text: *mut c_char, size: usize) -> c_int;
     fn puldeho_why_remap(world: *const CWorld, table: *const u32, table_length: usize, text: *mut c_char, size: usize) -> c_int;
@@ -38,14 +40,14 @@ extern "C" {
 /// Does nothing, and is linked with the library of this version only: another one's functions may take other arguments.
 pub(crate) fn same_version() {
     extern "C" {
-        fn puldeho_abi_0_4();
+        fn puldeho_abi_0_5();
     }
     // SAFETY: it takes nothing and does nothing.
-    unsafe { puldeho_abi_0_4() }
+    unsafe { puldeho_abi_0_5() }
 }
 
 /// The version of the library that this wrapper was made for.
-pub const VERSION: &str = "0.4.1";
+pub const VERSION: &str = "0.5.0";
 
 /// The most air of a cell; the least is 1
 pub const AIR_LIMIT: u32 = 65535;
@@ -110,6 +112,8 @@ pub enum Refusal {
     EmitterAdded = 18,
     /// the tracer has no emitter of that id
     EmitterAbsent = 19,
+    /// the given count differs from the smallest that serves
+    GivenCount = 20,
 }
 
 impl Refusal {
@@ -131,6 +135,7 @@ impl Refusal {
         Refusal::LongAir,
         Refusal::EmitterAdded,
         Refusal::EmitterAbsent,
+        Refusal::GivenCount,
     ];
 
     /// The refusal's condition, in words.
@@ -152,6 +157,7 @@ impl Refusal {
             Refusal::LongAir => "air afterwards leaves 1 to 65,535",
             Refusal::EmitterAdded => "the tracer has 16 emitters or already has that id",
             Refusal::EmitterAbsent => "the tracer has no emitter of that id",
+            Refusal::GivenCount => "the given count differs from the smallest that serves",
         }
     }
 
@@ -174,6 +180,7 @@ impl Refusal {
             Refusal::LongAir => "give fluxes that leave every cell 1 to 65,535; if the other sweeps of the step would bring the air back, make the whole step (zonal, meridional, remap) in parts, or make the meridional sweep or a remap first",
             Refusal::EmitterAdded => "remove a stack before you add it again with another cell or other units; add stacks of one cell as one emitter, with the sum of their units (to close one of them, remove the emitter and add it again with the rest); what does not fit 16 emitters give by emission",
             Refusal::EmitterAbsent => "remove each stack once, from the tracer that it was added to, and add the emitters anew after a load",
+            Refusal::GivenCount => "count again with count_zonal, for the same layer, row and fluxes, look at the new count, and give that",
         }
     }
 }
@@ -197,6 +204,16 @@ impl Grid {
 
     /// The length of fluxes of a zonal call: W. In it: flux i crosses the face from column i to column i + 1, the last to column 0; positive eastward.
     pub fn zonal_fluxes_length(self) -> usize {
+        self.w as usize
+    }
+
+    /// The length of fluxes of a count_zonal call: W. In it: flux i crosses the face from column i to column i + 1, the last to column 0; positive eastward.
+    pub fn count_zonal_fluxes_length(self) -> usize {
+        self.w as usize
+    }
+
+    /// The length of fluxes of a zonal_with_count call: W. In it: flux i crosses the face from column i to column i + 1, the last to column 0; positive eastward.
+    pub fn zonal_with_count_fluxes_length(self) -> usize {
         self.w as usize
     }
 
@@ -306,6 +323,25 @@ impl World {
         raw::zonal(self.grid, &mut self.air, &mut self.tracers, &self.ledger, layer, row, fluxes)
     }
 
+    /// Counts the substeps of a zonal sweep of one row of one layer by W fluxes, positive eastward, before it is made, to be seen and then given to zonal_with_count.
+    ///
+    /// It gives the number of substeps that the sweep takes, 1 to 16.
+    ///
+    /// Refusals, in order: 1 2 3 4 5 8 9.
+    pub fn count_zonal(&self, layer: u32, row: u32, fluxes: &[i32]) -> Result<CountedZonal, Refusal> {
+        let substeps = raw::count_zonal(self.grid, &self.air, &self.tracers, &self.ledger, layer, row, fluxes)?;
+        Ok(CountedZonal { layer, row, fluxes: fluxes.to_vec(), substeps })
+    }
+
+    /// Makes the sweep of zonal, if the given count is the one that count_zonal gives for the same layer, row and fluxes now; with any other count it is refused with 20.
+    ///
+    /// It gives the given count.
+    ///
+    /// Refusals, in order: 1 2 3 4 5 8 9 20.
+    pub fn zonal_with_count(&mut self, counted: &CountedZonal) -> Result<u32, Refusal> {
+        raw::zonal_with_count(self.grid, &mut self.air, &mut self.tracers, &self.ledger, counted.layer, counted.row, counted.substeps, &counted.fluxes)
+    }
+
     /// Sweeps one row of one layer by W fluxes, positive eastward, without substeps: a face takes whole cells and then a part of the next. Its amounts are not those of zonal.
     ///
     /// Refusals, in order: 1 2 3 4 5 8 16 17.
@@ -405,6 +441,20 @@ impl World {
     }
 
     /// Why the call is refused in this world, in words; ask after the refusal, before the world changes.
+    pub fn why_count_zonal(&self, layer: u32, row: u32, fluxes: &[i32]) -> String {
+        let world = self.lent();
+        // SAFETY: each pointer goes with its list's length, and nothing but the text is written.
+        words(|text, size| unsafe { puldeho_why_count_zonal(&world, layer, row, fluxes.as_ptr(), fluxes.len(), text, size) })
+    }
+
+    /// Why the call is refused in this world, in words; ask after the refusal, before the world changes.
+    pub fn why_zonal_with_count(&self, counted: &CountedZonal) -> String {
+        let world = self.lent();
+        // SAFETY: each pointer goes with its list's length, and nothing but the text is written.
+        words(|text, size| unsafe { puldeho_why_zonal_with_count(&world, counted.layer, counted.row, counted.substeps, counted.fluxes.as_ptr(), counted.fluxes.len(), text, size) })
+    }
+
+    /// Why the call is refused in this world, in words; ask after the refusal, before the world changes.
     pub fn why_long_zonal(&self, layer: u32, row: u32, fluxes: &[i32]) -> String {
         let world = self.lent();
         // SAFETY: each pointer goes with its list's length, and nothing but the text is written.
@@ -468,6 +518,37 @@ impl World {
     }
 }
 
+/// A zonal sweep that was counted and not made: its layer, row and fluxes, and the substeps that it takes. [`World::count_zonal`] makes it, and [`World::zonal_with_count`] takes it.
+#[derive(Clone, Debug, PartialEq, Eq)]
+pub struct CountedZonal {
+    layer: u32,
+    row: u32,
+    fluxes: Vec<i32>,
+    substeps: u32,
+}
+
+impl CountedZonal {
+    /// As given to count_zonal.
+    pub fn layer(&self) -> u32 {
+        self.layer
+    }
+
+    /// As given to count_zonal.
+    pub fn row(&self) -> u32 {
+        self.row
+    }
+
+    /// As given to count_zonal.
+    pub fn fluxes(&self) -> &[i32] {
+        &self.fluxes
+    }
+
+    /// The number of substeps that the sweep takes, 1 to 16.
+    pub fn substeps(&self) -> u32 {
+        self.substeps
+    }
+}
+
 /// The calls over lists that the caller keeps and lends, each with the grid: any numbers and lengths are answered.
 /// A later version may lend further lists; programs over [`World`] do not change then.
 pub mod raw {
@@ -505,6 +586,25 @@ pub mod raw {
             ledger: *const u32, ledger_length: usize,
             layer: u32,
             row: u32,
+            fluxes: *const i32, fluxes_length: usize,
+        ) -> u64;
+        fn puldeho_raw_count_zonal(
+            w: u32, r: u32, k: u32, n: u32,
+            air: *const u32, air_length: usize,
+            tracers: *const u32, tracers_length: usize,
+            ledger: *const u32, ledger_length: usize,
+            layer: u32,
+            row: u32,
+            fluxes: *const i32, fluxes_length: usize,
+        ) -> u64;
+        fn puldeho_raw_zonal_with_count(
+            w: u32, r: u32, k: u32, n: u32,
+            air: *mut u32, air_length: usize,
+            tracers: *mut u32, tracers_length: usize,
+            ledger: *const u32, ledger_length: usize,
+            layer: u32,
+            row: u32,
+            given: u32,
             fluxes: *const i32, fluxes_length: usize,
         ) -> u64;
         fn puldeho_raw_long_zonal(
@@ -680,6 +780,60 @@ pub mod raw {
                 ledger.as_ptr(), ledger.len(),
                 layer,
                 row,
+                fluxes.as_ptr(), fluxes.len(),
+            )
+        })
+    }
+
+    /// Counts the substeps of a zonal sweep of one row of one layer by W fluxes, positive eastward, before it is made, to be seen and then given to zonal_with_count.
+    ///
+    /// Count: the number of substeps that the sweep takes, 1 to 16. Refusals, in order: 1 2 3 4 5 8 9.
+    pub fn count_zonal(
+        grid: Grid,
+        air: &[u32],
+        tracers: &[u32],
+        ledger: &[u32],
+        layer: u32,
+        row: u32,
+        fluxes: &[i32],
+    ) -> Result<u32, Refusal> {
+        // SAFETY: each pointer goes with its slice's length, and the borrows keep all others from what is written.
+        outcome(unsafe {
+            puldeho_raw_count_zonal(
+                grid.w, grid.r, grid.k, grid.n,
+                air.as_ptr(), air.len(),
+                tracers.as_ptr(), tracers.len(),
+                ledger.as_ptr(), ledger.len(),
+                layer,
+                row,
+                fluxes.as_ptr(), fluxes.len(),
+            )
+        })
+    }
+
+    /// Makes the sweep of zonal, if the given count is the one that count_zonal gives for the same layer, row and fluxes now; with any other count it is refused with 20.
+    ///
+    /// Count: the given count. Refusals, in order: 1 2 3 4 5 8 9 20.
+    pub fn zonal_with_count(
+        grid: Grid,
+        air: &mut [u32],
+        tracers: &mut [u32],
+        ledger: &[u32],
+        layer: u32,
+        row: u32,
+        given: u32,
+        fluxes: &[i32],
+    ) -> Result<u32, Refusal> {
+        // SAFETY: each pointer goes with its slice's length, and the borrows keep all others from what is written.
+        outcome(unsafe {
+            puldeho_raw_zonal_with_count(
+                grid.w, grid.r, grid.k, grid.n,
+                air.as_mut_ptr(), air.len(),
+                tracers.as_mut_ptr(), tracers.len(),
+                ledger.as_ptr(), ledger.len(),
+                layer,
+                row,
+                given,
                 fluxes.as_ptr(), fluxes.len(),
             )
         })

@@ -61,6 +61,48 @@ fn a_long_sweep() {
 }
 
 #[test]
+fn the_count_and_then_the_sweep() {
+    let mut world = World::load(GRID, AIR, TRACERS).unwrap();
+    let (before, mut single) = (world.clone(), world.clone());
+    let counted = world.count_zonal(0, 0, &[150; 4]).unwrap();
+    assert_eq!(
+        (counted.layer(), counted.row(), counted.fluxes()),
+        (0, 0, &[150; 4][..])
+    );
+    assert_eq!(counted.substeps(), 2);
+    assert_eq!(world, before);
+    assert_eq!(
+        world.why_count_zonal(0, 0, &[150; 4]),
+        "the call would be accepted"
+    );
+    assert_eq!(world.zonal_with_count(&counted), Ok(2));
+    assert_eq!(single.zonal(0, 0, &[150; 4]), Ok(2));
+    assert_eq!(world, single);
+    assert_eq!(
+        world.count_zonal(0, 0, &[0, 100, 0, 0]),
+        Err(Refusal::Zonal)
+    );
+}
+
+#[test]
+fn a_count_that_no_longer_holds() {
+    let mut world = World::load(GRID, AIR, TRACERS).unwrap();
+    let counted = world.count_zonal(0, 0, &[150; 4]).unwrap();
+    assert_eq!(world.emission(0, 3, 7), Ok(()));
+    assert_eq!(world.zonal_with_count(&counted), Ok(2));
+    assert_eq!(world.zonal_with_count(&counted), Ok(2));
+    assert_eq!(world.zonal(0, 0, &[0, 50, 0, 0]), Ok(1));
+    let before = world.clone();
+    assert_eq!(world.zonal_with_count(&counted), Err(Refusal::GivenCount));
+    assert_eq!(world, before);
+    assert!(world.why_zonal_with_count(&counted).starts_with(
+        "the sweep takes 3 substeps now, and the given count is 2, which does not serve"
+    ));
+    let again = world.count_zonal(0, 0, counted.fluxes()).unwrap();
+    assert_eq!(world.zonal_with_count(&again), Ok(3));
+}
+
+#[test]
 fn emitters_that_start_and_stop() {
     let mut world = World::load(GRID, AIR, TRACERS).unwrap();
     assert_eq!(world.tick(0), Ok(()));
@@ -398,7 +440,7 @@ fn a_refusal_says_its_number_and_condition() {
     );
     let numbers: Vec<u32> = Refusal::ALL.iter().map(|&r| r as u32).collect();
     // 13 to 15 are the runner program's.
-    assert_eq!(numbers, (1..=12).chain(16..=19).collect::<Vec<u32>>());
+    assert_eq!(numbers, (1..=12).chain(16..=20).collect::<Vec<u32>>());
 }
 
 /// On the greatest grid, in a thread whose whole stack is the 256 KiB that no call may pass.
@@ -423,6 +465,12 @@ fn every_call_runs_on_256_kib_of_stack() {
         );
         assert_eq!(
             raw::zonal(grid, &mut air, &mut tracers, &l, 31, 43, &[1600; 72]),
+            Ok(16)
+        );
+        let count = raw::count_zonal(grid, &air, &tracers, &l, 31, 43, &[1600; 72]);
+        assert_eq!(count, Ok(16));
+        assert_eq!(
+            raw::zonal_with_count(grid, &mut air, &mut tracers, &l, 31, 43, 16, &[1600; 72]),
             Ok(16)
         );
         assert_eq!(
