@@ -1,5 +1,5 @@
 /*
- * Plain C of the thirteen calls, written from documents 01 and 02 for the benchmark: the same arguments, checks and results
+ * Plain C of the fifteen calls, written from documents 01 and 02 for the benchmark: the same arguments, checks and results
  * as bindings/puldeho.h. Compiled by gcc with PREFIX set to the name that stands before each call.
  */
 #include <stddef.h>
@@ -26,6 +26,7 @@ typedef struct {
 } world;
 
 static uint64_t refused(uint64_t number) { return number << 32; }
+static int is_refused(uint64_t answer) { return answer >> 32 != 0; }
 
 static int grid_fits(uint32_t w, uint32_t r, uint32_t k, uint32_t n)
 {
@@ -183,7 +184,18 @@ static int fluxes_fit(const int32_t *fluxes, size_t length, int64_t limit)
     return 1;
 }
 
-/* The zonal sweep. */
+/* Places 5 and 8 of the calls on a row: 0, or the refusal's number. Where 0, the row's first cell is filled in. */
+static uint32_t row_places(size_t *first, const world *g, uint32_t layer, uint32_t row, const int32_t *fluxes)
+{
+    if (layer >= g->k || row >= g->r)
+        return 5;
+    if (!fluxes_fit(fluxes, g->w, 1048560))
+        return 8;
+    *first = layer * g->layer + 1 + row * g->w;
+    return 0;
+}
+
+/* The zonal sweep, the count before it, and the sweep with a given count. */
 
 static size_t west_of(size_t i, size_t w) { return i == 0 ? w - 1 : i - 1; }
 static size_t east_of(size_t i, size_t w) { return i + 1 == w ? 0 : i + 1; }
@@ -249,30 +261,74 @@ static void step_gas(uint32_t *gas, const uint32_t *air, const int32_t *f, size_
         gas[i] = (uint32_t)(gas[i] + piece[west_of(i, w)] - piece[i]);
 }
 
+/* Places 5, 8 and 9: what the count before the sweep returns. Where it is accepted, the row's first cell is filled in. */
+static uint64_t counted(size_t *first, const world *g, const uint32_t *air, uint32_t layer, uint32_t row,
+                        const int32_t *fluxes)
+{
+    uint32_t place = row_places(first, g, layer, row, fluxes);
+    if (place != 0)
+        return refused(place);
+    for (uint32_t count = 1; count <= 16; count++)
+        if (serves(air + *first, fluxes, g->w, count))
+            return count;
+    return refused(9);
+}
+
+/* The row from cell `first` on, swept in so many substeps. */
+static void sweep_row(const world *g, uint32_t *air, uint32_t *tracers, size_t first, const int32_t *fluxes,
+                      uint32_t count)
+{
+    int32_t f[MOST_W];
+    for (uint32_t s = 1; s <= count; s++) {
+        parts_of(f, fluxes, g->w, count, s);
+        for (size_t t = 0; t < g->n; t++)
+            step_gas(tracers + t * g->cells + first, air + first, f, g->w);
+        step_air(air + first, f, g->w);
+    }
+}
+
 uint64_t CALL(zonal)(uint32_t w, uint32_t r, uint32_t k, uint32_t n, uint32_t *air, size_t air_length,
                      uint32_t *tracers, size_t tracers_length, const uint32_t *ledger, size_t ledger_length,
                      uint32_t layer, uint32_t row, const int32_t *fluxes, size_t fluxes_length)
 {
     world g;
     (void)ledger;
+    size_t first;
     COMMON_PLACES(&g, ROW_FLUXES, fluxes_length);
-    if (layer >= k || row >= r)
-        return refused(5);
-    if (!fluxes_fit(fluxes, w, 1048560))
-        return refused(8);
-    size_t first = layer * g.layer + 1 + row * g.w;
-    uint32_t count = 1;
-    while (!serves(air + first, fluxes, w, count))
-        if (++count > 16)
-            return refused(9);
-    int32_t f[MOST_W];
-    for (uint32_t s = 1; s <= count; s++) {
-        parts_of(f, fluxes, w, count, s);
-        for (size_t t = 0; t < n; t++)
-            step_gas(tracers + t * g.cells + first, air + first, f, w);
-        step_air(air + first, f, w);
-    }
+    uint64_t count = counted(&first, &g, air, layer, row, fluxes);
+    if (!is_refused(count))
+        sweep_row(&g, air, tracers, first, fluxes, (uint32_t)count);
     return count;
+}
+
+uint64_t CALL(count_zonal)(uint32_t w, uint32_t r, uint32_t k, uint32_t n, const uint32_t *air, size_t air_length,
+                           const uint32_t *tracers, size_t tracers_length, const uint32_t *ledger,
+                           size_t ledger_length, uint32_t layer, uint32_t row, const int32_t *fluxes,
+                           size_t fluxes_length)
+{
+    world g;
+    (void)ledger;
+    size_t first;
+    COMMON_PLACES(&g, ROW_FLUXES, fluxes_length);
+    return counted(&first, &g, air, layer, row, fluxes);
+}
+
+uint64_t CALL(zonal_with_count)(uint32_t w, uint32_t r, uint32_t k, uint32_t n, uint32_t *air, size_t air_length,
+                                uint32_t *tracers, size_t tracers_length, const uint32_t *ledger, size_t ledger_length,
+                                uint32_t layer, uint32_t row, uint32_t given, const int32_t *fluxes,
+                                size_t fluxes_length)
+{
+    world g;
+    (void)ledger;
+    size_t first;
+    COMMON_PLACES(&g, ROW_FLUXES, fluxes_length);
+    uint64_t count = counted(&first, &g, air, layer, row, fluxes);
+    if (is_refused(count))
+        return count;
+    if (given != count)
+        return refused(20);
+    sweep_row(&g, air, tracers, first, fluxes, given);
+    return given;
 }
 
 /* The long zonal sweep. */
@@ -340,14 +396,13 @@ uint64_t CALL(long_zonal)(uint32_t w, uint32_t r, uint32_t k, uint32_t n, uint32
 {
     world g;
     (void)ledger;
+    size_t first;
     uint32_t next[MOST_W];
     mark at[MOST_W];
     COMMON_PLACES(&g, ROW_FLUXES, fluxes_length);
-    if (layer >= k || row >= r)
-        return refused(5);
-    if (!fluxes_fit(fluxes, w, 1048560))
-        return refused(8);
-    size_t first = layer * g.layer + 1 + row * g.w;
+    uint32_t place = row_places(&first, &g, layer, row, fluxes);
+    if (place != 0)
+        return refused(place);
     int64_t row_air = (int64_t)total_of(air + first, w);
     if (!fluxes_fit(fluxes, w, row_air))
         return refused(16);

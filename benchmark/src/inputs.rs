@@ -131,6 +131,32 @@ pub fn opposite(call: &Call) -> Call {
     }
 }
 
+/// The count before a zonal sweep.
+pub fn count_before(call: &Call) -> Call {
+    match call {
+        Call::Zonal { layer, row, fluxes } => Call::CountZonal {
+            layer: *layer,
+            row: *row,
+            fluxes: fluxes.clone(),
+        },
+        other => other.clone(),
+    }
+}
+
+/// A zonal sweep with the count that it has in this world.
+pub fn with_count(world: &World, call: &Call) -> Call {
+    let counted = reference::call(&mut world.clone(), &count_before(call));
+    match call {
+        Call::Zonal { layer, row, fluxes } => Call::ZonalWithCount {
+            layer: *layer,
+            row: *row,
+            given: counted.count as u32,
+            fluxes: fluxes.clone(),
+        },
+        other => other.clone(),
+    }
+}
+
 /// Edges near equal parts of a column's air, each moved by less than a third of a part.
 pub fn table(random: &mut Random, k: u32) -> Call {
     let part = u64::from(65_536 / k);

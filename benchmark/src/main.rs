@@ -1,12 +1,12 @@
 //! The proved library beside plain C and plain Rust of the same calls, on the same inputs.
 //! benchmark [--quick] [--times] [--only CALL]: tables on standard output, progress on standard error.
 
+mod beside;
 mod day;
 mod growth;
 mod inputs;
 #[path = "../../compare/src/ledgers.rs"]
 mod ledgers;
-mod long;
 mod plain;
 mod timing;
 mod versions;
@@ -15,6 +15,7 @@ mod works;
 #[allow(dead_code)]
 mod worlds;
 
+use beside::{LONG, PRESSES};
 use day::Measure;
 use reference::Grid;
 use timing::{agree, ratio_to, rounds, spread, Rounds, Work};
@@ -42,7 +43,11 @@ fn amount(arguments: &[String]) -> Amount {
             other => panic!("{other} is not one of --quick, --times, --only CALL"),
         }
     }
-    let (lists, rounds, days) = if quick { (200, 16, 4) } else { (2_000, 64, 16) };
+    let (lists, rounds, days) = if quick {
+        (1_000, 16, 4)
+    } else {
+        (2_000, 64, 16)
+    };
     Amount {
         lists,
         rounds,
@@ -61,7 +66,7 @@ fn call_named(name: Option<&str>) -> &'static str {
 /// Compares the versions on seeded lists of calls, limits and refusals among them.
 fn agreement(lists: u64) {
     eprintln!("{lists} lists of calls, compared after every call");
-    let mut reached = [0u64; 20];
+    let mut reached = [0u64; 21];
     for seed in 0..lists {
         let mut random = Random::new(seed);
         let grid = worlds::grid(&mut random, (seed % 40 / 13) as u32);
@@ -82,10 +87,10 @@ fn agreement(lists: u64) {
         "All versions agree on {} calls of {lists} seeded lists (answer, count, every number).",
         12 * lists
     );
-    println!("Calls by answer 0 to 19, where 13 to 15 are the runner program's: {reached:?}");
+    println!("Calls by answer 0 to 20, where 13 to 15 are the runner program's: {reached:?}");
     let of_calls = |answer: usize| !(13..=15).contains(&answer);
     assert!(
-        (0..20).all(|answer| (reached[answer] > 0) == of_calls(answer)),
+        (0..reached.len()).all(|answer| (reached[answer] > 0) == of_calls(answer)),
         "an answer was not reached"
     );
 }
@@ -185,12 +190,24 @@ fn long_beside_zonal(amount: &Amount) {
             names.join(" | ")
         );
         println!("|{}", "---|".repeat(COUNT + 1));
-        for substeps in long::SUBSTEPS {
+        for substeps in [1, 2, 4, 8, 16] {
             eprintln!("long sweeps beside zonal sweeps of {substeps} substeps, {grid:?}");
-            let ratio = |v| long::beside_zonal(grid, substeps, v, amount.rounds).to_string();
-            let ratios: Vec<String> = (0..COUNT).map(ratio).collect();
+            let ratio = |v| beside::beside_zonal(&LONG, grid, substeps, v, amount.rounds);
+            let ratios: Vec<String> = (0..COUNT).map(|v| ratio(v).to_string()).collect();
             println!("| {substeps} | {} |", ratios.join(" | "));
         }
+    }
+}
+
+fn presses_beside_zonal(amount: &Amount) {
+    println!("\n## The two presses beside the zonal sweep\n");
+    println!("The library's time for count_zonal and then zonal_with_count as a part of that for zonal by the same fluxes.\n");
+    println!("| Substeps | on 8 × 3 × 2 × 2 | on 72 × 44 × 32 × 8 |\n|---|---|---|");
+    for substeps in [1, 4, 16] {
+        eprintln!("the two presses beside zonal sweeps of {substeps} substeps");
+        let ratio = |grid| beside::beside_zonal(&PRESSES, grid, substeps, 0, amount.rounds);
+        let [small, full] = [works::SMALL, works::FULL].map(ratio);
+        println!("| {substeps} | {small} | {full} |");
     }
 }
 
@@ -275,6 +292,7 @@ fn main() {
     }
     a_day(&amount);
     long_beside_zonal(&amount);
+    presses_beside_zonal(&amount);
     share_of_tests(&amount);
     bandwidth_of_tests(&amount);
     linear(&amount);

@@ -1,4 +1,4 @@
-//! The thirteen calls in plain Rust, written from documents 01 and 02 for the benchmark: safe code on slices, with the same checks.
+//! The fifteen calls in plain Rust, written from documents 01 and 02 for the benchmark: safe code on slices, with the same checks.
 //! A call gives its count, or the number of the first refusal that applies.
 
 use reference::Grid;
@@ -273,7 +273,7 @@ fn step_gas(gas: &mut [u32], air: &[u32], f: &[i32]) {
     }
 }
 
-/// Places 5 and 8 of both zonal sweeps: the row's cells.
+/// Places 5 and 8 of the calls on a row: the row's cells.
 fn row_of(g: Grid, world: &Tested, layer: u32, row: u32, f: &[i32]) -> Result<Range<usize>, u32> {
     if layer >= g.k || row >= g.r {
         return Err(5);
@@ -285,6 +285,54 @@ fn row_of(g: Grid, world: &Tested, layer: u32, row: u32, f: &[i32]) -> Result<Ra
     Ok(first..first + world.w)
 }
 
+/// A row that can be swept: the world's sizes, the row's cells, and the count of substeps.
+struct Counted {
+    world: Tested,
+    cells: Range<usize>,
+    count: u64,
+}
+
+/// Places 1 to 5, 8 and 9 of the zonal sweep, of the count before it, and of the sweep with a given count.
+fn counted(
+    g: Grid,
+    air: &[u32],
+    tracers: &[u32],
+    ledger: &[u32],
+    layer: u32,
+    row: u32,
+    fluxes: &[i32],
+) -> Result<Counted, u32> {
+    let world = common_places(g, air, tracers, ledger, Lent::RowFluxes(fluxes.len()))?;
+    let cells = row_of(g, &world, layer, row, fluxes)?;
+    let air = &air[cells.clone()];
+    let count = (1..=16).find(|&n| serves(air, fluxes, n)).ok_or(9u32)?;
+    Ok(Counted {
+        world,
+        cells,
+        count,
+    })
+}
+
+/// The row, swept in the air and in all tracers.
+fn sweep_row(row: Counted, air: &mut [u32], tracers: &mut [u32], fluxes: &[i32]) -> Outcome {
+    let Counted {
+        world,
+        cells,
+        count,
+    } = row;
+    let air = &mut air[cells.clone()];
+    let mut part = [0; MOST_W];
+    let part = &mut part[..world.w];
+    for s in 1..=count {
+        parts_of(part, fluxes, count, s);
+        for gas in tracers.chunks_exact_mut(world.cells) {
+            step_gas(&mut gas[cells.clone()], air, part);
+        }
+        step_air(air, part);
+    }
+    Ok(count)
+}
+
 pub fn zonal(
     g: Grid,
     air: &mut [u32],
@@ -294,20 +342,37 @@ pub fn zonal(
     row: u32,
     fluxes: &[i32],
 ) -> Outcome {
-    let world = common_places(g, air, tracers, ledger, Lent::RowFluxes(fluxes.len()))?;
-    let cells = row_of(g, &world, layer, row, fluxes)?;
-    let air = &mut air[cells.clone()];
-    let n = (1..=16).find(|&n| serves(air, fluxes, n)).ok_or(9u32)?;
-    let mut part = [0; MOST_W];
-    let part = &mut part[..world.w];
-    for s in 1..=n {
-        parts_of(part, fluxes, n, s);
-        for gas in tracers.chunks_exact_mut(world.cells) {
-            step_gas(&mut gas[cells.clone()], air, part);
-        }
-        step_air(air, part);
+    let row = counted(g, air, tracers, ledger, layer, row, fluxes)?;
+    sweep_row(row, air, tracers, fluxes)
+}
+
+pub fn count_zonal(
+    g: Grid,
+    air: &[u32],
+    tracers: &[u32],
+    ledger: &[u32],
+    layer: u32,
+    row: u32,
+    fluxes: &[i32],
+) -> Outcome {
+    Ok(counted(g, air, tracers, ledger, layer, row, fluxes)?.count)
+}
+
+/// `named` has the layer, the row and the given count.
+pub fn zonal_with_count(
+    g: Grid,
+    air: &mut [u32],
+    tracers: &mut [u32],
+    ledger: &[u32],
+    named: [u32; 3],
+    fluxes: &[i32],
+) -> Outcome {
+    let [layer, row, given] = named;
+    let row = counted(g, air, tracers, ledger, layer, row, fluxes)?;
+    if u64::from(given) != row.count {
+        return Err(20);
     }
-    Ok(n)
+    sweep_row(row, air, tracers, fluxes)
 }
 
 /// Where a face's mark lies: m units of air into a cell, which is met after so many turns from column 0.

@@ -27,7 +27,7 @@ impl Version {
     pub fn makes(&self, world: &World, call: &Call) -> bool {
         let length = plain::BLOCK * world.grid.n as usize;
         let as_before = !in_range(&world.grid) || world.ledger.len() == length;
-        self.ledger || (!is_on_emitters(call) && as_before)
+        self.ledger || (!is_later(call) && as_before)
     }
 
     /// A version without a ledger takes over that of another world, since its own load does not empty it.
@@ -38,13 +38,16 @@ impl Version {
     }
 }
 
-fn is_on_emitters(call: &Call) -> bool {
+/// Whether the call came with the ledger or after it.
+fn is_later(call: &Call) -> bool {
     matches!(
         call,
         Call::AddEmitter { .. }
             | Call::RemoveEmitter { .. }
             | Call::Tick { .. }
             | Call::UnitsATick { .. }
+            | Call::CountZonal { .. }
+            | Call::ZonalWithCount { .. }
     )
 }
 
@@ -56,11 +59,11 @@ fn returned(number: u64) -> Answer {
     }
 }
 
-/// The raw calls of bindings/puldeho.h on air and tracers, under a prefix. The two names at the end are those of the ledger's
-/// parameters; without them the calls are those of a library from before it.
+/// The raw calls of bindings/puldeho.h that are older than the ledger, under a prefix. The two names at the end are those of the
+/// ledger's parameters; without them the calls are those of a library from before it.
 #[rustfmt::skip]
 macro_rules! c_calls {
-    ($module:ident, $prefix:literal, $on_emitters:path $(, $ledger:ident $length:ident)?) => {
+    ($module:ident, $prefix:literal, $later:path $(, $ledger:ident $length:ident)?) => {
         mod $module {
             use super::returned;
             use reference::{Answer, Call, World};
@@ -103,7 +106,7 @@ macro_rules! c_calls {
                         Call::LongZonal { layer, row, fluxes } => long_zonal(w, r, k, n, air, al, gas, gl $(, $ledger, $length)?, *layer, *row, fluxes.as_ptr(), fluxes.len()),
                         Call::Meridional { layer, fluxes } => meridional(w, r, k, n, air, al, gas, gl $(, $ledger, $length)?, *layer, fluxes.as_ptr(), fluxes.len()),
                         Call::Remap { table } => remap(w, r, k, n, air, al, gas, gl $(, $ledger, $length)?, table.as_ptr(), table.len()),
-                        _ => return $on_emitters(world, call),
+                        _ => return $later(world, call),
                     }
                 })
             }
@@ -111,9 +114,10 @@ macro_rules! c_calls {
     };
 }
 
-/// The raw calls on emitters, under a prefix. A reading is two: its answer, and, where it is accepted, its number.
+/// The raw calls that came with the ledger or after it, under a prefix. The reading of the units a tick is two: its answer, and,
+/// where it is accepted, its number.
 #[rustfmt::skip]
-macro_rules! c_calls_on_emitters {
+macro_rules! c_later_calls {
     ($module:ident, $prefix:literal) => {
         mod $module {
             use super::returned;
@@ -130,11 +134,15 @@ macro_rules! c_calls_on_emitters {
                 fn units_a_tick(w: u32, r: u32, k: u32, n: u32, air: *const u32, al: usize, gas: *const u32, gl: usize, ledger: *const u32, ll: usize, tracer: u32) -> u32;
                 #[link_name = concat!($prefix, "_units_a_tick_number")]
                 fn units_a_tick_number(w: u32, r: u32, k: u32, n: u32, air: *const u32, al: usize, gas: *const u32, gl: usize, ledger: *const u32, ll: usize, tracer: u32) -> u64;
+                #[link_name = concat!($prefix, "_count_zonal")]
+                fn count_zonal(w: u32, r: u32, k: u32, n: u32, air: *const u32, al: usize, gas: *const u32, gl: usize, ledger: *const u32, ll: usize, layer: u32, row: u32, fluxes: *const i32, fl: usize) -> u64;
+                #[link_name = concat!($prefix, "_zonal_with_count")]
+                fn zonal_with_count(w: u32, r: u32, k: u32, n: u32, air: *mut u32, al: usize, gas: *mut u32, gl: usize, ledger: *const u32, ll: usize, layer: u32, row: u32, given: u32, fluxes: *const i32, fl: usize) -> u64;
             }
 
             pub fn call(world: &mut World, call: &Call) -> Answer {
                 let (w, r, k, n) = (world.grid.w, world.grid.r, world.grid.k, world.grid.n);
-                let (air, al) = (world.air.as_ptr(), world.air.len());
+                let (air, al) = (world.air.as_mut_ptr(), world.air.len());
                 let (gas, gl) = (world.tracers.as_mut_ptr(), world.tracers.len());
                 let (ledger, ll) = (world.ledger.as_mut_ptr(), world.ledger.len());
                 // SAFETY: each pointer goes with its list's length, and the lists are the caller's alone.
@@ -149,7 +157,9 @@ macro_rules! c_calls_on_emitters {
                             let count = if accepted { units_a_tick_number(w, r, k, n, air, al, gas, gl, ledger, ll, *tracer) } else { 0 };
                             Answer { number, count }
                         }
-                        _ => unreachable!("{call:?} is not on emitters"),
+                        Call::CountZonal { layer, row, fluxes } => returned(count_zonal(w, r, k, n, air, al, gas, gl, ledger, ll, *layer, *row, fluxes.as_ptr(), fluxes.len())),
+                        Call::ZonalWithCount { layer, row, given, fluxes } => returned(zonal_with_count(w, r, k, n, air, al, gas, gl, ledger, ll, *layer, *row, *given, fluxes.as_ptr(), fluxes.len())),
+                        _ => unreachable!("{call:?} is older than the ledger"),
                     }
                 }
             }
@@ -159,45 +169,45 @@ macro_rules! c_calls_on_emitters {
 
 /// Every call, under a prefix.
 macro_rules! all_c_calls {
-    ($module:ident, $on_emitters:ident, $prefix:literal) => {
-        c_calls_on_emitters!($on_emitters, $prefix);
-        c_calls!($module, $prefix, super::$on_emitters::call, ledger ll);
+    ($module:ident, $later:ident, $prefix:literal) => {
+        c_later_calls!($later, $prefix);
+        c_calls!($module, $prefix, super::$later::call, ledger ll);
     };
 }
 
-all_c_calls!(library0, library0_emitters, "library0");
-all_c_calls!(library1, library1_emitters, "library1");
-all_c_calls!(library2, library2_emitters, "library2");
-all_c_calls!(library3, library3_emitters, "library3");
-all_c_calls!(o3_0, o3_0_emitters, "o3_0");
-all_c_calls!(o3_1, o3_1_emitters, "o3_1");
-all_c_calls!(o3_2, o3_2_emitters, "o3_2");
-all_c_calls!(o3_3, o3_3_emitters, "o3_3");
+all_c_calls!(library0, library0_later, "library0");
+all_c_calls!(library1, library1_later, "library1");
+all_c_calls!(library2, library2_later, "library2");
+all_c_calls!(library3, library3_later, "library3");
+all_c_calls!(o3_0, o3_0_later, "o3_0");
+all_c_calls!(o3_1, o3_1_later, "o3_1");
+all_c_calls!(o3_2, o3_2_later, "o3_2");
+all_c_calls!(o3_3, o3_3_later, "o3_3");
 
 /// The calls of plain C, or of the library before.
 #[cfg(not(before_without_ledger))]
 macro_rules! native_calls {
-    ($module:ident, $on_emitters:ident, $prefix:literal) => {
-        all_c_calls!($module, $on_emitters, $prefix);
+    ($module:ident, $later:ident, $prefix:literal) => {
+        all_c_calls!($module, $later, $prefix);
     };
 }
 
 #[cfg(before_without_ledger)]
 macro_rules! native_calls {
-    ($module:ident, $on_emitters:ident, $prefix:literal) => {
-        c_calls!($module, $prefix, super::on_no_emitters);
+    ($module:ident, $later:ident, $prefix:literal) => {
+        c_calls!($module, $prefix, super::no_later_call);
     };
 }
 
 #[cfg(before_without_ledger)]
-fn on_no_emitters(_: &mut World, call: &Call) -> Answer {
+fn no_later_call(_: &mut World, call: &Call) -> Answer {
     unreachable!("the library before has no {call:?}")
 }
 
-native_calls!(native0, native0_emitters, "native0");
-native_calls!(native1, native1_emitters, "native1");
-native_calls!(native2, native2_emitters, "native2");
-native_calls!(native3, native3_emitters, "native3");
+native_calls!(native0, native0_later, "native0");
+native_calls!(native1, native1_later, "native1");
+native_calls!(native2, native2_later, "native2");
+native_calls!(native3, native3_later, "native3");
 
 #[rustfmt::skip]
 fn rust(world: &mut World, call: &Call) -> Answer {
@@ -210,6 +220,8 @@ fn rust(world: &mut World, call: &Call) -> Answer {
         Call::Emission { tracer, cell, amount } => plain::emission(grid, air, tracers, ledger, *tracer, *cell, *amount),
         Call::Withdrawal { tracer, cell, amount } => plain::withdrawal(grid, air, tracers, ledger, *tracer, *cell, *amount),
         Call::Zonal { layer, row, fluxes } => plain::zonal(grid, air, tracers, ledger, *layer, *row, fluxes),
+        Call::CountZonal { layer, row, fluxes } => plain::count_zonal(grid, air, tracers, ledger, *layer, *row, fluxes),
+        Call::ZonalWithCount { layer, row, given, fluxes } => plain::zonal_with_count(grid, air, tracers, ledger, [*layer, *row, *given], fluxes),
         Call::LongZonal { layer, row, fluxes } => plain::long_zonal(grid, air, tracers, ledger, *layer, *row, fluxes),
         Call::Meridional { layer, fluxes } => plain::meridional(grid, air, tracers, ledger, *layer, fluxes),
         Call::Remap { table } => plain::remap(grid, air, tracers, ledger, table),

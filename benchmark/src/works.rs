@@ -25,7 +25,7 @@ pub struct Kind {
     pub standing: usize,
 }
 
-pub const KINDS: [Kind; 12] = [
+pub const KINDS: [Kind; 14] = [
     Kind {
         name: "load",
         calls: |_, _| vec![Call::Load],
@@ -71,6 +71,16 @@ pub const KINDS: [Kind; 12] = [
     Kind {
         name: "zonal",
         calls: zonal,
+        standing: 0,
+    },
+    Kind {
+        name: "count_zonal",
+        calls: count_zonal,
+        standing: 0,
+    },
+    Kind {
+        name: "zonal_with_count",
+        calls: zonal_with_count,
         standing: 0,
     },
     Kind {
@@ -129,6 +139,24 @@ pub fn zonal(random: &mut Random, world: &World) -> Vec<Call> {
             [there, back]
         })
         .collect()
+}
+
+/// The counts before the same sweeps, none of which is made.
+fn count_zonal(random: &mut Random, world: &World) -> Vec<Call> {
+    let sweeps = zonal(random, world);
+    sweeps.iter().map(inputs::count_before).collect()
+}
+
+/// The same sweeps, each with the count that it has where those before it were made.
+fn zonal_with_count(random: &mut Random, world: &World) -> Vec<Call> {
+    let mut now = world.clone();
+    let sweeps = zonal(random, world);
+    let mut counted = |sweep: &Call| {
+        let call = inputs::with_count(&now, sweep);
+        reference::call(&mut now, sweep);
+        call
+    };
+    sweeps.iter().map(&mut counted).collect()
 }
 
 /// Six rows with winds of up to six and a half cells, and each back.

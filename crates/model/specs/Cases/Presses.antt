@@ -51,8 +51,11 @@ abbrev wind : List ℤ
 wind = four (pos 101) (pos 98) (pos 105) (pos 96)
 
 -- a world whose ledger no call on emitters would take
-abbrev broken : World
-broken = record { grid = grid 4 1 1 1; air = hundreds; tracers = six 0 0 100 200 100 0; ledger = replicate blockNumbers 17 }
+abbrev broken : List ℕ → List ℕ → World
+broken air tracers = record { grid = grid 4 1 1 1; air = air; tracers = tracers; ledger = replicate blockNumbers 17 }
+
+abbrev peakBroken : World
+peakBroken = broken hundreds (six 0 0 100 200 100 0)
 
 pub presses : List Case
 presses =
@@ -113,7 +116,18 @@ presses =
     refuses "y5-38" (record { grid = grid 4 1 1 1; air = hundreds; tracers = six 0 0 100 200 100 0; ledger = replicate 50 0 }) (given 0 (pos 0) (pos 50) (pos 0) (pos 0)) 2 ∷
     refuses "y5-40" (world (grid 3 1 1 1) (replicate 5 100) (0 ∷ 0 ∷ 100 ∷ 200 ∷ 0 ∷ [])) (zonalWithCount 0 0 0 (pos 0 ∷ pos 50 ∷ pos 0 ∷ [])) 1 ∷
     -- a broken record of emitters is not tested
-    record { label = "y5-39 count"; world = broken; call = counting (pos 0) (pos 50) (pos 0) (pos 0); expected = record { answer = 0; count = 1; next = broken } } ∷
+    record {
+      label = "y5-39 count";
+      world = peakBroken;
+      call = counting (pos 0) (pos 50) (pos 0) (pos 0);
+      expected = record { answer = 0; count = 1; next = peakBroken };
+    } ∷
+    record {
+      label = "y5-39";
+      world = peakBroken;
+      call = given 1 (pos 0) (pos 50) (pos 0) (pos 0);
+      expected = record { answer = 0; count = 1; next = broken (six 100 100 50 150 100 100) (six 0 0 38 262 100 0) };
+    } ∷
     -- the count of each row of two layers, a sweep of each with it, and with the count of another row
     keeps "y5-41 row 0" rows (countZonal 0 0 wind) 3 ∷
     keeps "y5-41 row 1" rows (countZonal 0 1 wind) 2 ∷

@@ -1,13 +1,32 @@
-//! The long sweep beside the zonal sweep, with the same fluxes, on winds that need some number of substeps.
+//! The long sweep, and the two presses, beside the zonal sweep with the same fluxes, on winds that need some number of substeps.
 
 use crate::inputs;
 use crate::timing::{nothing_left, spread, time, Spread, Work};
 use crate::versions::VERSIONS;
 use crate::worlds::Random;
-use reference::{Call, Grid, World};
+use reference::{Answer, Call, Grid, World};
 
-/// The substeps of the zonal sweeps.
-pub const SUBSTEPS: [u64; 5] = [1, 2, 4, 8, 16];
+/// What stands beside a zonal sweep: the calls, and the count that each of them gives where the sweep takes so many substeps.
+pub struct Beside {
+    calls: fn(&World, &Call) -> Vec<Call>,
+    count: fn(u64) -> u64,
+}
+
+pub const LONG: Beside = Beside {
+    calls: |_, sweep| vec![long(sweep)],
+    count: |_| 0,
+};
+
+/// The count, and the sweep with it.
+pub const PRESSES: Beside = Beside {
+    calls: |world, sweep| {
+        vec![
+            inputs::count_before(sweep),
+            inputs::with_count(world, sweep),
+        ]
+    },
+    count: |substeps| substeps,
+};
 
 /// The zonal sweep of a row by the same flux through every face, which needs so many substeps: the air stays as it is, and
 /// the row's least air sets the count.
@@ -48,22 +67,30 @@ fn zonal_work(grid: Grid, substeps: u64) -> Work {
     Work { start, calls }
 }
 
-/// A version's time for the long sweeps as a part of its time for the zonal ones.
-pub fn beside_zonal(grid: Grid, substeps: u64, version: usize, rounds: usize) -> Spread {
+/// A version's time for what stands beside the zonal sweeps as a part of its time for these.
+pub fn beside_zonal(
+    other: &Beside,
+    grid: Grid,
+    substeps: u64,
+    version: usize,
+    rounds: usize,
+) -> Spread {
     let zonal = zonal_work(grid, substeps);
-    let long = Work {
-        start: zonal.start.clone(),
-        calls: zonal.calls.iter().map(long).collect(),
-    };
+    let start = zonal.start.clone();
+    let calls = zonal
+        .calls
+        .iter()
+        .flat_map(|sweep| (other.calls)(&start, sweep))
+        .collect();
+    let others = Work { start, calls };
     let mut left = nothing_left(&zonal.start);
     let mut measured = |work: &Work, round: usize, count: u64| {
         let seconds = time(VERSIONS[version].call(round), work, &mut left);
-        assert!(left
-            .answers
-            .iter()
-            .all(|answer| answer.number == 0 && answer.count == count));
+        let wanted = Answer { number: 0, count };
+        assert!(left.answers.iter().all(|answer| *answer == wanted));
         seconds
     };
-    let ratio = |round: usize| measured(&long, round, 0) / measured(&zonal, round, substeps);
+    let count = (other.count)(substeps);
+    let ratio = |round: usize| measured(&others, round, count) / measured(&zonal, round, substeps);
     spread((0..rounds).map(ratio).collect())
 }
