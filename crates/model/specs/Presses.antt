@@ -16,7 +16,8 @@ use Rattle.model.specs.World.{Grid, World, rowStart}
 use Rattle.model.specs.Sweep.{ring}
 use Rattle.model.specs.Step.{Call, load, emission, withdrawal, zonal, longZonal, meridional, remap, total, cell, addEmitter, removeEmitter, tick, unitsATick, countZonal, zonalWithCount, Place, place, firstOf, absent, Result, meaning, commonPlaces, ownPlaces, accepted, refused, refusal, step, rowAir, zonalCount}
 use Rattle.model.specs.Lists.{Loaded, loadedWorld, listed, after, point, history, SameReply}
-use Rattle.model.specs.Laws.Grid.{Apart, layer-apart, rows-apart}
+use Rattle.model.specs.Laws.Basic.{Apart}
+use Rattle.model.specs.Laws.Grid.{layer-apart, rows-apart}
 use Rattle.model.specs.Laws.Chain.{IsCount, count-smallest}
 use Rattle.model.specs.Laws.Step.{passes, stops, found, numbered, behind-passed, behind-stopped, step-accepted, step-refused, answer-is, refused-changes-nothing, accepted-passed, loaded-reached}
 use Rattle.model.specs.Laws.Keeps.{Kept}

@@ -307,6 +307,24 @@ part-or-outside a m c = go (ltb c a) (ltb c (a + m)) refl refl
         inl (c - a, omega arith, omega arith)
     go false false e f = inr (inr (ltb-false c (a + m) f))
 
+-- k entries from entry b on that lie apart from them are the same in two lists that differ only inside
+abbrev pub Apart : ℕ → ℕ → ℕ → ℕ → Type 0
+Apart a m b k = (b + k ≤ a) ⊎ (a + m ≤ b)
+
+pub part-apart :
+    (l new : List ℕ) (a m b k : ℕ) → length new ≡ length l → ((c : ℕ) → Outside a m c → at new c ≡ at l c) → Apart a m b k →
+    part new b k ≡ part l b k
+part-apart l new a m b k long same apart =
+    ext-getD 0 (part new b k) (part l b k)
+    (simp (length-take, length-drop) (ap (λ (x : ℕ). min k (x - b)) long))
+    (λ i h.
+    let few : i < k = omega (arith, length-take k (drop b new), min-le-left k (length (drop b new))) in
+    at-part new b k i few ∙ same (b + i) (go i few apart) ∙ sym (at-part l b k i few))
+  where
+    go : (i : ℕ) → i < k → Apart a m b k → Outside a m (b + i)
+    go i h (inl p) = inl (omega arith)
+    go i h (inr p) = inr (omega arith)
+
 -- m new entries written from entry a on over a list of n entries
 module _ (l new : List ℕ) (a m n : ℕ) (whole : length l ≡ n) (size : length new ≡ m) (fits : a + m ≤ n) where
   front : length (take a l) ≡ a
@@ -341,17 +359,8 @@ module _ (l new : List ℕ) (a m n : ℕ) (whole : length l ≡ n) (size : lengt
   part-written = rw (append-assoc, drop-at (take a l) _ a front) (take-at new _ m size)
 
   -- a part beside it is as it was
-  pub part-beside : (b k : ℕ) → (b + k ≤ a) ⊎ (a + m ≤ b) → part (written l a new) b k ≡ part l b k
-  part-beside b k beside =
-      ext-getD 0 (part (written l a new) b k) (part l b k)
-      (simp (length-take, length-drop) (ap (λ (x : ℕ). min k (x - b)) (length-written ∙ sym whole)))
-      (λ i h.
-      let few : i < k = omega (arith, length-take k (drop b (written l a new)), min-le-left k (length (drop b (written l a new)))) in
-      at-part (written l a new) b k i few ∙ at-written-outside (b + i) (go i few beside) ∙ sym (at-part l b k i few))
-    where
-      go : (i : ℕ) → i < k → (b + k ≤ a) ⊎ (a + m ≤ b) → Outside a m (b + i)
-      go i h (inl p) = inl (omega arith)
-      go i h (inr p) = inr (omega arith)
+  pub part-beside : (b k : ℕ) → Apart a m b k → part (written l a new) b k ≡ part l b k
+  part-beside b k = part-apart l (written l a new) a m b k (length-written ∙ sym whole) at-written-outside
 
   -- the sum: with what stood there before, as it was with what stands there now
   pub sum-written : sum n (at (written l a new)) + sum m (at (part l a m)) ≡ sum n (at l) + sum m (at new)

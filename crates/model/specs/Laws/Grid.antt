@@ -11,7 +11,7 @@ use lib.Dec.{leb}
 use Rattle.model.specs.Limits.{mostColumns, mostRows, mostLayers, mostTracers, mostLayerCells, mostFaces, mostCells, mostAmounts}
 use Rattle.model.specs.World.{Grid, layerCells, worldCells, layerStart, rowStart}
 use Rattle.model.specs.Step.{within, gridFits}
-use Rattle.model.specs.Laws.Basic.{le-or-lt}
+use Rattle.model.specs.Laws.Basic.{le-or-lt, Apart}
 
 -- W, R, K and N are in their ranges
 pub record InRange (g : Grid) : Type 0 where
@@ -73,10 +73,7 @@ pub row-inside : (g : Grid) (k r : ℕ) → k < g .K → r < g .R → rowStart g
 row-inside g k r hk hr =
     omega (arith, mul-le-mul-right (layerCells g) hk, mul-le-mul-right (g .W) hr)
 
--- ---- two layers, and two rows of the grid, lie apart: n cells from cell b on, and m cells from cell a on
-abbrev pub Apart : ℕ → ℕ → ℕ → ℕ → Type 0
-Apart a m b n = (b + n ≤ a) ⊎ (a + m ≤ b)
-
+-- ---- two layers, and two rows of the grid, lie apart
 row-in-layer : (g : Grid) (k r : ℕ) → r < g .R → rowStart g k r + g .W ≤ layerStart g k + layerCells g
 row-in-layer g k r h = omega (arith, mul-le-mul-right (g .W) h)
 

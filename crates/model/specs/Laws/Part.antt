@@ -1,21 +1,18 @@
 -- What a call keeps that changes m of the world's cells, from cell a on, and no others, if it keeps it in those cells; and such a call in two worlds.
 -- Assumes a world that passes places 1 to 4, or, for what is kept, one that calls reach; the cells inside it, and as many amounts after the change as before.
-use Prim.Native.Nat.{ℕ, zero, suc, _+_, _*_, _-_, _≤_, _<_, min}
+use Prim.Native.Nat.{ℕ, zero, suc, _+_, _*_, _≤_, _<_}
 use mathlib.Core.List.{List}
 use mathlib.Core.Bool.{Bool, true}
 use mathlib.Core.Path.{_≡_, refl, sym, _∙_, ap, ap₂}
 use mathlib.Core.Logic.{_⊎_, inl, inr}
-use native.Mathlib.Nat.{min-le-left}
 use native.Mathlib.Omega.{arith}
-use lib.ListN.{length, drop, length-take, length-drop}
-use lib.Seq.{ext-getD}
+use lib.ListN.{length}
 use Rattle.model.specs.Basic.{at, part, written, sum}
 use Rattle.model.specs.World.{Grid, World, worldCells, gas, airFits, movedPart}
 use Rattle.model.specs.Scheme.{Rule, ruleOf}
 use Rattle.model.specs.Step.{Call, noExchange, accepted, refused, refusal, step}
 use Rattle.model.specs.Lists.{Alike}
-use Rattle.model.specs.Laws.Basic.{length-part, at-part, InPart, Outside, part-or-outside, length-written, at-written-within, at-written-outside, part-written, sum-written}
-use Rattle.model.specs.Laws.Grid.{Apart}
+use Rattle.model.specs.Laws.Basic.{length-part, at-part, InPart, Outside, part-or-outside, Apart, part-apart, length-written, at-written-within, at-written-outside, part-written, sum-written}
 use Rattle.model.specs.Laws.Substep.{AirIn}
 use Rattle.model.specs.Laws.World.{length-gas, length-moved, gas-moved}
 use Rattle.model.specs.Laws.Step.{Fits, Reached, step-accepted, step-refused}
@@ -138,16 +135,7 @@ module _
 
 -- so the air of cells that lie apart is as it was
 pub air-apart : {w next : World} {a m : ℕ} → ChangesOnly w next a m → (b n : ℕ) → Apart a m b n → part (next .air) b n ≡ part (w .air) b n
-air-apart {w} {next} {a} {m} only b n apart =
-    ext-getD 0 (part (next .air) b n) (part (w .air) b n)
-    (simp (length-take, length-drop) (ap (λ (x : ℕ). min n (x - b)) (only .airLength)))
-    (λ i h.
-    let few : i < n = omega (arith, length-take n (drop b (next .air)), min-le-left n (length (drop b (next .air)))) in
-    at-part (next .air) b n i few ∙ only .airOutside (b + i) (go i few apart) ∙ sym (at-part (w .air) b n i few))
-  where
-    go : (i : ℕ) → i < n → Apart a m b n → Outside a m (b + i)
-    go i h (inl p) = inl (omega arith)
-    go i h (inr p) = inr (omega arith)
+air-apart {w} {next} {a} {m} only b n = part-apart (w .air) (next .air) a m b n (only .airLength) (only .airOutside)
 
 -- a call changes no more than it does where it is accepted: a refused one changes nothing
 pub step-changes-only :
