@@ -244,7 +244,7 @@ static inline const char *puldeho_refusal_remedy(enum puldeho_refusal refusal)
     case PULDEHO_REFUSAL_EMITTER_ABSENT:
         return "remove each stack once, from the tracer that it was added to, and add the emitters anew after a load";
     case PULDEHO_REFUSAL_GIVEN_COUNT:
-        return "count again with count_zonal, for the same layer, row and fluxes, look at the new count, and give that";
+        return "see that layer, row and fluxes are those that were counted; then count again with count_zonal, look at the new count, and give that";
     }
     return "compile the program anew, with the header of the library that it is linked with";
 }

@@ -845,7 +845,7 @@ static enum puldeho_refusal meridional_place(const struct call *call, struct tex
 static const char *given_words(const struct mesh *row, uint32_t given, struct substep *step)
 {
     if (given == 0)
-        return ", as a refused count_zonal gives";
+        return ", as a refused call gives";
     if (given > (uint32_t)row->most_substeps)
         return ", more than any sweep takes";
     world_air(row, step->air);
@@ -861,11 +861,12 @@ static enum puldeho_refusal given_place(const struct call *call, struct text *te
     int smallest = sweep(&row, air, &step);
     if (call->given == (uint32_t)smallest)
         return PULDEHO_ACCEPTED;
-    say(text, "the sweep takes ");
+    say(text, "the sweep of layer %lld, row %lld takes ", (long long)call->layer, (long long)call->row);
     say_counted(text, smallest, "substep");
     say(text, " now, and the given count is ");
     say_number(text, call->given);
-    say(text, "%s; count_zonal gives the count as it is now, for the same layer, row and fluxes", given_words(&row, call->given, &step));
+    say(text, "%s; see that layer, row and fluxes are those that were counted, then count again with count_zonal and look at the "
+        "new count", given_words(&row, call->given, &step));
     return PULDEHO_REFUSAL_GIVEN_COUNT;
 }
 

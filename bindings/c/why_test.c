@@ -479,10 +479,10 @@ static void check_given(const struct puldeho_world *world, const struct request 
     struct request right = *r;
     enum puldeho_refusal refusal = puldeho_count_zonal(world, r->layer, r->row, r->fluxes, r->length, &count);
     right.given = count;
-    if (refusal != PULDEHO_ACCEPTED || number_after(text, "the sweep takes ") != count || !accepted_as(world, &right, 1)
+    if (refusal != PULDEHO_ACCEPTED || number_after(text, " takes ") != count || !accepted_as(world, &right, 1)
         || number_after(text, "the given count is ") != r->given || r->given == count)
         differs("the count that would be accepted", text);
-    given[0] += strstr(text, ", as a refused count_zonal gives; ") != NULL && r->given == 0;
+    given[0] += strstr(text, ", as a refused call gives; ") != NULL && r->given == 0;
     given[1] += strstr(text, ", more than any sweep takes; ") != NULL && r->given > PULDEHO_MOST_SUBSTEPS;
     given[2] += strstr(text, ", which serves too and is not the smallest; ") != NULL && r->given > count;
     given[3] += strstr(text, ", which does not serve; ") != NULL;
@@ -797,7 +797,8 @@ struct fixed {
 #define SWEEP_ROW(...) .r = {.name = ZONAL, .length = 4, .fluxes = LISTED(__VA_ARGS__)}
 #define COUNT_ROW(...) .r = {.name = COUNT_ZONAL, .length = 4, .fluxes = LISTED(__VA_ARGS__)}
 #define GIVEN_ROW(COUNT, ...) .r = {.name = ZONAL_WITH_COUNT, .length = 4, .given = COUNT, .fluxes = LISTED(__VA_ARGS__)}
-#define COUNTS_AGAIN "; count_zonal gives the count as it is now, for the same layer, row and fluxes"
+#define COUNTS_AGAIN "; see that layer, row and fluxes are those that were counted, then count again with count_zonal and look at " \
+    "the new count"
 #define LONG_ROW(...) .r = {.name = LONG_ZONAL, .length = 4, .fluxes = LISTED(__VA_ARGS__)}
 #define SWEEP_LAYER(...) .r = {.name = MERIDIONAL, .length = 8, .fluxes = LISTED(__VA_ARGS__)}
 #define TWO_GASES .grid = {4, 1, 1, 2}, AIR_100
@@ -978,15 +979,15 @@ static const struct fixed fixed[] = {
     {CASE_P, COUNT_ROW(0, 50, 0, 0), .refusal = PULDEHO_ACCEPTED, .text = "the call would be accepted"},
     {CASE_P, GIVEN_ROW(1, 0, 50, 0, 0), .refusal = PULDEHO_ACCEPTED, .text = "the call would be accepted"},
     {CASE_P, GIVEN_ROW(0, 0, 50, 0, 0), .refusal = PULDEHO_REFUSAL_GIVEN_COUNT,
-     .text = "the sweep takes 1 substep now, and the given count is 0, as a refused count_zonal gives" COUNTS_AGAIN},
+     .text = "the sweep of layer 0, row 0 takes 1 substep now, and the given count is 0, as a refused call gives" COUNTS_AGAIN},
     {CASE_P, GIVEN_ROW(2, 0, 50, 0, 0), .refusal = PULDEHO_REFUSAL_GIVEN_COUNT,
-     .text = "the sweep takes 1 substep now, and the given count is 2, which serves too and is not the smallest" COUNTS_AGAIN},
+     .text = "the sweep of layer 0, row 0 takes 1 substep now, and the given count is 2, which serves too and is not the smallest" COUNTS_AGAIN},
     {CASE_P, GIVEN_ROW(1, 150, 150, 150, 150), .refusal = PULDEHO_REFUSAL_GIVEN_COUNT,
-     .text = "the sweep takes 2 substeps now, and the given count is 1, which does not serve" COUNTS_AGAIN},
+     .text = "the sweep of layer 0, row 0 takes 2 substeps now, and the given count is 1, which does not serve" COUNTS_AGAIN},
     {CASE_P, GIVEN_ROW(17, 1600, 1600, 1600, 1600), .refusal = PULDEHO_REFUSAL_GIVEN_COUNT,
-     .text = "the sweep takes 16 substeps now, and the given count is 17, more than any sweep takes" COUNTS_AGAIN},
+     .text = "the sweep of layer 0, row 0 takes 16 substeps now, and the given count is 17, more than any sweep takes" COUNTS_AGAIN},
     {CASE_P, GIVEN_ROW(4294967295u, 0, 50, 0, 0), .refusal = PULDEHO_REFUSAL_GIVEN_COUNT,
-     .text = "the sweep takes 1 substep now, and the given count is 4294967295 (-1, if the number was signed), more than any "
+     .text = "the sweep of layer 0, row 0 takes 1 substep now, and the given count is 4294967295 (-1, if the number was signed), more than any "
              "sweep takes" COUNTS_AGAIN},
     {CASE_P, .r = {.name = ZONAL_WITH_COUNT, .length = 8, .given = 17}, .refusal = PULDEHO_REFUSAL_LENGTHS,
      .text = "fluxes has length 8, the grid wants 4 (W; here W = 4, R = 1, K = 1, N = 1); fluxes of the other sweep have "

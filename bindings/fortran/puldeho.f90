@@ -1482,8 +1482,8 @@ contains
       text = "remove each stack once, from the tracer that it was added to, and add the emitters anew " // &
           "after a load"
     case (puldeho_refusal_given_count)
-      text = "count again with count_zonal, for the same layer, row and fluxes, look at the new count, " // &
-          "and give that"
+      text = "see that layer, row and fluxes are those that were counted; then count again with " // &
+          "count_zonal, look at the new count, and give that"
     case default
       text = "compile the program anew, with the module of the library that it is linked with"
     end select

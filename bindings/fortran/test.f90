@@ -93,7 +93,7 @@ contains
     call gives(puldeho_refusal_given_count)
     if (substeps /= 0) error stop "a refused sweep has a count"
     call one%why_zonal_with_count(0, 0, 1, [150, 150, 150, 150], text)
-    call says("the sweep takes 2 substeps now, and the given count is 1, which does not serve")
+    call says("the sweep of layer 0, row 0 takes 2 substeps now, and the given count is 1, which does not serve")
     call one%zonal_with_count(0, 0, 2, [150, 150, 150, 150], refusal, substeps)
     call gives(puldeho_accepted)
     if (substeps /= 2) error stop "the given count differs"

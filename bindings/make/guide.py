@@ -2,7 +2,7 @@
 import re
 import sys
 
-from tables import is_list, own
+from tables import is_list, own, second_of
 
 GUIDE, README = "docs/GUIDE.md", "README.md"
 
@@ -29,10 +29,11 @@ def guide(tables):
     return between(GUIDE, "refusals", table(["Refusal", "Condition", "Usual cause", "What to do"], rows))
 
 
-def arguments(call, lengths):
-    """A call's own arguments, a list with its length."""
+def arguments(call, lengths, pairs):
+    """A call's own arguments, a list with its length; of the second call of a pair also what stands for them."""
     words = ["%s (%s numbers)" % (p.name, lengths[call.name, p.name]) if is_list(p) else p.name for p in own(call)]
-    return ", ".join(words) or "–"
+    pair = second_of(pairs, call)
+    return (", ".join(words) or "–") + ("; in Python and Rust what `%s` gave" % pair.first.name if pair else "")
 
 
 def count(call):
@@ -44,6 +45,6 @@ def readme(tables):
     """README.md."""
     lengths = {(lent.owner, lent.name): lent.length.upper().replace("*", "·") for lent in tables.lists}
     rows = [
-        ["`%s`" % call.name, arguments(call, lengths), call.refusals, count(call)] for call in tables.calls
+        ["`%s`" % call.name, arguments(call, lengths, tables.pairs), call.refusals, count(call)] for call in tables.calls
     ]
     return between(README, "calls", table(["Call", "Arguments beside the world", "Refusals, in order", "Count"], rows))

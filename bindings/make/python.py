@@ -34,16 +34,16 @@ def method(pairs, call):
     made = ["%sself._make(%s)" % ("return " if call.count else "", ", ".join(['"%s"' % call.name] + mine))]
     if first is not None:
         count = " Returns a %s with %s, %s." % (first.type, " and ".join([", ".join(mine), call.count.name]), call.count.text)
-        made = ['%s = self._held("%s", "%s", %s)' % (p.name, call.name, p.name, p.name) for p in own(call) if is_list(p)]
+        made = ['%s = self._held("%s", "%s", %s)' % (p.name, call.name, p.name, p.name) for p in own(call)]
         made += ["return %s(%s)" % (first.type, ", ".join(mine + ['self._make(%s)' % ", ".join(['"%s"' % call.name] + mine)]))]
     if second is not None:
         fields = ["counted." + holder(second, p) for p in own(call)]
         made = [
             "if not isinstance(counted, %s):" % second.type,
-            '    raise TypeError("%s takes what %s gave, and has a %%s" %% type(counted).__name__)' % (call.name, second.first.name),
+            '    raise TypeError("%s takes what %s gave, not a value of type %%s" %% type(counted).__name__)' % (call.name, second.first.name),
             "return self._make(%s)" % ", ".join(['"%s"' % call.name] + fields),
         ]
-        mine, count = ["counted"], " counted: what %s gave. Returns %s." % (second.first.name, call.count.text)
+        mine, count = ["counted"], " counted: what %s gave. Returns the count in it." % second.first.name
     text = "%s%s Refusals, in order: %s." % (call.does, count, call.refusals)
     return '\n    def %s(%s):\n%s\n%s' % (
         call.name, ", ".join(["self"] + mine), wrapped('"""%s"""' % text, 110, "        "), "".join("        %s\n" % line for line in made))
@@ -53,8 +53,10 @@ def counted(pair):
     """The type of what a pair's first call gives and its second takes."""
     text = '"""%s. World.%s gives it, and World.%s takes it."""' % (pair.what, pair.first.name, pair.second.name)
     fields = " ".join(p.name for p in held(pair))
-    return '\n\nclass %s(collections.namedtuple("%s", "%s")):\n%s\n\n    __slots__ = ()\n' % (
-        pair.type, pair.type, fields, wrapped(text, 110, "    "))
+    return (
+        '\n\nclass %s(collections.namedtuple("%s", "%s")):\n%s\n\n    __slots__ = ()\n'
+        '\n    @property\n    def count(self):\n        """The same as %s, in place of the method that a tuple has."""\n        return self.%s\n'
+    ) % (pair.type, pair.type, fields, wrapped(text, 110, "    "), pair.first.count.name, pair.first.count.name)
 
 
 def reading(lent):

@@ -73,7 +73,8 @@ def method(pairs, call):
     signature, mine = taken(pairs, call)
     lent = [("&mut self.%s" if is_written(p) else "&self.%s") % p.name if p.name in WORLD else mine[p.name] for p in call.parameters]
     made = "raw::%s(self.grid, %s)" % (call.name, ", ".join(lent))
-    count = "\n    ///\n    /// It gives %s." % call.count.text if call.count else ""
+    text = "the count in `counted`" if second_of(pairs, call) else call.count and call.count.text
+    count = "\n    ///\n    /// It gives %s." % text if call.count else ""
     gives, pair = call.count.type if call.count else "()", first_of(pairs, call)
     if pair is not None:
         fields = ["%s: %s.to_vec()" % (p.name, p.name) if is_list(p) else p.name for p in held(pair)]
@@ -98,7 +99,7 @@ def counted(pair):
     )
     return (
         "\n/// %s. [`World::%s`] makes it, and [`World::%s`] takes it.\n"
-        "#[derive(Clone, Debug, PartialEq, Eq)]\npub struct %s {\n%s}\n\nimpl %s {%s}\n"
+        "#[derive(Clone, Debug, PartialEq, Eq)]\n#[must_use = \"the sweep was counted and is not made\"]\npub struct %s {\n%s}\n\nimpl %s {%s}\n"
     ) % (pair.what, pair.first.name, pair.second.name, pair.type, fields, pair.type, reads)
 
 

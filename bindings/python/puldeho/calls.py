@@ -102,7 +102,7 @@ REMEDIES = {
     Refusal.LONG_AIR: "give fluxes that leave every cell 1 to 65,535; if the other sweeps of the step would bring the air back, make the whole step (zonal, meridional, remap) in parts, or make the meridional sweep or a remap first",
     Refusal.EMITTER_ADDED: "remove a stack before you add it again with another cell or other units; add stacks of one cell as one emitter, with the sum of their units (to close one of them, remove the emitter and add it again with the rest); what does not fit 16 emitters give by emission",
     Refusal.EMITTER_ABSENT: "remove each stack once, from the tracer that it was added to, and add the emitters anew after a load",
-    Refusal.GIVEN_COUNT: "count again with count_zonal, for the same layer, row and fluxes, look at the new count, and give that",
+    Refusal.GIVEN_COUNT: "see that layer, row and fluxes are those that were counted; then count again with count_zonal, look at the new count, and give that",
 }
 
 # The world's lists, in the order of the C struct.
@@ -269,6 +269,11 @@ class CountedZonal(collections.namedtuple("CountedZonal", "layer row fluxes subs
 
     __slots__ = ()
 
+    @property
+    def count(self):
+        """The same as substeps, in place of the method that a tuple has."""
+        return self.substeps
+
 
 class Calls:
     """The calls, each over the world's lists."""
@@ -302,15 +307,17 @@ class Calls:
         it is made, to be seen and then given to zonal_with_count. Returns a CountedZonal with layer, row,
         fluxes and substeps, the number of substeps that the sweep takes, 1 to 16. Refusals, in order: 1 2 3 4
         5 8 9."""
+        layer = self._held("count_zonal", "layer", layer)
+        row = self._held("count_zonal", "row", row)
         fluxes = self._held("count_zonal", "fluxes", fluxes)
         return CountedZonal(layer, row, fluxes, self._make("count_zonal", layer, row, fluxes))
 
     def zonal_with_count(self, counted):
         """Makes the sweep of zonal, if the given count is the one that count_zonal gives for the same layer,
         row and fluxes now; with any other count it is refused with 20. counted: what count_zonal gave.
-        Returns the given count. Refusals, in order: 1 2 3 4 5 8 9 20."""
+        Returns the count in it. Refusals, in order: 1 2 3 4 5 8 9 20."""
         if not isinstance(counted, CountedZonal):
-            raise TypeError("zonal_with_count takes what count_zonal gave, and has a %s" % type(counted).__name__)
+            raise TypeError("zonal_with_count takes what count_zonal gave, not a value of type %s" % type(counted).__name__)
         return self._make("zonal_with_count", counted.layer, counted.row, counted.substeps, counted.fluxes)
 
     def long_zonal(self, layer, row, fluxes):

@@ -166,11 +166,9 @@ class World(Calls):
         return count
 
     def _held(self, call, name, value):
-        """A list of a call's own as a tuple of its numbers, which nobody can change afterwards."""
-        kind = dict(SIGNATURES[call])[name]
-        shape = self.grid.shape(call, name)
-        lent = lists.lent(name, lists.owner(name, value, kind[-4:-1], shape), kind, shape)
-        return tuple(lent.block) if lent.length else ()
+        """An argument of a call's own as nobody can change it afterwards: a whole number, or the numbers of a list as a tuple."""
+        one = lists.argument(name, value, dict(SIGNATURES[call])[name], self.grid.shape(call, name))
+        return (tuple(one.block) if one.length else ()) if isinstance(one, lists.Lent) else one
 
     def _why(self, call, given):
         """Why the library refuses the call in this world, in words."""

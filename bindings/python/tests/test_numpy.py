@@ -25,6 +25,14 @@ class Arrays(unittest.TestCase):
         self.assertTrue((self.tracers[0] == 3 * self.air).all())
         self.assertEqual(self.world.total(1), self.tracers[1].sum())
 
+    def test_counted_once(self):
+        layer, fluxes = numpy.array(1), numpy.full(GRID.w, 1500, dtype=numpy.int32)
+        counted = self.world.count_zonal(layer, numpy.int64(1), fluxes)
+        layer[...], fluxes[:] = 0, 0
+        self.assertEqual(counted, (1, 1, (1500,) * GRID.w, 2))
+        self.assertEqual([type(number) for number in counted[:2]], [int, int])
+        self.assertEqual(self.world.zonal_with_count(counted), 2)
+
     def test_fluxes_by_face_row(self):
         fluxes = numpy.zeros((GRID.r + 1, GRID.w), dtype=numpy.int32)
         fluxes[0, 2] = 5

@@ -54,13 +54,14 @@ class CaseP(unittest.TestCase):
         one, single, fluxes = world(), world(), array.array("i", [150] * 4)
         counted = one.count_zonal(0, 0, fluxes)
         self.assertEqual(counted, puldeho.CountedZonal(layer=0, row=0, fluxes=(150,) * 4, substeps=2))
+        self.assertEqual((counted.count, pickle.loads(pickle.dumps(counted))), (2, counted))
         self.assertEqual((one.air.tolist(), one.tracers.tolist()), (AIR, TRACERS))
         fluxes[0] = 7
         self.assertEqual(one.zonal_with_count(counted), 2)
         self.assertEqual(single.zonal(0, 0, [150] * 4), 2)
         self.assertEqual((one.air, one.tracers), (single.air, single.tracers))
         for wrong in (2, [150] * 4, (0, 0, (150,) * 4, 2)):
-            with self.assertRaisesRegex(TypeError, "zonal_with_count takes what count_zonal gave"):
+            with self.assertRaisesRegex(TypeError, "zonal_with_count takes what count_zonal gave, not a value of type (int|list|tuple)"):
                 one.zonal_with_count(wrong)
 
     def test_emitters(self):
@@ -230,7 +231,7 @@ class Refusals(unittest.TestCase):
         self.refused(2, "count_zonal", 0, 0, [])
         counted = world().count_zonal(0, 0, [150] * 4)
         refused = self.refused(20, "zonal_with_count", counted._replace(substeps=1))
-        self.assertIn("the sweep takes 2 substeps now, and the given count is 1, which does not serve", str(refused))
+        self.assertIn("the sweep of layer 0, row 0 takes 2 substeps now, and the given count is 1, which does not serve", str(refused))
         self.assertNotIn("What to do", str(refused))
         self.refused(9, "zonal_with_count", counted._replace(fluxes=(0, 100, 0, 0)))
 

@@ -180,7 +180,7 @@ impl Refusal {
             Refusal::LongAir => "give fluxes that leave every cell 1 to 65,535; if the other sweeps of the step would bring the air back, make the whole step (zonal, meridional, remap) in parts, or make the meridional sweep or a remap first",
             Refusal::EmitterAdded => "remove a stack before you add it again with another cell or other units; add stacks of one cell as one emitter, with the sum of their units (to close one of them, remove the emitter and add it again with the rest); what does not fit 16 emitters give by emission",
             Refusal::EmitterAbsent => "remove each stack once, from the tracer that it was added to, and add the emitters anew after a load",
-            Refusal::GivenCount => "count again with count_zonal, for the same layer, row and fluxes, look at the new count, and give that",
+            Refusal::GivenCount => "see that layer, row and fluxes are those that were counted; then count again with count_zonal, look at the new count, and give that",
         }
     }
 }
@@ -335,7 +335,7 @@ impl World {
 
     /// Makes the sweep of zonal, if the given count is the one that count_zonal gives for the same layer, row and fluxes now; with any other count it is refused with 20.
     ///
-    /// It gives the given count.
+    /// It gives the count in `counted`.
     ///
     /// Refusals, in order: 1 2 3 4 5 8 9 20.
     pub fn zonal_with_count(&mut self, counted: &CountedZonal) -> Result<u32, Refusal> {
@@ -520,6 +520,7 @@ impl World {
 
 /// A zonal sweep that was counted and not made: its layer, row and fluxes, and the substeps that it takes. [`World::count_zonal`] makes it, and [`World::zonal_with_count`] takes it.
 #[derive(Clone, Debug, PartialEq, Eq)]
+#[must_use = "the sweep was counted and is not made"]
 pub struct CountedZonal {
     layer: u32,
     row: u32,

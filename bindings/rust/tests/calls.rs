@@ -96,7 +96,7 @@ fn a_count_that_no_longer_holds() {
     assert_eq!(world.zonal_with_count(&counted), Err(Refusal::GivenCount));
     assert_eq!(world, before);
     assert!(world.why_zonal_with_count(&counted).starts_with(
-        "the sweep takes 3 substeps now, and the given count is 2, which does not serve"
+        "the sweep of layer 0, row 0 takes 3 substeps now, and the given count is 2, which does not serve"
     ));
     let again = world.count_zonal(0, 0, counted.fluxes()).unwrap();
     assert_eq!(world.zonal_with_count(&again), Ok(3));
