@@ -10,7 +10,7 @@ use borrow.Author.Tests.{eq-eqb, ne-eqb}
 use borrow.Rule.Slice.PartMut.{putMid}
 use lib.IntN.{ℤ}
 use lib.ListN.{length}
-use Rattle.model.specs.Limits.{totalLimit, mostSubsteps, mostCells}
+use Rattle.model.specs.Limits.{totalLimit, mostSubsteps}
 use Rattle.model.specs.Basic.{at, part, written, joined, tab, sum}
 use Rattle.model.specs.World.{Grid, World, worldCells, rowStart, withAmounts}
 use Rattle.model.specs.Sweep.{ring, airAfter, gasAfter, serves, swept}
@@ -70,75 +70,73 @@ pub record IsSwept (g : Grid) (air tracers : List ℕ) (first : ℕ) (fluxes : L
   pub airIs : afterAir ≡ written air first (chain fluxes n (rowPart g air first) n)
   pub tracersAre : after ≡ sweptTracers g tracers (rowPart g air first) first fluxes n
 
-module _ {g : Grid} {air tracers : List ℕ} {first : ℕ} {fluxes : List ℤ} {n : ℕ} (ready : RowReady g air tracers first fluxes n) where
+module _
+    {g : Grid} {air tracers : List ℕ} {first : ℕ} {fluxes : List ℤ} {n : ℕ} (ready : RowReady g air tracers first fluxes n)
+    {cells : ℕ} (e : cells ≡ worldCells g) where
   abbrev lent : List ℕ
   lent = rowPart g air first
 
-  pub row-ends : first + g .W ≤ mostCells
-  row-ends = le-trans (ready .inside) (cells-most (ready .range))
+  -- the rows fit, from the grid
+  pub rows-fit : RowsFit tracers first cells (g .W) (g .N)
+  rows-fit =
+      record {
+        fewColumns = ready .range .highW;
+        rowInside = rw e (ready .inside);
+        fewCells = rw e (cells-most (ready .range));
+        fewTracers = ready .range .highN;
+        long = rw e (ready .tracersLong);
+      }
 
-  module _ {cells : ℕ} (e : cells ≡ worldCells g) where
-    -- the rows fit, from the grid
-    pub rows-fit : RowsFit tracers first cells (g .W) (g .N)
-    rows-fit =
+  module _ {rows : List (List ℕ)} (loaded : AreRows tracers first cells (g .W) (g .N) rows) where
+    -- tracer t's row is a part of its amounts
+    row-of-gas : (t : ℕ) → t < g .N → rowOf (g .W) rows t ≡ part (gasOf g tracers t) first (g .W)
+    row-of-gas t h =
+        let below : suc t * worldCells g ≤ g .N * worldCells g = mul-le-mul-right (worldCells g) h in
+        (rw e at (loaded .each t h)) ∙
+        sym (part-part tracers (t * worldCells g) (worldCells g) first (g .W) (omega (arith, ready .tracersLong)) (ready .inside))
+
+    -- its sum is at most the tracer's total
+    row-total : (t : ℕ) → t < g .N → sum (g .W) (at (rowOf (g .W) rows t)) ≤ totalLimit
+    row-total t h =
+        rw (row-of-gas t h)
+        (le-trans (part-sum-le (worldCells g) (gasOf g tracers t) first (g .W) (ready .inside)) (ready .total t h))
+
+    pub rows-sweep : SweepNeed rows lent fluxes n (g .N)
+    rows-sweep =
         record {
-          fewColumns = ready .range .highW;
-          rowInside = rw e (ready .inside);
-          fewCells = rw e (cells-most (ready .range));
-          fewTracers = ready .range .highN;
-          long = rw e (ready .tracersLong);
+          row = ready .row;
+          most = ready .most;
+          serving = ready .serving;
+          airIn = ready .airIn;
+          few = ready .range .highN;
+          wideRows = loaded .wideRows;
+          total = λ t h. rw (ready .long) (row-total t h);
         }
 
-    module _ {rows : List (List ℕ)} (loaded : AreRows tracers first cells (g .W) (g .N) rows) where
-      -- tracer t's row is a part of its amounts
-      row-of-gas : (t : ℕ) → t < g .N → rowOf (g .W) rows t ≡ part (gasOf g tracers t) first (g .W)
-      row-of-gas t h =
-          let below : suc t * worldCells g ≤ g .N * worldCells g = mul-le-mul-right (worldCells g) h in
-          (rw e at (loaded .each t h)) ∙
-          sym (part-part tracers (t * worldCells g) (worldCells g) first (g .W) (omega (arith, ready .tracersLong)) (ready .inside))
+    module _ {new : List ℕ} {swept : List (List ℕ)} (done : AreSwept rows lent fluxes n (g .N) new swept) where
+      pub swept-fit : StoreNeed tracers first cells (g .W) (g .N) swept
+      swept-fit = record { fit = rows-fit; wideRows = done .wideRows }
 
-      -- its sum is at most the tracer's total
-      row-total : (t : ℕ) → t < g .N → sum (g .W) (at (rowOf (g .W) rows t)) ≤ totalLimit
-      row-total t h =
-          rw (row-of-gas t h)
-          (le-trans (part-sum-le (worldCells g) (gasOf g tracers t) first (g .W) (ready .inside)) (ready .total t h))
+      new-long : length new ≡ g .W
+      unfolding ring
+      new-long =
+          ap length (done .airIs) ∙ length-air-after (rowMesh fluxes) fluxes n lent (ready .row .long) n ∙ ready .long
 
-      pub rows-sweep : SweepNeed rows lent fluxes n (g .N)
-      rows-sweep =
+      pub all-swept :
+          {after : List ℕ} → after ≡ storedRows tracers first cells (g .W) (g .N) swept →
+          IsSwept g air tracers first fluxes n (putMid first (first + g .W - first) air new) after
+      all-swept stored =
           record {
-            row = ready .row;
-            most = ready .most;
-            serving = ready .serving;
-            airIn = ready .airIn;
-            few = ready .range .highN;
-            wideRows = loaded .wideRows;
-            total = λ t h. rw (ready .long) (row-total t h);
+            airIs = put-back air new first (g .W) new-long ∙ ap (written air first) (done .airIs);
+            tracersAre =
+                stored ∙
+                joined-ext (g .N) (λ t. written (part tracers (t * cells) cells) first (rowOf (g .W) swept t)) _
+                (λ t h.
+                ap₂ (λ (l r : List ℕ). written l first r)
+                (ap (λ (m : ℕ). part tracers (t * m) m) e)
+                ((rw (ready .long) at (done .each t h)) ∙
+                ap (λ (l : List ℕ). gasAfter mismatch (ring (g .W)) fluxes n lent l n) (row-of-gas t h)));
           }
-
-      module _ {new : List ℕ} {swept : List (List ℕ)} (done : AreSwept rows lent fluxes n (g .N) new swept) where
-        pub swept-fit : StoreNeed tracers first cells (g .W) (g .N) swept
-        swept-fit = record { fit = rows-fit; wideRows = done .wideRows }
-
-        new-long : length new ≡ g .W
-        unfolding ring
-        new-long =
-            ap length (done .airIs) ∙ length-air-after (rowMesh fluxes) fluxes n lent (ready .row .long) n ∙ ready .long
-
-        pub all-swept :
-            {after : List ℕ} → after ≡ storedRows tracers first cells (g .W) (g .N) swept →
-            IsSwept g air tracers first fluxes n (putMid first (first + g .W - first) air new) after
-        all-swept stored =
-            record {
-              airIs = put-back air new first (g .W) new-long ∙ ap (written air first) (done .airIs);
-              tracersAre =
-                  stored ∙
-                  joined-ext (g .N) (λ t. written (part tracers (t * cells) cells) first (rowOf (g .W) swept t)) _
-                  (λ t h.
-                  ap₂ (λ (l r : List ℕ). written l first r)
-                  (ap (λ (m : ℕ). part tracers (t * m) m) e)
-                  ((rw (ready .long) at (done .each t h)) ∙
-                  ap (λ (l : List ℕ). gasAfter mismatch (ring (g .W)) fluxes n lent l n) (row-of-gas t h)));
-            }
 
 -- ---- the call, once its row is found
 module _ {w : World} {k r : ℕ} {fluxes : List ℤ} {p : Placed} (found : ZonalFound w k r fluxes p) where
