@@ -484,8 +484,9 @@ static void check_given(const struct puldeho_world *world, const struct request 
         differs("the count that would be accepted", text);
     given[0] += strstr(text, ", as a refused call gives; ") != NULL && r->given == 0;
     given[1] += strstr(text, ", more than any sweep takes; ") != NULL && r->given > PULDEHO_MOST_SUBSTEPS;
-    given[2] += strstr(text, ", which serves too and is not the smallest; ") != NULL && r->given > count;
-    given[3] += strstr(text, ", which does not serve; ") != NULL;
+    bool counted = r->given >= 1 && r->given <= PULDEHO_MOST_SUBSTEPS;
+    given[2] += strstr(text, ", which serves too and is not the smallest; ") != NULL && counted && r->given > count;
+    given[3] += strstr(text, ", which does not serve; ") != NULL && counted;
     if (given[0] + given[1] + given[2] + given[3] != reached[PULDEHO_REFUSAL_GIVEN_COUNT])
         differs("the kind of a given count", text);
 }
@@ -721,10 +722,15 @@ static void fill_table(struct request *r, uint32_t k, uint32_t scale)
 static uint32_t any_count(const struct puldeho_world *world, const struct request *r)
 {
     uint32_t count = 0;
-    if (one_in(4))
-        return one_in(2) ? from_to(0, 18) : wild();
     (void)!puldeho_count_zonal(world, r->layer, r->row, r->fluxes, r->length, &count);
-    return count + (one_in(2) ? 0u : one_in(2) ? from_to(1, 3) : one_in(2) ? 0u - count : 0u - 1u);
+    switch (any() % 8) {
+    case 0: return from_to(0, 18);
+    case 1: return wild();
+    case 2: return count - 1;
+    case 3: return count + from_to(1, 3);
+    case 4: return 0;
+    default: return count;
+    }
 }
 
 static void any_request(const struct puldeho_world *world, uint32_t scale, struct request *r)
@@ -752,7 +758,7 @@ static void any_request(const struct puldeho_world *world, uint32_t scale, struc
         fill_table(r, grid.k, scale);
     else
         fill_fluxes(r, grid.w == 0 ? 1 : grid.w, scale);
-    r->given = any_count(world, r);
+    r->given = r->name == ZONAL_WITH_COUNT ? any_count(world, r) : 0;
 }
 
 static void seeded_call(void)
@@ -984,6 +990,11 @@ static const struct fixed fixed[] = {
      .text = "the sweep of layer 0, row 0 takes 1 substep now, and the given count is 2, which serves too and is not the smallest" COUNTS_AGAIN},
     {CASE_P, GIVEN_ROW(1, 150, 150, 150, 150), .refusal = PULDEHO_REFUSAL_GIVEN_COUNT,
      .text = "the sweep of layer 0, row 0 takes 2 substeps now, and the given count is 1, which does not serve" COUNTS_AGAIN},
+    {SMALL, .air = {100, 1, 1000, 1000, 1000, 100}, GIVEN_ROW(6, 9, 0, 0, 10), .refusal = PULDEHO_REFUSAL_GIVEN_COUNT,
+     .text = "the sweep of layer 0, row 0 takes 5 substeps now, and the given count is 6, which does not serve" COUNTS_AGAIN},
+    {SMALL, .air = {100, 1, 1000, 1000, 1000, 100}, GIVEN_ROW(7, 9, 0, 0, 10), .refusal = PULDEHO_REFUSAL_GIVEN_COUNT,
+     .text = "the sweep of layer 0, row 0 takes 5 substeps now, and the given count is 7, which serves too and is not the "
+             "smallest" COUNTS_AGAIN},
     {CASE_P, GIVEN_ROW(17, 1600, 1600, 1600, 1600), .refusal = PULDEHO_REFUSAL_GIVEN_COUNT,
      .text = "the sweep of layer 0, row 0 takes 16 substeps now, and the given count is 17, more than any sweep takes" COUNTS_AGAIN},
     {CASE_P, GIVEN_ROW(4294967295u, 0, 50, 0, 0), .refusal = PULDEHO_REFUSAL_GIVEN_COUNT,

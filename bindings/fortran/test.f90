@@ -92,11 +92,12 @@ contains
     call one%zonal_with_count(0, 0, -1, [150, 150, 150, 150], refusal, substeps)
     call gives(puldeho_refusal_given_count)
     if (substeps /= 0) error stop "a refused sweep has a count"
+    if (any(one%tracers /= tracers)) error stop "a refused sweep changed the world"
     call one%why_zonal_with_count(0, 0, 1, [150, 150, 150, 150], text)
     call says("the sweep of layer 0, row 0 takes 2 substeps now, and the given count is 1, which does not serve")
     call one%zonal_with_count(0, 0, 2, [150, 150, 150, 150], refusal, substeps)
     call gives(puldeho_accepted)
-    if (substeps /= 2) error stop "the given count differs"
+    if (substeps /= 2 .or. any(one%tracers /= [0, 163, 44, 38, 155, 0])) error stop "a sweep with a given count differs"
     call one%count_zonal(0, 0, [0, 100, 0, 0], refusal, substeps)
     call gives(puldeho_refusal_zonal)
     call one%why_count_zonal(0, 0, [0, 100, 0, 0], text)

@@ -60,31 +60,52 @@ def raw(call):
 
 
 def taken(pairs, call):
-    """What a method takes after the world, and the argument that it makes of each of the call's own parameters."""
+    """What a method takes after the world, and the value that it has for each of the call's own parameters."""
     pair = second_of(pairs, call)
     if pair is None:
         return "".join(", %s: %s" % p for p in own(call)), {p.name: p.name for p in own(call)}
-    fields = {p.name: "%scounted.%s" % ("&" if is_list(p) else "", holder(pair, p)) for p in own(call)}
-    return ", counted: &%s" % pair.type, fields
+    return ", counted: &%s" % pair.type, {p.name: "counted." + holder(pair, p) for p in own(call)}
+
+
+def lent(pairs, call):
+    """The arguments of the function in raw: the world's lists, and the call's own."""
+    _, mine = taken(pairs, call)
+    borrowed = second_of(pairs, call) is not None
+    for p in call.parameters:
+        if p.name in WORLD:
+            yield ("&mut self.%s" if is_written(p) else "&self.%s") % p.name
+        else:
+            yield "&" + mine[p.name] if is_list(p) and borrowed else mine[p.name]
+
+
+def gives(pairs, call):
+    """The type that a method gives, and what it is in words, if the call has a count."""
+    first, second = first_of(pairs, call), second_of(pairs, call)
+    if first is not None:
+        return first.type, "a [`%s`] with %s" % (first.type, call.count.text)
+    if call.count is None:
+        return "()", None
+    return call.count.type, "the count in `counted`" if second is not None else call.count.text
 
 
 def method(pairs, call):
     """The call as a method of the world."""
-    signature, mine = taken(pairs, call)
-    lent = [("&mut self.%s" if is_written(p) else "&self.%s") % p.name if p.name in WORLD else mine[p.name] for p in call.parameters]
-    made = "raw::%s(self.grid, %s)" % (call.name, ", ".join(lent))
-    text = "the count in `counted`" if second_of(pairs, call) else call.count and call.count.text
-    count = "\n    ///\n    /// It gives %s." % text if call.count else ""
-    gives, pair = call.count.type if call.count else "()", first_of(pairs, call)
+    signature, _ = taken(pairs, call)
+    made = "raw::%s(self.grid, %s)" % (call.name, ", ".join(lent(pairs, call)))
+    result, words = gives(pairs, call)
+    pair = first_of(pairs, call)
     if pair is not None:
         fields = ["%s: %s.to_vec()" % (p.name, p.name) if is_list(p) else p.name for p in held(pair)]
-        gives, made = pair.type, "let %s = %s?;\n        Ok(%s { %s })" % (call.count.name, made, pair.type, ", ".join(fields))
+        made = "let %s = %s?;\n        Ok(%s { %s })" % (call.count.name, made, pair.type, ", ".join(fields))
     elif call.count is None:
         made += "?;\n        Ok(())"
     return (
         "\n    /// %s%s\n    ///\n    /// Refusals, in order: %s.\n"
         "    pub fn %s(&%sself%s) -> Result<%s, Refusal> {\n        %s\n    }\n"
-    ) % (call.does, count, call.refusals, call.name, "mut " if call.world == "changed" else "", signature, gives, made)
+    ) % (
+        call.does, "\n    ///\n    /// It gives %s." % words if words else "", call.refusals, call.name,
+        "mut " if call.world == "changed" else "", signature, result, made,
+    )
 
 
 def counted(pair):
@@ -93,7 +114,7 @@ def counted(pair):
     fields = "".join("    %s: %s,\n" % (p.name, shown[p.type][0]) for p in held(pair))
     reads = "".join(
         "\n    /// %s.\n    pub fn %s(&self) -> %s {\n        %sself.%s\n    }\n"
-        % (pair.first.count.text.capitalize() if p.name == pair.first.count.name else "As given to %s" % pair.first.name,
+        % (pair.first.count.text[0].upper() + pair.first.count.text[1:] if p.name == pair.first.count.name else "As given to %s" % pair.first.name,
            p.name, shown[p.type][1], shown[p.type][2], p.name)
         for p in held(pair)
     )
@@ -116,7 +137,7 @@ def why_method(pairs, call):
     signature, mine = taken(pairs, call)
     given = []
     for p in own(call):
-        name = mine[p.name].lstrip("&")
+        name = mine[p.name]
         given.append("%s.as_ptr(), %s.len()" % (name, name) if is_list(p) else name)
     return (
         "\n    /// Why the call is refused in this world, in words; ask after the refusal, before the world changes.\n"

@@ -4,6 +4,18 @@
 use crate::{library_call, situations};
 use reference::{Answer, Call, World};
 
+/// The situations: of a count before a sweep, of a sweep with the right count, and of refused ones.
+const COUNTED: usize = 0;
+const RIGHT_1: usize = 1;
+const RIGHT_2_TO_15: usize = 2;
+const RIGHT_16: usize = 3;
+const ONE_LESS: usize = 4;
+const ONE_MORE: usize = 5;
+const NONE: usize = 6;
+const ABOVE_16: usize = 7;
+const SERVES_TOO: usize = 8;
+const NO_COUNT: usize = 9;
+
 const NAMES: [&str; 10] = [
     "counted, and the world as it was",
     "the right count, 1",
@@ -88,23 +100,26 @@ fn two_presses(
 impl Situations {
     /// Counts a call with its answer.
     pub fn add(&mut self, before: &World, call: &Call, after: &World, answer: Answer) {
-        let met = match call {
+        let mut met = [false; NAMES.len()];
+        match call {
             Call::Zonal { layer, row, fluxes } => {
-                return two_presses(before, *layer, *row, fluxes, after, answer);
+                two_presses(before, *layer, *row, fluxes, after, answer);
             }
-            Call::CountZonal { .. } => [answer.number == 0 && before == after]
-                .iter()
-                .copied()
-                .chain([false; 9])
-                .collect(),
+            Call::CountZonal { .. } => met[COUNTED] = answer.number == 0 && before == after,
             Call::ZonalWithCount {
                 layer,
                 row,
                 given,
                 fluxes,
-            } => given_count(before, *layer, *row, *given, fluxes, answer),
-            _ => return,
-        };
+            } => match answer.number {
+                0 => met[right(answer.count)] = true,
+                // No count serves, so that any given one differs from it.
+                9 => met[NO_COUNT] = true,
+                20 => other(&row_air(before, *layer, *row), fluxes, *given, &mut met),
+                _ => {}
+            },
+            _ => {}
+        }
         situations::add(&mut self.met, &met);
     }
 
@@ -118,36 +133,23 @@ impl Situations {
     }
 }
 
-/// Which of the situations a sweep with a given count is.
-fn given_count(
-    world: &World,
-    layer: u32,
-    row: u32,
-    given: u32,
-    fluxes: &[i32],
-    answer: Answer,
-) -> Vec<bool> {
-    let mut met = vec![false; NAMES.len()];
-    if answer.number == 0 {
-        met[match answer.count {
-            1 => 1,
-            16 => 3,
-            _ => 2,
-        }] = true;
+fn right(count: u64) -> usize {
+    match count {
+        1 => RIGHT_1,
+        16 => RIGHT_16,
+        _ => RIGHT_2_TO_15,
     }
-    // A sweep that is refused with 9 has no count, so that any given one differs from it.
-    met[9] = answer.number == 9;
-    if answer.number == 20 {
-        let air = row_air(world, layer, row);
-        let right = (1..=16)
-            .find(|&count| serves(&air, fluxes, count))
-            .expect("20 comes after 9");
-        let given = i64::from(given);
-        met[4] = given + 1 == right;
-        met[5] = given == right + 1;
-        met[6] = given == 0;
-        met[7] = given > 16;
-        met[8] = (right + 1..=16).contains(&given) && serves(&air, fluxes, given);
-    }
-    met
+}
+
+/// What a given count is that is not the smallest.
+fn other(air: &[i64], fluxes: &[i32], given: u32, met: &mut [bool; NAMES.len()]) {
+    let given = i64::from(given);
+    let right = (1..=16)
+        .find(|&count| serves(air, fluxes, count))
+        .expect("20 comes after 9");
+    met[ONE_LESS] = given + 1 == right;
+    met[ONE_MORE] = given == right + 1;
+    met[NONE] = given == 0;
+    met[ABOVE_16] = given > 16;
+    met[SERVES_TOO] = (right + 1..=16).contains(&given) && serves(air, fluxes, given);
 }

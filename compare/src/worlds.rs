@@ -252,7 +252,7 @@ fn zonal_fluxes(random: &mut Random, world: &World, typical: u64) -> Vec<i32> {
     )
 }
 
-/// A count before the sweep, or a sweep with a given count: the right one, one beside it, 0, or any other. Half of them have one
+/// A count before the sweep, or a sweep with a given count: the right one, one beside it, a larger one, 0, 16, 17 or 2^32 − 1. Half of them have one
 /// flux through all faces, so that every count is met.
 fn press(random: &mut Random, world: &World) -> Call {
     let (layer, row) = (

@@ -325,7 +325,7 @@ impl World {
 
     /// Counts the substeps of a zonal sweep of one row of one layer by W fluxes, positive eastward, before it is made, to be seen and then given to zonal_with_count.
     ///
-    /// It gives the number of substeps that the sweep takes, 1 to 16.
+    /// It gives a [`CountedZonal`] with the number of substeps that the sweep takes, 1 to 16.
     ///
     /// Refusals, in order: 1 2 3 4 5 8 9.
     pub fn count_zonal(&self, layer: u32, row: u32, fluxes: &[i32]) -> Result<CountedZonal, Refusal> {

@@ -14,7 +14,7 @@ use lib.ListN.{take, replicate}
 use Rattle.model.specs.Basic.{part}
 use Rattle.model.specs.World.{Grid, World, rowStart}
 use Rattle.model.specs.Sweep.{ring}
-use Rattle.model.specs.Step.{Call, load, emission, withdrawal, zonal, longZonal, meridional, remap, total, cell, addEmitter, removeEmitter, tick, unitsATick, countZonal, zonalWithCount, Place, place, firstOf, absent, Result, meaning, commonPlaces, ownPlaces, accepted, refused, refusal, step, rowAir, zonalCount}
+use Rattle.model.specs.Step.{Call, load, emission, withdrawal, zonal, longZonal, meridional, remap, total, cell, addEmitter, removeEmitter, tick, unitsATick, countZonal, zonalWithCount, Place, firstOf, absent, otherCount, Result, meaning, commonPlaces, ownPlaces, accepted, refused, refusal, step, rowAir, zonalCount}
 use Rattle.model.specs.Lists.{Loaded, loadedWorld, listed, after, point, history, SameReply}
 use Rattle.model.specs.Laws.Basic.{Apart}
 use Rattle.model.specs.Laws.Grid.{layer-apart, rows-apart}
@@ -50,20 +50,17 @@ module _ (w : World) (k r : ℕ) (fluxes : List ℤ) where
   single = step w (zonal k r fluxes)
 
   -- ---- their refusals
-  abbrev otherCount : ℕ → Place
-  otherCount n = place 20 (λ v. not (eqb n (zonalCount v k r fluxes)))
-
   count-refusal : refusal w (countZonal k r fluxes) ≡ refusal w (zonal k r fluxes)
   unfolding refusal commonPlaces ownPlaces
   count-refusal = refl
 
-  given-passed : (n : ℕ) → refusal w (zonal k r fluxes) ≡ 0 → refusal w (zonalWithCount k r n fluxes) ≡ firstOf (otherCount n ∷ []) w
+  given-passed : (n : ℕ) → refusal w (zonal k r fluxes) ≡ 0 → refusal w (zonalWithCount k r n fluxes) ≡ firstOf (otherCount k r n fluxes ∷ []) w
   unfolding refusal commonPlaces ownPlaces numbered
-  given-passed n e = behind-passed (commonPlaces (zonal k r fluxes) ++ ownPlaces (zonal k r fluxes)) (otherCount n ∷ []) w refl e
+  given-passed n e = behind-passed (commonPlaces (zonal k r fluxes) ++ ownPlaces (zonal k r fluxes)) (otherCount k r n fluxes ∷ []) w refl e
 
   given-stopped : (n m : ℕ) → refusal w (zonal k r fluxes) ≡ suc m → refusal w (zonalWithCount k r n fluxes) ≡ suc m
   unfolding refusal commonPlaces ownPlaces
-  given-stopped n m e = behind-stopped (commonPlaces (zonal k r fluxes) ++ ownPlaces (zonal k r fluxes)) (otherCount n ∷ []) w m e
+  given-stopped n m e = behind-stopped (commonPlaces (zonal k r fluxes) ++ ownPlaces (zonal k r fluxes)) (otherCount k r n fluxes ∷ []) w m e
 
   -- ---- the first press gives the single sweep's answer and count, and writes nothing
   pub first-press : (counted .answer ≡ single .answer) × (counted .count ≡ single .count) × (counted .next ≡ w)
@@ -93,13 +90,13 @@ module _ (w : World) (k r : ℕ) (fluxes : List ℤ) where
   accepted-for-one e =
       let passed = sym single-refusal ∙ e in
       let same = count-is e in
-      let go-on = given-passed (counted .count) passed ∙ passes (otherCount (counted .count)) [] w (ap not (eq-eqb _ _ same)) ∙ no-place w in (
+      let go-on = given-passed (counted .count) passed ∙ passes (otherCount k r (counted .count) fluxes) [] w (ap not (eq-eqb _ _ same)) ∙ no-place w in (
         step-accepted w (zonalWithCount k r (counted .count) fluxes) go-on ∙
             ap (λ (n : ℕ). accepted w (zonalWithCount k r n fluxes)) same ∙
             sym (step-accepted w (zonal k r fluxes) passed),
         λ n other.
             step-refused w (zonalWithCount k r n fluxes) 19
-            (given-passed n passed ∙ stops (otherCount n) [] w (ap not (ne-eqb _ _ (λ q. other (q ∙ sym same))))),
+            (given-passed n passed ∙ stops (otherCount k r n fluxes) [] w (ap not (ne-eqb _ _ (λ q. other (q ∙ sym same))))),
       )
 
   -- where the first press is refused, the sweep is refused alike for every number: the same refusal, which is the single sweep's
@@ -144,27 +141,27 @@ module _ (w : World) (k r : ℕ) (fluxes : List ℤ) where
   press-again n closed = let is = refused-changes-nothing w (zonalWithCount k r n fluxes) closed in (is .0, is .1, λ call. ap (λ (v : World). step v call) (is .1))
 
 -- ---- calls between the two presses
--- calls that leave the air of row r in layer k alone: all but remaps, meridional sweeps of the layer and zonal sweeps of the row
-abbrev pub besideRow : ℕ → ℕ → Call → Bool
-besideRow k r load = true
-besideRow k r (emission t c amount) = true
-besideRow k r (withdrawal t c amount) = true
-besideRow k r (zonal l s fluxes) = not (eqb l k && eqb s r)
-besideRow k r (longZonal l s fluxes) = not (eqb l k && eqb s r)
-besideRow k r (meridional l fluxes) = not (eqb l k)
-besideRow k r (remap table) = false
-besideRow k r (total t) = true
-besideRow k r (cell t c) = true
-besideRow k r (addEmitter t c id units) = true
-besideRow k r (removeEmitter t id) = true
-besideRow k r (tick t) = true
-besideRow k r (unitsATick t) = true
-besideRow k r (countZonal l s fluxes) = true
-besideRow k r (zonalWithCount l s n fluxes) = not (eqb l k && eqb s r)
+-- calls that leave the air of row r in layer k alone: all but remaps, meridional sweeps of the layer, and zonal and long sweeps of the row
+abbrev pub leavesRowAir : ℕ → ℕ → Call → Bool
+leavesRowAir k r load = true
+leavesRowAir k r (emission t c amount) = true
+leavesRowAir k r (withdrawal t c amount) = true
+leavesRowAir k r (zonal l s fluxes) = not (eqb l k && eqb s r)
+leavesRowAir k r (longZonal l s fluxes) = not (eqb l k && eqb s r)
+leavesRowAir k r (meridional l fluxes) = not (eqb l k)
+leavesRowAir k r (remap table) = false
+leavesRowAir k r (total t) = true
+leavesRowAir k r (cell t c) = true
+leavesRowAir k r (addEmitter t c id units) = true
+leavesRowAir k r (removeEmitter t id) = true
+leavesRowAir k r (tick t) = true
+leavesRowAir k r (unitsATick t) = true
+leavesRowAir k r (countZonal l s fluxes) = true
+leavesRowAir k r (zonalWithCount l s n fluxes) = not (eqb l k && eqb s r)
 
-unfoldable pub besidesRow : ℕ → ℕ → List Call → Bool
-besidesRow k r [] = true
-besidesRow k r (call ∷ calls) = besideRow k r call && besidesRow k r calls
+unfoldable pub leaveRowAir : ℕ → ℕ → List Call → Bool
+leaveRowAir k r [] = true
+leaveRowAir k r (call ∷ calls) = leavesRowAir k r call && leaveRowAir k r calls
 
 -- the grid and the row's air are as they were
 record RowStays (k r : ℕ) (w next : World) : Type 0 where
@@ -206,42 +203,42 @@ module _ (k r : ℕ) (w : World) (there : r < w .grid .R) where
       (λ e. apart-stays (only e) (rows-apart (w .grid) l s k r (named e) there
       (λ p q. false≢true (sym (ap₂ (λ (a b : Bool). not (a && b)) (eq-eqb l k p) (eq-eqb s r q)) ∙ other))))
 
-beside-stays : (k r : ℕ) (call : Call) → besideRow k r call ≡ true → (w : World) → r < w .grid .R → RowStays k r w (step w call .next)
+one-leaves : (k r : ℕ) (call : Call) → leavesRowAir k r call ≡ true → (w : World) → r < w .grid .R → RowStays k r w (step w call .next)
 unfolding ownPlaces
-beside-stays k r load e w there = air-stays k r load w refl refl
-beside-stays k r (emission t c amount) e w there = air-stays k r (emission t c amount) w refl refl
-beside-stays k r (withdrawal t c amount) e w there = air-stays k r (withdrawal t c amount) w refl refl
-beside-stays k r (zonal l s fluxes) e w there =
+one-leaves k r load e w there = air-stays k r load w refl refl
+one-leaves k r (emission t c amount) e w there = air-stays k r (emission t c amount) w refl refl
+one-leaves k r (withdrawal t c amount) e w there = air-stays k r (withdrawal t c amount) w refl refl
+one-leaves k r (zonal l s fluxes) e w there =
     row-stays k r w there l s (zonal l s fluxes) e
     (λ served. row-named l s _ w (accepted-passed w (zonal l s fluxes) served .2))
     (λ served. zonal-changes-only l s fluxes w)
-beside-stays k r (longZonal l s fluxes) e w there =
+one-leaves k r (longZonal l s fluxes) e w there =
     row-stays k r w there l s (longZonal l s fluxes) e
     (λ served. row-named l s _ w (accepted-passed w (longZonal l s fluxes) served .2))
     (λ served. long-changes-only l s fluxes w)
-beside-stays k r (meridional l fluxes) e w there =
+one-leaves k r (meridional l fluxes) e w there =
     apart-stays k r w there (meridional-changes-only l fluxes w)
     (layer-apart (w .grid) l k r there (λ p. false≢true (ap not (sym (eq-eqb l k p)) ∙ e)))
-beside-stays k r (remap table) e w there = absurd (false≢true e)
-beside-stays k r (total t) e w there = air-stays k r (total t) w refl refl
-beside-stays k r (cell t c) e w there = air-stays k r (cell t c) w refl refl
-beside-stays k r (addEmitter t c id units) e w there = air-stays k r (addEmitter t c id units) w refl refl
-beside-stays k r (removeEmitter t id) e w there = air-stays k r (removeEmitter t id) w refl refl
-beside-stays k r (tick t) e w there = air-stays k r (tick t) w refl refl
-beside-stays k r (unitsATick t) e w there = air-stays k r (unitsATick t) w refl refl
-beside-stays k r (countZonal l s fluxes) e w there = air-stays k r (countZonal l s fluxes) w refl refl
-beside-stays k r (zonalWithCount l s n fluxes) e w there =
+one-leaves k r (remap table) e w there = absurd (false≢true e)
+one-leaves k r (total t) e w there = air-stays k r (total t) w refl refl
+one-leaves k r (cell t c) e w there = air-stays k r (cell t c) w refl refl
+one-leaves k r (addEmitter t c id units) e w there = air-stays k r (addEmitter t c id units) w refl refl
+one-leaves k r (removeEmitter t id) e w there = air-stays k r (removeEmitter t id) w refl refl
+one-leaves k r (tick t) e w there = air-stays k r (tick t) w refl refl
+one-leaves k r (unitsATick t) e w there = air-stays k r (unitsATick t) w refl refl
+one-leaves k r (countZonal l s fluxes) e w there = air-stays k r (countZonal l s fluxes) w refl refl
+one-leaves k r (zonalWithCount l s n fluxes) e w there =
     row-stays k r w there l s (zonalWithCount l s n fluxes) e
     (λ served. row-named l s _ w (accepted-passed w (zonalWithCount l s n fluxes) served .2))
     (λ served. rw (accepted-press w l s fluxes n (answer-is w (zonalWithCount l s n fluxes) ∙ served) .1) (zonal-changes-only l s fluxes w))
 
-besides-stay : (k r : ℕ) (calls : List Call) → besidesRow k r calls ≡ true → (w : World) → r < w .grid .R → RowStays k r w (after w calls)
-unfolding besidesRow after
-besides-stay k r [] e w there = record { sameGrid = refl; sameAir = refl }
-besides-stay k r (call ∷ calls) e w there =
-    let p = and-eq-true-iff (besideRow k r call) (besidesRow k r calls) .0 e in
-    let one = beside-stays k r call (p .0) w there in
-    stays-trans one (besides-stay k r calls (p .1) (step w call .next) (rw (one .sameGrid) there))
+all-leave : (k r : ℕ) (calls : List Call) → leaveRowAir k r calls ≡ true → (w : World) → r < w .grid .R → RowStays k r w (after w calls)
+unfolding leaveRowAir after
+all-leave k r [] e w there = record { sameGrid = refl; sameAir = refl }
+all-leave k r (call ∷ calls) e w there =
+    let p = and-eq-true-iff (leavesRowAir k r call) (leaveRowAir k r calls) .0 e in
+    let one = one-leaves k r call (p .0) w there in
+    stays-trans one (all-leave k r calls (p .1) (step w call .next) (rw (one .sameGrid) there))
 
 -- In a list after an accepted load, with the first press made at point i and the second at point j
 module _ (w : World) (calls : List Call) (loaded : Loaded w) (no-loads : listed calls ≡ true) (k r : ℕ) where
@@ -266,12 +263,29 @@ module _ (w : World) (calls : List Call) (loaded : Loaded w) (no-loads : listed 
       )
 
   -- calls between them that leave the row's air alone: emissions, withdrawals, ticks, readings, changes of emitters, and sweeps of other rows and layers
-  pub beside-stands :
-      (i j : ℕ) → i ≤ j → r < loadedWorld w .grid .R → besidesRow k r (callsBetween calls i j) ≡ true →
+  pub row-air-stays :
+      (i j : ℕ) → i ≤ j → r < loadedWorld w .grid .R → leaveRowAir k r (callsBetween calls i j) ≡ true →
       rowAir (at-point i) k r ≡ rowAir (at-point j) k r
-  beside-stands i j le there beside =
+  row-air-stays i j le there beside =
       let later : at-point j ≡ after (at-point i) (callsBetween calls i j) = ap (after (loadedWorld w)) (calls-between calls le) ∙ after-append (loadedWorld w) (take i calls) (callsBetween calls i j) in
-      sym (ap (λ (v : World). rowAir v k r) later ∙ besides-stay k r (callsBetween calls i j) beside (at-point i) (rw (kept i .sameGrid) there) .sameAir)
+      sym (ap (λ (v : World). rowAir v k r) later ∙ all-leave k r (callsBetween calls i j) beside (at-point i) (rw (kept i .sameGrid) there) .sameAir)
+
+  -- so calls of these kinds between the two presses change neither answer nor count of the first, and the second with that count is the single sweep
+  pub calls-between-presses :
+      (fluxes : List ℤ) (i j : ℕ) → i ≤ j → r < loadedWorld w .grid .R → leaveRowAir k r (callsBetween calls i j) ≡ true →
+      SameReply (at-point i) (at-point j) (countZonal k r fluxes)
+      × (pressed (at-point j) k r fluxes (counted (at-point i) k r fluxes .count) ≡ single (at-point j) k r fluxes)
+  calls-between-presses fluxes i j le there leave = count-stands fluxes i j (row-air-stays i j le there leave)
+
+-- Such calls, for row 0 of layer 0: one of each kind but a remap, the sweeps of other layers
+pub some-leave :
+    leaveRowAir 0 0
+    (emission 0 1 5 ∷ withdrawal 0 1 5 ∷ zonal 1 0 (replicate 4 (pos 50)) ∷ longZonal 2 0 (replicate 4 (pos 50)) ∷ meridional 1 (replicate 8 (pos 1)) ∷
+    addEmitter 0 3 7 40 ∷ tick 0 ∷ unitsATick 0 ∷ removeEmitter 0 7 ∷ countZonal 0 0 (replicate 4 (pos 50)) ∷ zonalWithCount 1 0 1 (replicate 4 (pos 50)) ∷
+    total 0 ∷ cell 0 3 ∷ []) ≡
+    true
+unfolding leaveRowAir
+some-leave = refl
 
 -- m7's row (y5-5, y5-6): 16 is its count, so every other number is refused with 20: 0, 1, 15, 17, 2^32 − 1 and all the rest
 pub m7-count : step peak (countZonal 0 0 (replicate 4 (pos 1600))) ≡ record { answer = 0; count = 16; next = peak }

@@ -192,13 +192,17 @@ sweeps mesh start fluxes count lent places =
           (gasAfter (ruleOf w t) (mesh (w .grid)) fluxes (count w) (cells w (w .air)) (cells w (gas w t)));
     }
 
--- a zonal sweep of row r in layer k with so many substeps; `more` are the places that it has behind 9. 9: "no n from 1 to 16 serves"
+-- 20 (02): "when the given count differs from the smallest that serves"
+abbrev pub otherCount : ℕ → ℕ → ℕ → List ℤ → Place
+otherCount k r n fluxes = place 20 (λ w. not (eqb n (zonalCount w k r fluxes)))
+
+-- a zonal sweep of row r in layer k, with `count w` substeps in the world w; `more` are the places that it has after 9. 9: "no n from 1 to 16 serves"
 abbrev pub sweepsRow : ℕ → ℕ → List ℤ → (World → ℕ) → List Place → Meaning
 sweepsRow k r fluxes count more =
     sweeps (λ g. ring (g .W)) (λ g. rowStart g k r) fluxes count (λ g. eqb (length fluxes) (g .W))
     (absent k (λ g. g .K) ∷ absent r (λ g. g .R) ∷ fluxTooLarge fluxes zonalLimit ∷ place 9 (λ w. eqb (zonalCount w k r fluxes) 0) ∷ more)
 
--- one that has the places of another and "gives the count and writes nothing"
+-- one that has the places of another, and "gives the count and writes nothing"
 abbrev pub counts : Meaning → Meaning
 counts m =
     record {
@@ -290,10 +294,9 @@ meaning (tick t) =
 -- (02) "A reading gives the tracer's units a tick, kept up to date"
 meaning (unitsATick t) = reads (tracer t) (absent t (λ g. g .N) ∷ brokenRecord ∷ []) (λ w. keptUnits (block w t))
 -- (02) "Add a call that gives the count and writes nothing, and a second that carries the sweep out with a count given to it."
--- 20: "when the given count differs from the smallest that serves, tested after 9 in the second call"
+-- 20 is "tested after 9 in the second call"
 meaning (countZonal k r fluxes) = counts (sweepsRow k r fluxes (λ w. zonalCount w k r fluxes) [])
-meaning (zonalWithCount k r n fluxes) =
-    sweepsRow k r fluxes (λ w. n) (place 20 (λ w. not (eqb n (zonalCount w k r fluxes))) ∷ [])
+meaning (zonalWithCount k r n fluxes) = sweepsRow k r fluxes (λ w. n) (otherCount k r n fluxes ∷ [])
 
 -- 2: "a lent length is not the grid's"; a sweep's fluxes and a remap's table are lent too
 abbrev pub lentFits : Grid → Call → Bool

@@ -1,4 +1,4 @@
--- The places that both sweeps of a row have before their own, and what `row_place` finds: where the row starts.
+-- The places that all sweeps of a row have before their own, and what `row_place` finds: where the row starts.
 use Prim.Native.Nat.{ℕ, _+_, _-_, _≤_}
 use mathlib.Core.List.{List, [], _∷_, _++_, append-assoc}
 use mathlib.Core.Path.{_≡_, refl, ap, _∙_}

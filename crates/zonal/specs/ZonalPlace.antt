@@ -1,7 +1,6 @@
--- The places of the three calls of a zonal sweep behind those of both sweeps, and what `zonal_place` finds: where the row starts, and its substep count.
+-- The places of the three calls of a zonal sweep after those that they share with the long sweep, and what `zonal_place` finds: where the row starts, and its substep count.
 use Prim.Native.Nat.{ℕ, zero, suc, _≤_}
 use mathlib.Core.List.{List, [], _∷_}
-use mathlib.Core.Bool.{not}
 use mathlib.Core.Path.{_≡_, refl, sym, ap₂, _∙_}
 use native.Mathlib.Omega.{arith}
 use lib.Dec.{eqb}
@@ -9,7 +8,7 @@ use lib.IntN.{ℤ}
 use Rattle.model.specs.Limits.{mostSubsteps}
 use Rattle.model.specs.World.{World, rowStart}
 use Rattle.model.specs.Sweep.{ring, substepCount}
-use Rattle.model.specs.Step.{Place, place, zonalCount, zonal, countZonal, zonalWithCount}
+use Rattle.model.specs.Step.{Place, place, otherCount, zonalCount, zonal, countZonal, zonalWithCount}
 use Rattle.model.specs.Laws.Grid.{in-range}
 use Rattle.units.specs.Answer.{numberOf, countOf, Agrees}
 use Rattle.units.specs.Agrees.{accepted-agrees}
@@ -28,9 +27,6 @@ zonal-sweeps-row = record { lent = refl; places = refl }
 -- the count before the sweep is tested like the sweep; the sweep with a given count has one place more
 pub count-like : {w : World} {k r : ℕ} {fluxes : List ℤ} → Like w (zonal k r fluxes) (countZonal k r fluxes) []
 count-like = record { lent = refl; places = refl }
-
-abbrev pub otherCount : ℕ → ℕ → ℕ → List ℤ → Place
-otherCount k r n fluxes = place 20 (λ w. not (eqb n (zonalCount w k r fluxes)))
 
 pub given-like : {w : World} {k r n : ℕ} {fluxes : List ℤ} → Like w (zonal k r fluxes) (zonalWithCount k r n fluxes) (otherCount k r n fluxes ∷ [])
 given-like = record { lent = refl; places = refl }

@@ -1,4 +1,4 @@
--- Cases y5-1 to y5-48 for document 02, Slip 5: the count before the sweep and the sweep with a given count, as one table with one theorem about `step`. m7's row, with every number that may be given, is in Presses.antt.
+-- 76 cases under labels from y5-1 to y5-46 for document 02, Slip 5: the count before the sweep and the sweep with a given count, as one table with one theorem about `step`. m7's row, with every number that may be given, is in Presses.antt.
 -- Assumes nothing. Numbers that the documents do not give come from the second implementation (reference/cases/presses.txt), whose labels these are.
 use Prim.Native.Nat.{ℕ}
 use Prim.Native.String.{String}
@@ -77,7 +77,7 @@ presses =
     refuses "y5-8 count" peak (all 1601 counting) 9 ∷
     refusesEach "y5-8" peak (λ n. all 1601 (given n)) 9 (0 ∷ 16 ∷ 17 ∷ []) ++
     refusesEach "y5-9" peak (λ n. given n (pos 0) (pos 100) (pos 0) (pos 0)) 9 (0 ∷ 1 ∷ []) ++
-    -- only 14 serves; 7 to 16 serve too, and are not the smallest
+    -- y5-10: only 14 serves. y5-11: 5 and 7 to 16 serve, and 6 does not
     keeps "y5-10 count" thin (counting (pos 20) (pos 0) (pos 0) (pos 21)) 14 ∷
     refusesEach "y5-10" thin (λ n. given n (pos 20) (pos 0) (pos 0) (pos 21)) 20 (13 ∷ 16 ∷ []) ++
     gives "y5-10" thin (given 14 (pos 20) (pos 0) (pos 0) (pos 21)) 14 (six 100 2 1020 1000 979 100) (six 0 1 712 300 892 0) ∷

@@ -20,7 +20,7 @@ use Rattle.model.specs.Laws.Keeps.{air-alike, MeaningKeeps, counts-keep}
 use Rattle.model.specs.Laws.Part.{ChangesOnly, step-changes-only, SameCells}
 use Rattle.model.specs.Laws.Sweep.{Sweeps, sweeps-keep, swept-same, swept-changes-only}
 
--- ---- what the places of a zonal sweep tell, where they are passed; `more` are those behind 9
+-- ---- what the places of a zonal sweep tell, where they are passed; `more` are those after 9
 row-passed :
     (k r : ℕ) (fluxes : List ℤ) (more : List Place) (w : World) → firstOf (sweepsRow k r fluxes (λ v. 0) more .places) w ≡ 0 →
     Sweeps w (ring (w .grid .W)) (rowStart (w .grid) k r) fluxes (zonalCount w k r fluxes) × (firstOf more w ≡ 0)
@@ -52,7 +52,7 @@ pub zonal-sweeps :
     Sweeps w (ring (w .grid .W)) (rowStart (w .grid) k r) fluxes (zonalCount w k r fluxes)
 zonal-sweeps k r fluxes w e = own-sweeps k r fluxes w (accepted-passed w (zonal k r fluxes) e .2)
 
--- .. and where a given count passes 20, it is the smallest that serves
+-- .. and where a given count passes 20, it is from 1 to 16 and serves
 given-sweeps :
     (k r n : ℕ) (fluxes : List ℤ) (w : World) → firstOf (ownPlaces (zonalWithCount k r n fluxes)) w ≡ 0 →
     Sweeps w (ring (w .grid .W)) (rowStart (w .grid) k r) fluxes n
@@ -124,7 +124,7 @@ module _ (k r : ℕ) (fluxes : List ℤ) (w v : World) (sameGrid : w .grid ≡ v
       go zero e f = rw (step-accepted w (zonal k r fluxes) e, step-accepted v (zonal k r fluxes) f) count-row
       go (suc n) e f = rw (step-refused w (zonal k r fluxes) n e, step-refused v (zonal k r fluxes) n f)
 
--- .. and the new row on that row alone
+-- once places 1 to 4 are passed, answer, count and new row depend on that row alone
 module _ (k r : ℕ) (fluxes : List ℤ) (w v : World) (row : SameRow k r w v) where
   same-step :
       Fits w → Fits v → (n : ℕ) → refusal w (zonal k r fluxes) ≡ n → refusal v (zonal k r fluxes) ≡ n →
