@@ -6,20 +6,21 @@ use native.Mathlib.Omega.{arith}
 use borrow.Author.Tests.{leb-true, leb-false, le-leb, lt-leb}
 use lib.Bits.{bitOr, or-add-and, and-le-l, and-le-r, or-lt}
 use lib.Dec.{leb}
+use Rattle.model.specs.Limits.{airLimit}
 use Rattle.model.specs.Basic.{every}
 
 pub or-above : (a b : ℕ) → (a ≤ bitOr a b) × (b ≤ bitOr a b)
 or-above a b =
     (omega (arith, or-add-and a b, and-le-r a b), omega (arith, or-add-and a b, and-le-l a b))
 
--- a number of 16 bits
-pub or-within : (a b : ℕ) → leb (bitOr a b) 65535 ≡ leb a 65535 && leb b 65535
-or-within a b = go (leb a 65535) (leb b 65535) refl refl
+-- the air limit is all ones in 16 bits
+pub or-within : (a b : ℕ) → leb (bitOr a b) airLimit ≡ leb a airLimit && leb b airLimit
+or-within a b = go (leb a airLimit) (leb b airLimit) refl refl
   where
-    go : (p q : Bool) → leb a 65535 ≡ p → leb b 65535 ≡ q → leb (bitOr a b) 65535 ≡ p && q
-    go true true e f = le-leb (bitOr a b) 65535 (omega (arith, or-lt 16 a b (omega (arith, leb-true a 65535 e)) (omega (arith, leb-true b 65535 f))))
-    go true false e f = lt-leb (bitOr a b) 65535 (omega (arith, leb-false b 65535 f, or-above a b .1))
-    go false q e f = lt-leb (bitOr a b) 65535 (omega (arith, leb-false a 65535 e, or-above a b .0))
+    go : (p q : Bool) → leb a airLimit ≡ p → leb b airLimit ≡ q → leb (bitOr a b) airLimit ≡ p && q
+    go true true e f = le-leb (bitOr a b) airLimit (omega (arith, or-lt 16 a b (omega (arith, leb-true a airLimit e)) (omega (arith, leb-true b airLimit f))))
+    go true false e f = lt-leb (bitOr a b) airLimit (omega (arith, leb-false b airLimit f, or-above a b .1))
+    go false q e f = lt-leb (bitOr a b) airLimit (omega (arith, leb-false a airLimit e, or-above a b .0))
 
 -- two tests at every number are one
 swap : (a b p q : Bool) → (a && b) && (p && q) ≡ (a && p) && (b && q)

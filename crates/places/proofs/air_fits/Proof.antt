@@ -5,6 +5,7 @@ use mathlib.Core.Path.{_≡_, sym, _∙_, ap, ap₂}
 use native.Mathlib.Omega.{arith}
 use lib.Dec.{leb}
 use lib.ListN.{length}
+use Rattle.model.specs.Limits.{airLimit}
 use Rattle.model.specs.Basic.{at, every}
 use Rattle.model.specs.World.{airFits}
 use Rattle.model.specs.Laws.Basic.{every-none, every-more}
@@ -14,7 +15,7 @@ use Rattle.places.proofs.air_fits.Statement.{statement}
 use Rattle.places.proofs.air_fits.Tie as tie
 
 abbrev Inv-loop : tie.InvT-loop
-Inv-loop air all₀ some₀ i₀ all some i = (i ≤ length air) × (some ≡ every i (λ k. leb 1 (at air k))) × (leb all 65535 ≡ every i (λ k. leb (at air k) 65535))
+Inv-loop air all₀ some₀ i₀ all some i = (i ≤ length air) × (some ≡ every i (λ k. leb 1 (at air k))) × (leb all airLimit ≡ every i (λ k. leb (at air k) airLimit))
 
 abbrev μ-loop : tie.MeasureT-loop
 μ-loop air all₀ some₀ i₀ all some i = length air - i
@@ -28,14 +29,14 @@ loop-again c =
     let m = at (c .before .before .before .args .air .now) (turn .i) in (
       search needs,
       ap (λ (b : Bool). b && leb 1 m) (turn .inv .1) ∙ sym (every-more (turn .i) _),
-      or-within (turn .all) m ∙ ap (λ (b : Bool). b && leb m 65535) (turn .inv .2) ∙ sym (every-more (turn .i) _),
+      or-within (turn .all) m ∙ ap (λ (b : Bool). b && leb m airLimit) (turn .inv .2) ∙ sym (every-more (turn .i) _),
     )
 
 returns : tie.Need-returns Inv-loop μ-loop
 returns c =
     let end = c .before .loop in
     let air = c .before .before .args .air .now in
-    ap₂ _&&_ (end .inv .1) (end .inv .2) ∙ every-both (end .i) (λ k. leb 1 (at air k)) (λ k. leb (at air k) 65535) ∙
+    ap₂ _&&_ (end .inv .1) (end .inv .2) ∙ every-both (end .i) (λ k. leb 1 (at air k)) (λ k. leb (at air k) airLimit) ∙
     ap (λ (n : ℕ). every n (λ k. airFits (at air k))) (omega arith)
 
 pub air-fits-spec : {M : Type 1} → statement M
