@@ -2,7 +2,7 @@
 
 use crate::{emitters, refusal};
 
-/// "A cell holds M units of air (1 to 65,535)"
+/// "A cell holds M units of air (1 to 65,535)"; "the air limit keeps 65,535" (document 02).
 pub(crate) const MOST_AIR: i64 = 65_535;
 /// "A tracer's total over all cells is at most 268,435,455."
 pub(crate) const MOST_TRACER: u64 = 268_435_455;

@@ -1,7 +1,8 @@
 //! A second implementation of document 01, the tracer console's transport core,
 //! and of the requests of document 02 that have landed, written from their texts; of the walk
 //! (walk.rs) README.md says what else was known. Quotes in the comments are sentences of
-//! document 01, in long.rs, emitters.rs, walk.rs, readout.rs, presses.rs and remap.rs of both.
+//! document 01, in scheme.rs, grid.rs, long.rs, emitters.rs, walk.rs, readout.rs, presses.rs and
+//! remap.rs of both.
 
 mod calls;
 mod emitters;

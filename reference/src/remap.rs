@@ -7,8 +7,9 @@ use crate::scheme::{mismatch, piece_from_low_end, ratio};
 
 /// "an a above 2,097,120"
 const MOST_A: u32 = 2_097_120;
-/// "a b above 65,536"
-const MOST_B: u32 = 65_536;
+/// "The b of a table keeps its 65,536" (document 02): the scale of b, the last pair's b, and the
+/// largest.
+const TABLE_SCALE: u32 = 65_536;
 
 /// Where an edge lies in the old column: the number of whole old layers above it, and the
 /// units of air above it in the next old layer.
@@ -21,10 +22,10 @@ struct Place {
 /// refusal 11. The table is a, b, a, b, ... of K + 1 pairs.
 fn check_table(table: &[u32]) -> Result<(), u32> {
     let good = table.starts_with(&[0, 0])
-        && table.ends_with(&[0, 65_536])
+        && table.ends_with(&[0, TABLE_SCALE])
         && table
             .chunks_exact(2)
-            .all(|pair| pair[0] <= MOST_A && pair[1] <= MOST_B);
+            .all(|pair| pair[0] <= MOST_A && pair[1] <= TABLE_SCALE);
     good.then_some(()).ok_or(refusal::TABLE)
 }
 
@@ -32,7 +33,7 @@ fn check_table(table: &[u32]) -> Result<(), u32> {
 fn edges(table: &[u32], p: i64) -> Vec<i64> {
     table
         .chunks_exact(2)
-        .map(|pair| i64::from(pair[0]) + i64::from(pair[1]) * p / 65_536)
+        .map(|pair| i64::from(pair[0]) + i64::from(pair[1]) * p / i64::from(TABLE_SCALE))
         .collect()
 }
 

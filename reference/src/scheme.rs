@@ -1,8 +1,9 @@
 //! "Ratio, mismatch, piece", and the parts of a flux.
 //! The functions are for air of at least 1 and amounts of a checked world.
 
-/// The scale of ratios, 65,536.
-const SCALE: i64 = 65_536;
+/// "262,144 wherever document 01 has 65,536 as the scale of the ratio, the mismatch and the
+/// piece" (document 02). Where document 01 is quoted below, it has 65,536 for it.
+pub const SCALE: i64 = 262_144;
 
 /// floor(number / divisor) for a positive divisor.
 fn floor_division(number: i128, divisor: i128) -> i128 {
@@ -14,14 +15,14 @@ fn floor_division(number: i128, divisor: i128) -> i128 {
     }
 }
 
-/// "Ratio: q = floor(65,536·T / M)."
+/// "Ratio: q = floor(65,536·T / M)." With the new scale floor(262,144·T / M).
 pub fn ratio(air: i64, tracer: i64) -> i64 {
     (SCALE * tracer).div_euclid(air)
 }
 
 /// "Mismatch D of a cell with a neighbour on its low side (qa) and on its high side (qb):
 /// size = the smallest of |qb − qa|/2 rounded down, 2(q − least of the three),
-/// 2(greatest of the three − q); sign = that of qb − qa."
+/// 2(greatest of the three − q); sign = that of qb − qa." It is in the ratios' scale.
 pub fn mismatch(qa: i64, q: i64, qb: i64) -> i64 {
     let least = qa.min(q).min(qb);
     let greatest = qa.max(q).max(qb);
@@ -32,7 +33,8 @@ pub fn mismatch(qa: i64, q: i64, qb: i64) -> i64 {
 }
 
 /// "Piece of m units of air (0 to M) from the high end:
-/// floor((2·65,536·m·T + D·m·(M − m)) / (2·65,536·M))."
+/// floor((2·65,536·m·T + D·m·(M − m)) / (2·65,536·M))." With the new scale
+/// floor((2·262,144·m·T + D·m·(M − m)) / (2·262,144·M)).
 pub fn piece_from_high_end(air: i64, tracer: i64, mismatch: i64, m: i64) -> i64 {
     let scale = i128::from(SCALE);
     let (air, tracer) = (i128::from(air), i128::from(tracer));

@@ -1,8 +1,9 @@
 //! Document 02's long zonal sweep: the request's numbers, its refusals and their order, shifts.
 
 mod common;
+use common::range::{self, Written};
 use common::*;
-use reference::{script, World};
+use reference::{call, script, World};
 
 /// The sweep is accepted with count 0 and leaves this row; the caps stay as they were.
 fn expect_row(world: &World, fluxes: [i32; 4], air: [u32; 4], tracer: [u32; 4]) {
@@ -43,8 +44,9 @@ fn far_to_the_west() {
 }
 
 #[test]
-fn the_range_needs_two_units() {
-    // No old ratio passes 1, and cell 2 has air 14 and tracer 15 afterwards.
+fn the_range_needs_more_than_one_unit() {
+    // No old ratio passes 1, and cell 2 has air 14 and tracer 15 afterwards: 15 < 1 · 14 + 1 is
+    // false, 4 · 15 < 4 · 1 · 14 + 5 is true.
     expect_row(
         &row_world([3, 536, 13, 7], [0, 535, 13, 7]),
         [0, 1, 0, 0],
@@ -143,6 +145,31 @@ fn shifts_by_whole_cells_are_exact() {
         let fluxes: [i32; 4] = fluxes.try_into().unwrap();
         expect_row(&world, fluxes, row(&moved.0), row(&moved.1));
     }
+}
+
+/// "within two units of the range" (document 02), and since thin gases "after a remap or a long
+/// sweep within one and a quarter".
+#[test]
+fn cells_stay_within_one_and_a_quarter() {
+    let mut random = Random::new(22);
+    let (mut turned, mut accepted) = (0, 0);
+    for number in 0..30_000 {
+        let world = match number % 3 {
+            0 => random_world(&mut random),
+            1 => random_thin_world(&mut random),
+            _ => random_extreme_world(&mut random),
+        };
+        let (layer, row, fluxes) = random_row(&mut random, &world, random_long_fluxes);
+        let mut after = world.clone();
+        if call(&mut after, &long_zonal(layer, row, &fluxes)).number == 0 {
+            let written = range::of_long_zonal(&world, &after, layer, row, &fluxes);
+            written.iter().for_each(Written::expect_in_range);
+            let most = world.air.iter().max().unwrap();
+            turned += u32::from(fluxes.iter().any(|flux| flux.unsigned_abs() > *most));
+            accepted += 1;
+        }
+    }
+    assert!(accepted > 15_000 && turned > 8_000, "{accepted} {turned}");
 }
 
 /// The inputs of the cases y1-1, y1-2, .. of the model's table, and what this implementation answers.

@@ -2,7 +2,7 @@
 
 mod common;
 use common::*;
-use reference::scheme::{mismatch, part, piece_from_high_end, piece_from_low_end, ratio};
+use reference::scheme::{mismatch, part, piece_from_high_end, piece_from_low_end, ratio, SCALE};
 use reference::{Call, World};
 
 /// The sweep is accepted with this count and leaves this row; the caps stay as they were.
@@ -147,8 +147,12 @@ fn m11_and_m12_the_largest_total() {
 
 #[test]
 fn ratio_mismatch_and_piece_by_hand() {
-    assert_eq!(ratio(3, 2), 43_690);
-    assert_eq!(ratio(1, 268_435_455), 65_536 * 268_435_455);
+    assert_eq!(SCALE, 262_144);
+    // 262,144 · 2 / 3 = 174,762.67 cut.
+    assert_eq!(ratio(3, 2), 174_762);
+    assert_eq!(ratio(1_000, 1), 262);
+    assert_eq!(ratio(65_535, 1), 4);
+    assert_eq!(ratio(1, 268_435_455), 262_144 * 268_435_455);
     // |7 − 0|/2 cut to 3; 2(1 − 0) = 2; 2(7 − 6) = 2.
     assert_eq!(mismatch(0, 3, 7), 3);
     assert_eq!(mismatch(0, 1, 7), 2);
@@ -160,11 +164,14 @@ fn ratio_mismatch_and_piece_by_hand() {
     assert_eq!(mismatch(5, 4, 6), 0);
     // Multiplied before the division: floor(50·3/100) = 1.
     assert_eq!(piece_from_high_end(100, 3, 0, 50), 1);
-    assert_eq!(piece_from_high_end(100, 100, 65_536, 50), 62);
-    assert_eq!(piece_from_low_end(100, 100, 65_536, 50), 37);
-    assert_eq!(piece_from_low_end(100, 100, -65_536, 50), 62);
-    assert_eq!(piece_from_high_end(100, 100, 65_536, 0), 0);
-    assert_eq!(piece_from_high_end(100, 100, 65_536, 100), 100);
+    assert_eq!(piece_from_high_end(100, 100, 262_144, 50), 62);
+    assert_eq!(piece_from_low_end(100, 100, 262_144, 50), 37);
+    assert_eq!(piece_from_low_end(100, 100, -262_144, 50), 62);
+    assert_eq!(piece_from_high_end(100, 100, 262_144, 0), 0);
+    assert_eq!(piece_from_high_end(100, 100, 262_144, 100), 100);
+    // At the scale before, 65,536 was the mismatch of m1; a quarter of the new one adds 3.125.
+    assert_eq!(piece_from_high_end(100, 100, 65_536, 50), 53);
+    assert_eq!(piece_from_low_end(100, 100, 65_536, 50), 46);
 }
 
 #[test]
@@ -190,7 +197,7 @@ fn all_pieces_come_from_the_amounts_before() {
     );
 }
 
-/// Grid 4, 1, 1, 1 with the mismatch 65,536 northward in every column.
+/// Grid 4, 1, 1, 1 with the mismatch 262,144 northward in every column.
 fn northward_world() -> World {
     let mut world = row_world([100; 4], [100; 4]);
     world.tracers[5] = 200;

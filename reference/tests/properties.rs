@@ -1,6 +1,7 @@
 //! The four properties of demand 3, the smallest count and the remap's count, on random lists.
 
 mod common;
+use common::range::{self, Written};
 use common::*;
 use reference::{call, Answer, Call, Grid, World};
 
@@ -24,153 +25,18 @@ fn whole_ratio(world: &World, t: usize) -> Option<u64> {
         .then_some(z)
 }
 
-/// "some cell there, with air M and tracer T, has T·M' < (T' + e)·M, and some cell there has
-/// T'·M < T·M' + e·M."
-fn expect_range(before: &World, after: &World, t: usize, near: &[usize], cell: usize, e: u64) {
-    let (old, new) = (tracer(before, t), tracer(after, t));
-    let wide = |amount: u32| u128::from(amount);
-    let (m2, t2) = (wide(after.air[cell]), wide(new[cell]));
-    let e = u128::from(e);
-    let above_least = near
-        .iter()
-        .any(|&c| wide(old[c]) * m2 < (t2 + e) * wide(before.air[c]));
-    let below_greatest = near.iter().any(|&c| {
-        let m = wide(before.air[c]);
-        t2 * m < wide(old[c]) * m2 + e * m
-    });
-    assert!(
-        above_least && below_greatest,
-        "cell {cell} of tracer {t} leaves its range"
-    );
-}
-
 fn tracers(grid: &Grid) -> std::ops::Range<usize> {
     0..grid.n as usize
 }
 
-/// The range after one zonal substep.
-fn expect_zonal_range(before: &World, after: &World, layer: u32, row: u32) {
-    let grid = &before.grid;
-    let columns = grid.w as usize;
-    let first = layer as usize * layer_cells(grid) + 1 + (row * grid.w) as usize;
-    for t in tracers(grid) {
-        for i in 0..columns {
-            let near = [
-                first + i,
-                first + (i + 1) % columns,
-                first + (i + columns - 1) % columns,
-            ];
-            expect_range(before, after, t, &near, first + i, 3);
-        }
-    }
-}
-
-/// The range after a meridional sweep.
-fn expect_meridional_range(before: &World, after: &World, layer: u32) {
-    let grid = &before.grid;
-    let columns = grid.w as usize;
-    let (south, north) = (0, layer_cells(grid) - 1);
-    let first = layer as usize * layer_cells(grid);
-    for t in tracers(grid) {
-        for cell in 0..layer_cells(grid) {
-            let (mut near, e) = if cell == south {
-                ((1..=columns).collect::<Vec<_>>(), columns + 1)
-            } else if cell == north {
-                ((north - columns..north).collect(), columns + 1)
-            } else {
-                (
-                    vec![
-                        cell.saturating_sub(columns).max(south),
-                        (cell + columns).min(north),
-                    ],
-                    3,
-                )
-            };
-            near.push(cell);
-            let near: Vec<usize> = near.iter().map(|c| first + c).collect();
-            expect_range(before, after, t, &near, first + cell, e as u64);
-        }
-    }
-}
-
-/// The layers of a column as pairs of upper and lower edge.
-fn layer_edges(world: &World, cell: usize) -> Vec<(u64, u64)> {
-    let mut upper = 0;
-    let layers = world.air[cell..].iter().step_by(layer_cells(&world.grid));
-    layers
-        .map(|&m| {
-            let lower = upper + u64::from(m);
-            (std::mem::replace(&mut upper, lower), lower)
-        })
-        .collect()
-}
-
-/// The old layers that share air with the new layer.
-fn sharing(old: &[(u64, u64)], new: (u64, u64)) -> Vec<usize> {
-    (0..old.len())
-        .filter(|&k| old[k].0.max(new.0) < old[k].1.min(new.1))
-        .collect()
-}
-
 /// The range after a remap, and its count.
 fn expect_remap_range_and_count(before: &World, after: &World, count: u64) {
-    let grid = &before.grid;
-    let columns = layer_cells(grid);
-    let mut pairs = 0;
-    for cell in 0..columns {
-        let old = layer_edges(before, cell);
-        for (j, &new) in layer_edges(after, cell).iter().enumerate() {
-            let shared = sharing(&old, new);
-            pairs += shared.len() as u64;
-            let top = shared[0].saturating_sub(1);
-            let bottom = (shared[shared.len() - 1] + 1).min(old.len() - 1);
-            let near: Vec<usize> = (top..=bottom).map(|k| k * columns + cell).collect();
-            for t in tracers(grid) {
-                expect_range(before, after, t, &near, j * columns + cell, 2);
-            }
-        }
-    }
+    let (written, pairs) = range::of_remap(before, after);
+    written.iter().for_each(Written::expect_in_range);
     assert_eq!(count, pairs);
     // "The old bounds then follow from it."
-    let (k, c) = (u64::from(grid.k), columns as u64);
+    let (k, c) = (u64::from(before.grid.k), layer_cells(&before.grid) as u64);
     assert!(k * c <= count && count <= (2 * k - 1) * c);
-}
-
-/// The air on the line before each face of a row, from the west of column 0 to the east of the
-/// last column, each moved against its flux; and the old places, over three turns from turn −1.
-fn line_after(row_air: &[u32], fluxes: &[i32]) -> (Vec<i64>, Vec<i64>) {
-    let turn: i64 = row_air.iter().map(|&m| i64::from(m)).sum();
-    let mut old = vec![-turn];
-    for &m in row_air.iter().cycle().take(3 * row_air.len()) {
-        old.push(old[old.len() - 1] + i64::from(m));
-    }
-    let last = fluxes.len() - 1;
-    let mut new = vec![-i64::from(fluxes[last])];
-    for (i, &flux) in fluxes.iter().enumerate() {
-        new.push(old[fluxes.len() + i + 1] - i64::from(flux));
-    }
-    (old, new)
-}
-
-/// "A cell then lies within two units of the range over the cells it overlaps and their
-/// neighbours", and air changes by the fluxes.
-fn expect_long_range(before: &World, after: &World, layer: u32, row: u32, fluxes: &[i32]) {
-    let grid = &before.grid;
-    let columns = grid.w as usize;
-    let first = layer as usize * layer_cells(grid) + 1 + (row * grid.w) as usize;
-    let (old, new) = line_after(&before.air[first..first + columns], fluxes);
-    for i in 0..columns {
-        let (west, east) = (new[i], new[i + 1]);
-        assert_eq!(i64::from(after.air[first + i]), east - west);
-        let overlaps = (0..3 * columns).filter(|&c| old[c].max(west) < old[c + 1].min(east));
-        let near: Vec<usize> = overlaps
-            .flat_map(|c| [c + columns - 1, c, c + 1])
-            .map(|c| first + c % columns)
-            .collect();
-        for t in tracers(grid) {
-            expect_range(before, after, t, &near, first + i, 2);
-        }
-    }
 }
 
 /// Part s of n of the fluxes, with its own arithmetic.
@@ -235,7 +101,8 @@ fn expect_zonal(
         let old = world.clone();
         let substep = zonal(layer, row, &part(fluxes, s, n));
         assert_eq!(call(&mut world, &substep), accepted(1));
-        expect_zonal_range(&old, &world, layer, row);
+        let written = range::of_zonal_substep(&old, &world, layer, row);
+        written.iter().for_each(Written::expect_in_range);
     }
     assert_eq!(world, *after);
 }
@@ -261,11 +128,13 @@ fn expect_call_properties(before: &World, after: &World, asked: &Call, answer: A
         },
         Call::LongZonal { layer, row, fluxes } if answer.number == 0 => {
             assert_eq!(answer.count, 0);
-            expect_long_range(before, after, *layer, *row, fluxes);
+            let written = range::of_long_zonal(before, after, *layer, *row, fluxes);
+            written.iter().for_each(Written::expect_in_range);
         }
         Call::Meridional { layer, .. } if answer.number == 0 => {
             assert_eq!(answer.count, 1);
-            expect_meridional_range(before, after, *layer);
+            let written = range::of_meridional(before, after, *layer);
+            written.iter().for_each(Written::expect_in_range);
         }
         Call::Remap { .. } if answer.number == 0 => {
             expect_remap_range_and_count(before, after, answer.count);
@@ -369,7 +238,7 @@ impl Met {
 }
 
 /// A random list on one world, with conservation, ratios and ranges at each point.
-fn run_list(random: &mut Random, met: &mut Met) {
+fn run_list(random: &mut Random, met: &mut Met, random_world: fn(&mut Random) -> World) {
     let mut world = random_world(random);
     assert_eq!(call(&mut world, &Call::Load), accepted(0));
     let total_air = sum(&world.air);
@@ -401,7 +270,7 @@ fn conservation_ratio_and_range_on_random_lists() {
     let mut random = Random::new(1);
     let mut met = Met::default();
     for _ in 0..8_000 {
-        run_list(&mut random, &mut met);
+        run_list(&mut random, &mut met, random_world);
     }
     println!("{met:?}");
     assert!(met.accepted_sweeps > 5_000);
@@ -418,6 +287,31 @@ fn conservation_ratio_and_range_on_random_lists() {
     assert!(met.ticks > 3_000);
     assert!(met.ratios_kept > 5_000);
     assert!(met.refused > 5_000);
+}
+
+/// Lists on worlds of this kind; each kind of sweep, and the remap, is accepted often.
+fn run_lists_of(random_world: fn(&mut Random) -> World, seed: u64) {
+    let mut random = Random::new(seed);
+    let mut met = Met::default();
+    for _ in 0..8_000 {
+        run_list(&mut random, &mut met, random_world);
+    }
+    println!("{met:?}");
+    assert!(met.accepted_sweeps > 5_000);
+    assert!(met.many_substeps > 2_000);
+    assert!(met.accepted_long > 5_000);
+    assert!(met.accepted_meridional > 2_000);
+    assert!(met.accepted_remaps > 2_000);
+}
+
+#[test]
+fn lists_on_worlds_of_thin_gases() {
+    run_lists_of(random_thin_world, 61);
+}
+
+#[test]
+fn lists_on_worlds_at_the_limits() {
+    run_lists_of(random_extreme_world, 62);
 }
 
 /// The same list on two worlds that differ in all tracers but `kept`.

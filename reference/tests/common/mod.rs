@@ -1,6 +1,8 @@
 //! Helpers of the tests: a generator of numbers, worlds, calls, table rows and columns.
 #![allow(dead_code)]
 
+pub mod range;
+
 use reference::{call, Answer, Call, Grid, World};
 
 pub const MOST_TRACER: u64 = 268_435_455;
@@ -276,6 +278,91 @@ pub fn random_world(random: &mut Random) -> World {
     let air = random_air(random, cells(&grid));
     let tracers = (0..grid.n)
         .flat_map(|_| random_tracer(random, &air))
+        .collect();
+    world_of(grid, air, tracers)
+}
+
+/// Air of cells with a thin gas, or of a nearly even ratio.
+pub fn random_thick_air(random: &mut Random, cells: usize) -> Vec<u32> {
+    (0..cells).map(|_| random.amount(10_000, 65_535)).collect()
+}
+
+/// "gases of one unit in a thousand of air": each amount within two units of it, or with a slope.
+pub fn random_thin_tracer(random: &mut Random, air: &[u32]) -> Vec<u32> {
+    let (less, more) = if random.one_in(4) { (9, 9) } else { (1, 2) };
+    let of_a_thousand =
+        |random: &mut Random, m: u32| i64::from(m / 1_000) + random.between(-less, more);
+    air.iter()
+        .map(|&m| of_a_thousand(random, m).max(0) as u32)
+        .collect()
+}
+
+/// A fraction of air that is the same in all cells, each amount cut to whole units, or one more:
+/// the ratios hardly differ.
+pub fn random_even_tracer(random: &mut Random, air: &[u32]) -> Vec<u32> {
+    let total_air: u64 = air.iter().map(|&m| u64::from(m)).sum();
+    let most = (MOST_TRACER - air.len() as u64) / total_air;
+    let parts = match random.next() % 4 {
+        0 => 1 << random.between(0, 12),
+        1 => random.between(1, 9),
+        2 => random.between(900, 1_100),
+        _ => random.between(1, 65_535),
+    } as u64;
+    let share = match random.next() % 3 {
+        0 => 1,
+        1 => random.next() % (2 * parts) + 1,
+        _ => random.next() % (parts * most.max(1)) + 1,
+    };
+    let share = share.min(parts * most);
+    air.iter()
+        .map(|&m| (share * u64::from(m) / parts + random.next() % 2) as u32)
+        .collect()
+}
+
+/// Almost all that a tracer may have in one cell, and enough beside it for the largest mismatch.
+pub fn random_full_tracer(random: &mut Random, cells: usize) -> Vec<u32> {
+    let mut amounts = vec![0; cells];
+    let place = random.next() as usize % cells;
+    let beside = if random.one_in(3) {
+        0
+    } else {
+        random.amount(1, 70_000)
+    };
+    amounts[place] = MOST_TRACER as u32 - beside;
+    amounts[(place + 1) % cells] = beside;
+    amounts
+}
+
+/// A world of thin gases, or of nearly even ones.
+pub fn random_thin_world(random: &mut Random) -> World {
+    let grid = random_grid(random);
+    let air = random_thick_air(random, cells(&grid));
+    let tracers = (0..grid.n)
+        .flat_map(|_| match random.next() % 3 {
+            0 => random_even_tracer(random, &air),
+            _ => random_thin_tracer(random, &air),
+        })
+        .collect();
+    world_of(grid, air, tracers)
+}
+
+/// A world of air at its limits and of tracers at theirs.
+pub fn random_extreme_world(random: &mut Random) -> World {
+    let grid = random_grid(random);
+    let small = random.between(0, 2) as u64;
+    let below = if random.one_in(2) { 1 } else { 30_000 };
+    let air: Vec<u32> = (0..cells(&grid))
+        .map(|_| match random.next() % 4 {
+            place if place < small => random.amount(1, 2),
+            _ => 65_535 - random.amount(0, below),
+        })
+        .collect();
+    let tracers = (0..grid.n)
+        .flat_map(|_| match random.next() % 4 {
+            0 => random_tracer(random, &air),
+            1 => random_even_tracer(random, &air),
+            _ => random_full_tracer(random, air.len()),
+        })
         .collect();
     world_of(grid, air, tracers)
 }
