@@ -1,4 +1,4 @@
-// Marked cases m1 to m10, further cases x1 to x5, and cases y1-1 to y1-7 of the long sweep, run through the sweeps and the remap: name, answer, count, all air, all tracers.
+// Marked cases m1 to m10, further cases x1 to x5, a thin gas and the largest numerator of a piece (y6-1, y6-12), and cases y1-1 to y1-7 of the long sweep, run through the sweeps and the remap: name, answer, count, all air, all tracers.
 // In grids of one row of four columns; the first and the last amount of a layer are the caps'. No emitter stands.
 use libc::STDOUT_FILENO;
 use units::LEDGER_BLOCK;
@@ -139,6 +139,18 @@ fn main() {
         [100, 1, 1000, 1000, 1000, 100],
         [0u32; 6],
         [20, 0, 0, 21],
+    );
+    case(
+        b"y6-1",
+        [100, 57676, 34847, 38263, 33495, 100],
+        [0, 56, 34, 39, 34, 0],
+        [8104, 8176, 3143, 1267],
+    );
+    case(
+        b"y6-12",
+        [100, 2, 65535, 1, 5, 100],
+        [0, 0, 268435455, 0, 0, 0],
+        [1, 65535, 1, 0],
     );
     long_case(b"y1-1", [0, 50, 0, 0]);
     long_case(b"y1-2", [400, 400, 400, 400]);

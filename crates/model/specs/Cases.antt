@@ -1,6 +1,7 @@
 -- A case: a world, a call, and what `step` gives. One computed test over a table of cases, and the law that a table without failing cases is a theorem of every case in it.
 pub mod Marked
 pub mod Further
+pub mod Thin
 pub mod RangeEnds
 pub mod Long
 pub mod Emitters

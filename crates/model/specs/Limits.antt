@@ -27,15 +27,15 @@ mostCells = 101440
 abbrev pub mostAmounts : ℕ
 mostAmounts = 811520
 
--- "Ratio: q = floor(65,536·T / M)": the scale of ratio, mismatch and piece
+-- (02) "262,144 wherever document 01 has 65,536 as the scale of the ratio, the mismatch and the piece"
 abbrev pub scale : ℕ
-scale = 65536
+scale = 262144
 
--- "edge j = a + floor(b·P / 65,536)": the scale of a table's b
+-- "edge j = a + floor(b·P / 65,536)"; (02) "The b of a table keeps its 65,536"
 abbrev pub tableScale : ℕ
 tableScale = 65536
 
--- "A cell holds M units of air (1 to 65,535)"
+-- "A cell holds M units of air (1 to 65,535)"; (02) "the air limit keeps 65,535"
 abbrev pub airLimit : ℕ
 airLimit = 65535
 

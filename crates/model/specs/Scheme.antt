@@ -1,4 +1,4 @@
--- Document 01, "Ratio, mismatch, piece".
+-- Document 01, "Ratio, mismatch, piece", with document 02, Slip 6: "262,144 wherever document 01 has 65,536 as the scale of the ratio, the mismatch and the piece" (`scale`, Limits.antt).
 -- M is a cell's air and T its tracer, as there. A mismatch is kept as its size and its sign.
 use Prim.Native.Nat.{ℕ, _+_, _*_, _-_, _/_, min, max}
 use mathlib.Core.Bool.{Bool, true, false, not}
@@ -7,7 +7,7 @@ use Rattle.model.specs.Limits.{scale}
 use Rattle.model.specs.Basic.{distance}
 use Rattle.model.specs.World.{World}
 
--- "Ratio: q = floor(65,536·T / M)"
+-- "Ratio: q = floor(65,536·T / M)", (02) with 262,144
 unfoldable pub ratio : ℕ → ℕ → ℕ
 ratio M T = scale * T / M
 
@@ -43,7 +43,7 @@ plain = record { size = 0; positive = true }
 abbrev pub opposite : Mismatch → Mismatch
 opposite D = record { size = D .size; positive = not (D .positive) }
 
--- "Piece of m units of air (0 to M) from the high end: floor((2·65,536·m·T + D·m·(M − m)) / (2·65,536·M))"
+-- "Piece of m units of air (0 to M) from the high end: floor((2·65,536·m·T + D·m·(M − m)) / (2·65,536·M))", (02) with 262,144
 unfoldable pub highPiece : Mismatch → ℕ → ℕ → ℕ → ℕ
 highPiece D M T m =
     elim (D .positive) [

@@ -8,7 +8,7 @@ ghost use Rattle.units.specs.Grid.{gridOf, InRange, LayerThere, RowThere
 ghost use Rattle.units.specs.Answer.{refusalNumber, numberOf, countOf, wideNumberOf, wideCountOf};
 
 // The limits that the code needs, each once. Contracts tie them to the model's (crates/model/specs/Limits.antt).
-pub const SCALE: u64 = 65536; // of ratio, mismatch and piece
+pub const SCALE: u64 = 262144; // of ratio, mismatch and piece
 
 pub const TABLE_SCALE: u32 = 65536; // of a table's b
 

@@ -66,7 +66,7 @@ pub scheme : List Case
 scheme =
     gives "x1" (row (six 100 928 314 81 658 100) (six 0 221 496 522 317 0)) (sweep (pos 421) (pos 462) (pos 475) (pos 229)) 7
     (six 100 736 273 68 904 100)
-    (six 0 322 110 27 1097 0) ∷
+    (six 0 321 110 27 1098 0) ∷
     gives "x2" (row hundreds (six 0 3 1 8 5 0)) (round (negℤ (pos 151))) 2 hundreds (six 0 6 5 5 1 0) ∷
     refuses "x3" (row (six 100 200 200 200 200 200) (replicate 6 0))
     (eight (pos 60) (pos 60) (negℤ (pos 50)) (pos 0) (pos 0) (pos 0) (pos 0) (pos 0)) 10 ∷
@@ -121,10 +121,10 @@ scheme =
     (sweep (pos 100) (negℤ (pos 290)) (negℤ (pos 300)) (negℤ (pos 220))) 2
     (six 500 80 690 210 270 500)
     (six 10 67 694 112 147 77) ∷
-    gives "x9 cap near the lower end of its range" (row (six 511 64665 64665 64665 64665 263) (six 690 87317 87317 87317 87317 2104))
+    gives "x9 cap that takes in from four columns" (row (six 511 64665 64665 64665 64665 263) (six 690 87317 87317 87317 87317 2104))
     (eight (negℤ (pos 12604)) (negℤ (pos 12604)) (negℤ (pos 12604)) (negℤ (pos 12604)) (pos 0) (pos 0) (pos 0) (pos 0)) 1
     (six 50927 52061 52061 52061 52061 263)
-    (six 68762 70299 70299 70299 70299 2104) ∷
+    (six 68766 70298 70298 70298 70298 2104) ∷
     []
 
 -- x7, places 1 and 2

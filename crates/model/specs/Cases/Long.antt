@@ -2,11 +2,11 @@
 -- Assumes nothing. Numbers that document 02 and the request do not give come from the second implementation (reference/cases/long.txt).
 use Prim.Native.Nat.{ℕ, _+_, _*_, _%_}
 use mathlib.Core.List.{List, [], _∷_, _++_}
-use mathlib.Core.Bool.{Bool, true, false}
+use mathlib.Core.Bool.{true, false}
 use mathlib.Core.Path.{_≡_, refl}
 use lib.IntN.{ℤ, pos, negℤ}
 use lib.ListN.{replicate, set}
-use Rattle.model.specs.Basic.{at, tab}
+use Rattle.model.specs.Basic.{tab}
 use Rattle.model.specs.World.{World}
 use Rattle.model.specs.Scheme.{mismatch}
 use Rattle.model.specs.Long.{longAir, longGas}
@@ -130,26 +130,3 @@ pub across-in-range :
     longCellInRange 6 halves (replicate 6 100) across (longAir 6 halves (replicate 6 100)) (longGas mismatch 6 halves (replicate 6 100) across) 0 ≡ true
 unfolding computes inRange isNear overlaps isNearOverlap longCellInRange
 across-in-range = refl
-
--- ---- e = 2 is needed in full (y1-9): cell 2 is left with air 14 and tracer 15, where no old ratio passes 1
-abbrev edgeAir : List ℕ
-edgeAir = four 3 536 13 7
-
-abbrev edgeGas : List ℕ
-edgeGas = four 0 535 13 7
-
-abbrev edgeFluxes : List ℤ
-edgeFluxes = four (pos 0) (pos 1) (pos 0) (pos 0)
-
--- whether it is in range with another e
-unfoldable pub withinUnits : ℕ → Bool
-withinUnits e =
-    inRange 4 (isNearOverlap 4 (overlaps 4 edgeFluxes edgeAir 2)) edgeAir edgeGas e
-    (at (longAir 4 edgeFluxes edgeAir) 2)
-    (at (longGas mismatch 4 edgeFluxes edgeAir edgeGas) 2)
-
-pub long-range-ends :
-    longCellInRange 4 edgeFluxes edgeAir edgeGas (longAir 4 edgeFluxes edgeAir) (longGas mismatch 4 edgeFluxes edgeAir edgeGas) 2 ∷
-    withinUnits 2 ∷ withinUnits 1 ∷ [] ≡ true ∷ true ∷ false ∷ []
-unfolding withinUnits computes inRange isNear overlaps isNearOverlap longCellInRange
-long-range-ends = refl

@@ -1,80 +1,96 @@
--- Document 01's e is needed in full, in a row, in a cap and in a remap: what is left there is in range, and with one unit more, or in the cap one unit less, of the tracer it is not; so it would not be with e one smaller.
--- Assumes nothing: all is computed, with `substepInRange` and `layerInRange` as demand 3 has them.
-use Prim.Native.Nat.{ℕ, _+_, _-_}
-use mathlib.Core.List.{List, [], _∷_, _++_}
+-- The quarter of document 02, Slip 6, is needed in a row, in a cap, in a remap and in a long sweep: what is left there, above the range or below it (Cases/Thin), is in range, and without the quarter, with one unit for each face, or one, it is not.
+-- Assumes nothing: all is computed, with `substepInRange`, `layerInRange` and `longCellInRange` as demand 3 has them.
+use Prim.Native.Nat.{ℕ, _*_}
+use mathlib.Core.List.{List, [], _∷_}
 use mathlib.Core.Bool.{Bool, true, false}
 use mathlib.Core.Path.{_≡_, refl}
-use lib.IntN.{ℤ, pos, negℤ}
-use lib.ListN.{replicate, set}
-use Rattle.model.specs.Basic.{at}
+use lib.IntN.{ℤ}
+use Rattle.model.specs.Basic.{at, part}
 use Rattle.model.specs.World.{World, gas}
 use Rattle.model.specs.Scheme.{mismatch}
-use Rattle.model.specs.Sweep.{ring, layer, airAfter, gasAfter, serves}
-use Rattle.model.specs.Range.{inRange, isNear, isNearLayer, substepInRange, layerInRange}
-use Rattle.model.specs.Step.{remap, step}
+use Rattle.model.specs.Sweep.{Mesh, ring, layer, airAfter, gasAfter, serves}
+use Rattle.model.specs.Remap.{column, columnAir, shareAir}
+use Rattle.model.specs.Long.{longAir, longGas}
+use Rattle.model.specs.Range.{inRange, isNear, isNearLayer, substepInRange, layerInRange, overlaps, isNearOverlap, longCellInRange}
+use Rattle.model.specs.Step.{remap, longZonal, step}
 use Rattle.model.specs.Cases.{computes}
-use Rattle.model.specs.Cases.Marked.{grid, world, four, six}
+use Rattle.model.specs.Cases.Thin.{rowAbove, rowAboveFluxes, rowBelow, rowBelowFluxes, capBelow, capBelowFluxes, columnsAbove, columnsAboveEdges, columnsBelow, columnsBelowEdges, longAbove, longAboveFluxes, longBelow, longBelowFluxes}
 
--- ---- a row: after one substep cell 3 is 2.104 units above the greatest ratio, and e is 3
-abbrev rowAir : List ℕ
-rowAir = four 25871 44589 32838 65535
+-- ---- cell c of a mesh from cell a on, after one substep: that it is allowed, that c is in range, and whether it would be with so many quarters of a unit
+module _ (w : World) (mesh : Mesh) (a : ℕ) (fluxes : List ℤ) (c : ℕ) where
+  abbrev air : List ℕ
+  air = part (w .air) a (mesh .cells)
 
-abbrev rowGas : List ℕ
-rowGas = four 0 44588 32837 65533
+  abbrev had : List ℕ
+  had = part (gas w 0) a (mesh .cells)
 
-abbrev rowFluxes : List ℤ
-rowFluxes = four (pos 9517) (pos 10560) (negℤ (pos 1994)) (pos 27297)
+  abbrev airLeft : List ℕ
+  airLeft = airAfter mesh fluxes 1 air 1
 
--- whether it is in range with `more` units more
-unfoldable pub rowHolds : ℕ → Bool
-rowHolds more =
-    let left : List ℕ = gasAfter mismatch (ring 4) rowFluxes 1 rowAir rowGas 1 in
-    substepInRange (ring 4) rowAir rowGas (airAfter (ring 4) rowFluxes 1 rowAir 1) (set left 3 (at left 3 + more)) 3
+  abbrev gasLeft : List ℕ
+  gasLeft = gasAfter mismatch mesh fluxes 1 air had 1
 
--- ---- the south cap of four columns: e is 5, and it is more than 4 units below the least ratio
-abbrev capAir : List ℕ
-capAir = six 511 64665 64665 64665 64665 263
+  unfoldable pub substepWithin : ℕ → Bool
+  substepWithin quarters = inRange (mesh .cells) (isNear mesh c) air had quarters (at airLeft c) (at gasLeft c)
 
-abbrev capGas : List ℕ
-capGas = six 690 87317 87317 87317 87317 2104
+  unfoldable pub substepEnds : ℕ → List Bool
+  substepEnds faces =
+      serves mesh fluxes air 1 ∷ substepInRange mesh air had airLeft gasLeft c ∷ substepWithin (4 * faces) ∷ []
 
-abbrev capFluxes : List ℤ
-capFluxes = replicate 4 (negℤ (pos 12604)) ++ replicate 4 (pos 0)
+-- ---- new layer j of the column at place 1: that the remap is accepted, that it is in range, and whether it would be with one unit
+module _ (w : World) (table : List ℕ) (j : ℕ) where
+  abbrev remappedWorld : World
+  remappedWorld = step w (remap table) .next
 
--- whether it is in range with `less` units less
-unfoldable pub capHolds : ℕ → Bool
-capHolds less =
-    let left : List ℕ = gasAfter mismatch (layer 4 1) capFluxes 1 capAir capGas 1 in
-    substepInRange (layer 4 1) capAir capGas (airAfter (layer 4 1) capFluxes 1 capAir 1) (set left 0 (at left 0 - less)) 0
+  unfoldable pub layerWithin : ℕ → Bool
+  layerWithin quarters =
+      let old : List ℕ = column (w .grid) (w .air) 1 in
+      inRange 3 (isNearLayer 3 (shareAir table old (columnAir (w .grid) (w .air) 1) j)) old (column (w .grid) (gas w 0) 1) quarters
+      (at (column (w .grid) (remappedWorld .air) 1) j)
+      (at (column (w .grid) (gas remappedWorld 0) 1) j)
 
--- ---- columns of three layers, with edges 0, 49251, 65635, 131170: new layer 1 has air 16384 and tracer 16385 where the greatest ratio is 1, and e is 2
-abbrev columns : World
-columns = world (grid 4 1 3 1) (replicate 6 100 ++ replicate 12 65535) (replicate 6 0 ++ replicate 6 65534 ++ replicate 6 65535)
+  unfoldable pub layerEnds : List Bool
+  layerEnds =
+      layerInRange (w .grid) table (w .air) (gas w 0) (remappedWorld .air) (gas remappedWorld 0) 1 j ∷ layerWithin 4 ∷ []
 
-abbrev edges : List ℕ
-edges = 0 ∷ 0 ∷ 49251 ∷ 0 ∷ 65635 ∷ 0 ∷ 0 ∷ 65536 ∷ []
+-- ---- cell i of a row of four after a long sweep, likewise
+module _ (w : World) (fluxes : List ℤ) (i : ℕ) where
+  abbrev rowAir : List ℕ
+  rowAir = part (w .air) 1 4
 
-abbrev remappedColumns : World
-remappedColumns = step columns (remap edges) .next
+  abbrev rowGas : List ℕ
+  rowGas = part (gas w 0) 1 4
 
--- whether it is in range with `more` units more in the column at place 1, cell 7
-unfoldable pub columnHolds : ℕ → Bool
-columnHolds more =
-    let left : List ℕ = gas remappedColumns 0 in
-    layerInRange (columns .grid) edges (columns .air) (gas columns 0) (remappedColumns .air) (set left 7 (at left 7 + more)) 1 1
+  unfoldable pub longWithin : ℕ → Bool
+  longWithin quarters =
+      inRange 4 (isNearOverlap 4 (overlaps 4 fluxes rowAir i)) rowAir rowGas quarters (at (longAir 4 fluxes rowAir) i) (at (longGas mismatch 4 fluxes rowAir rowGas) i)
 
--- ---- the three calls are accepted, what they leave there, and the range with and without one unit
+  unfoldable pub longEnds : List Bool
+  longEnds =
+      longCellInRange 4 fluxes rowAir rowGas (longAir 4 fluxes rowAir) (longGas mismatch 4 fluxes rowAir rowGas) i ∷ longWithin 4 ∷ []
+
+-- a row: column 1 has 34578 in 34577 units of air, 2.014 units above the greatest ratio; and 83 in 60796, 2.11 units below the least. The south cap of four columns: 75 in 64662, 4.18 units below the least
 pub range-ends :
-    serves (ring 4) rowFluxes rowAir 1 ∷ rowHolds 0 ∷ rowHolds 1 ∷
-    serves (layer 4 1) capFluxes capAir 1 ∷ capHolds 0 ∷ capHolds 1 ∷
-    columnHolds 0 ∷ columnHolds 1 ∷ [] ≡
-    true ∷ true ∷ false ∷ true ∷ true ∷ false ∷ true ∷ false ∷ []
-unfolding rowHolds capHolds columnHolds computes inRange isNear isNearLayer substepInRange layerInRange
-range-ends = refl
+    (substepEnds rowAbove (ring 4) 1 rowAboveFluxes 1 2 ≡ true ∷ true ∷ false ∷ [])
+    × (substepEnds rowBelow (ring 4) 1 rowBelowFluxes 1 2 ≡ true ∷ true ∷ false ∷ [])
+    × (substepEnds capBelow (layer 4 1) 0 capBelowFluxes 0 4 ≡ true ∷ true ∷ false ∷ [])
+unfolding substepEnds substepWithin computes inRange isNear substepInRange
+range-ends = (refl, refl, refl)
 
-pub range-ends-left :
-    at (airAfter (layer 4 1) capFluxes 1 capAir 1) 0 ∷ at (gasAfter mismatch (layer 4 1) capFluxes 1 capAir capGas 1) 0 ∷
-    step columns (remap edges) .answer ∷ at (remappedColumns .air) 7 ∷ at (gas remappedColumns 0) 7 ∷ [] ≡
-    50927 ∷ 68762 ∷ 0 ∷ 16384 ∷ 16385 ∷ []
-unfolding computes
-range-ends-left = refl
+-- columns: new layer 2 has 10 in 9, a unit above the greatest ratio; new layer 0 has 70 in 50756, 1.06 units below the least
+pub remap-range-ends :
+    (layerEnds columnsAbove columnsAboveEdges 2 ≡ true ∷ false ∷ [])
+    × (layerEnds columnsBelow columnsBelowEdges 0 ≡ true ∷ false ∷ [])
+    × (step columnsAbove (remap columnsAboveEdges) .answer ≡ 0)
+    × (step columnsBelow (remap columnsBelowEdges) .answer ≡ 0)
+unfolding layerEnds layerWithin computes inRange isNearLayer layerInRange
+remap-range-ends = (refl, refl, refl, refl)
+
+-- a long sweep: column 2 has 15 in 14, a unit above the greatest ratio (y1-9 too); column 0 has 70 in 50756, 1.06 units below the least
+pub long-range-ends :
+    (longEnds longAbove longAboveFluxes 2 ≡ true ∷ false ∷ [])
+    × (longEnds longBelow longBelowFluxes 0 ≡ true ∷ false ∷ [])
+    × (step longAbove (longZonal 0 0 longAboveFluxes) .answer ≡ 0)
+    × (step longBelow (longZonal 0 0 longBelowFluxes) .answer ≡ 0)
+unfolding longEnds longWithin computes inRange isNear overlaps isNearOverlap longCellInRange
+long-range-ends = (refl, refl, refl, refl)

@@ -14,7 +14,7 @@ use Rattle.model.specs.Basic.{at, sum, tab}
 use Rattle.model.specs.Scheme.{Mismatch, Rule, ratio, plain}
 use Rattle.model.specs.Remap.{airAbove, edge, layerMismatch, layers, amountAbove, newAir, newTracer, edgesServe, shareAir}
 use Rattle.model.specs.Walk.{layerOf}
-use Rattle.model.specs.Range.{inRange, isNearLayer}
+use Rattle.model.specs.Range.{inRange, unitsAndQuarter, isNearLayer}
 use Rattle.model.specs.Step.{tableFits}
 use Rattle.model.specs.Laws.Basic.{both, every-at, sum-steps, steps-rise}
 use Rattle.model.specs.Laws.Scheme.{Limited, Safe, ratio-safe, plain-safe, ratio-constant}
@@ -191,7 +191,7 @@ module _ {rule : Rule} (limited : Limited rule) (cap : Bool) (K : ℕ) (table ai
 
     pub new-layer-in-range :
         Monotone rule → (j : ℕ) → j < K →
-        inRange K (isNearLayer K (shareAir table air (airAbove air K) j)) air gas 2 (newAir table (airAbove air K) j) (newTracer table (airAbove air K) (layers rule cap K air gas) j) ≡ true
+        inRange K (isNearLayer K (shareAir table air (airAbove air K) j)) air gas (unitsAndQuarter 1) (newAir table (airAbove air K) j) (newTracer table (airAbove air K) (layers rule cap K air gas) j) ≡ true
     new-layer-in-range monotone j h =
         let some = layer-between (layerOf rule cap K air gas) K has K _ _ (omega arith) (edges .rises j h) (edge-le K table _ edges (suc j) h) in
         in-range K _ air gas (some .0) (some .1) (near-self K (shareAir table air (airAbove air K) j) _ (shared j _ (some .2))) (has _ (some .1)) 1 _ _ (new-air-least K table _ edges j h) (edges .most j h)

@@ -1,5 +1,5 @@
--- How far the tracer in some air can pass a fraction H/L of tracer to air: the pieces of a cell, what they leave of it, their sums; and document 01's range from that. From above and from below at once, by a Bool: true where H/L bounds from above.
--- Of the scale they use that it is above 0, and in the last section that the air limit is below it; of a limiter what `Towards` says.
+-- How far the tracer in some air can pass a fraction H/L of tracer to air: the pieces of a cell, what they leave of it, their sums; and the documents' range from that. From above and from below at once, by a Bool: true where H/L bounds from above.
+-- Of the scale they use that it is above 0, and in the last section that four times the air limit is below it; of a limiter what `Towards` says.
 use Prim.Native.Nat.{ℕ, zero, suc, _+_, _*_, _-_, _/_, _≤_, _<_, min, max}
 use mathlib.Core.List.{List}
 use mathlib.Core.Bool.{Bool, true, false, not, true-and, _&&_}
@@ -12,7 +12,7 @@ use Rattle.model.specs.Limits.{scale, airLimit}
 use Rattle.model.specs.Basic.{at, sum, some}
 use Rattle.model.specs.World.{World}
 use Rattle.model.specs.Scheme.{ratio, Mismatch, Rule, mismatch, ruleOf, opposite, highPiece, lowPiece}
-use Rattle.model.specs.Range.{inRange}
+use Rattle.model.specs.Range.{inRange, unitsAndQuarter}
 use Rattle.model.specs.Laws.Basic.{sum-ext, some-unless}
 use Rattle.model.specs.Laws.Scheme.{Safe, numerator, numerator-none, numerator-whole, numerators-meet, piece-is, tilt-le-level, mismatch-low, mismatch-high}
 
@@ -400,25 +400,25 @@ abbrev pub Bounded : ℕ → (ℕ → Bool) → List ℕ → List ℕ → ℕ �
 Bounded n there air gas f M' T' =
     (b : Bool) (H L : ℕ) → ((d : ℕ) → d < n → there d ≡ true → Inside b H L (at air d) (at gas d)) → Near b H L M' T' f
 
--- ---- document 01's e is f + 1: were it passed, (T' - e)/M' or (T' + e)/M' would bound the cells there, and M' would be the scale or more
-limit-below-scale : (M : ℕ) → M ≤ airLimit → M < scale
+-- ---- document 02's quarter, f + 1/4 in quarters: were it passed, (4·T' − e)/(4·M') or (4·T' + e)/(4·M') would bound the cells there, and 4·M' would be the scale or more
+limit-below-scale : (M : ℕ) → M ≤ airLimit → 4 * M < scale
 limit-below-scale M h = omega arith
 
-unit-passed : (b : Bool) (M' T' f h : ℕ) → 0 < M' → Apart b h T' (f + 1) → Near b h M' M' T' f → scale ≤ M'
-unit-passed true M' T' f h hM e near = le-of-mul-le-mul-right (omega (arith, ap (λ (x : ℕ). x * M') e)) hM
-unit-passed false M' T' f h hM e near = le-of-mul-le-mul-right (omega (arith, ap (λ (x : ℕ). x * M') e)) hM
+quarter-passed : (b : Bool) (M' T' f h : ℕ) → 0 < M' → Apart b h (4 * T') (unitsAndQuarter f) → Near b h (4 * M') M' T' f → scale ≤ 4 * M'
+quarter-passed true M' T' f h hM e near = le-of-mul-le-mul-right (omega (arith, ap (λ (x : ℕ). x * M') e)) hM
+quarter-passed false M' T' f h hM e near = le-of-mul-le-mul-right (omega (arith, ap (λ (x : ℕ). x * M') e)) hM
 
 -- what a cell that fails the test tells
-fails-below : (M T M' T' e : ℕ) → ltb (T * M') ((T' + e) * M) ≡ false → Inside false (T' + e) M' M T
-fails-below M T M' T' e t = omega (arith, ltb-false (T * M') ((T' + e) * M) t)
+fails-below : (M T M' T' e : ℕ) → ltb (4 * (T * M')) ((4 * T' + e) * M) ≡ false → Inside false (4 * T' + e) (4 * M') M T
+fails-below M T M' T' e t = omega (arith, ltb-false (4 * (T * M')) ((4 * T' + e) * M) t)
 
-fails-above : (M T M' T' e h : ℕ) → h + e ≡ T' → ltb (T' * M) (T * M' + e * M) ≡ false → Inside true h M' M T
+fails-above : (M T M' T' e h : ℕ) → h + e ≡ 4 * T' → ltb (4 * (T' * M)) (4 * (T * M') + e * M) ≡ false → Inside true h (4 * M') M T
 fails-above M T M' T' e h eq t =
-    omega (arith, ltb-false (T' * M) (T * M' + e * M) t, ap (λ (x : ℕ). x * M) eq)
+    omega (arith, ltb-false (4 * (T' * M)) (4 * (T * M') + e * M) t, ap (λ (x : ℕ). x * M) eq)
 
-fails-most : (M T M' T' e : ℕ) → 0 < M → ltb (T' * M) (T * M' + e * M) ≡ false → e ≤ T'
+fails-most : (M T M' T' e : ℕ) → 0 < M → ltb (4 * (T' * M)) (4 * (T * M') + e * M) ≡ false → e ≤ 4 * T'
 fails-most M T M' T' e hM t =
-    le-of-mul-le-mul-right (omega (arith, ltb-false (T' * M) (T * M' + e * M) t)) hM
+    le-of-mul-le-mul-right (omega (arith, ltb-false (4 * (T' * M)) (4 * (T * M') + e * M) t)) hM
 
 -- a cell c there, with air
 module _ (n : ℕ) (there : ℕ → Bool) (air gas : List ℕ) (c : ℕ) (hc : c < n) (isThere : there c ≡ true) (has : 1 ≤ at air c) where
@@ -427,25 +427,28 @@ module _ (n : ℕ) (there : ℕ → Bool) (air gas : List ℕ) (c : ℕ) (hc : c
       some-unless n (λ d. there d && test d) (λ none. h (λ d hd e. rw (e, true-and) at (none d hd)))
 
   module _ (f M' T' : ℕ) (least : 1 ≤ M') (most : M' ≤ airLimit) (bounded : Bounded n there air gas f M' T') where
-    none-bounds : (b : Bool) (h : ℕ) → Apart b h T' (f + 1) → ((d : ℕ) → d < n → there d ≡ true → Inside b h M' (at air d) (at gas d)) → ⊥
-    none-bounds b h e inside =
-        omega (arith, unit-passed b M' T' f h least e (bounded b h M' inside), limit-below-scale M' most)
+    abbrev e : ℕ
+    e = unitsAndQuarter f
 
-    pub in-range : inRange n there air gas (f + 1) M' T' ≡ true
+    none-bounds : (b : Bool) (h : ℕ) → Apart b h (4 * T') e → ((d : ℕ) → d < n → there d ≡ true → Inside b h (4 * M') (at air d) (at gas d)) → ⊥
+    none-bounds b h apart inside =
+        omega (arith, quarter-passed b M' T' f h least apart (bounded b h (4 * M') inside), limit-below-scale M' most)
+
+    pub in-range : inRange n there air gas (unitsAndQuarter f) M' T' ≡ true
     unfolding inRange
     in-range = rw (not-below, not-above)
       where
-        not-below : some n (λ d. there d && ltb (at gas d * M') ((T' + (f + 1)) * at air d)) ≡ true
+        not-below : some n (λ d. there d && ltb (4 * (at gas d * M')) ((4 * T' + e) * at air d)) ≡ true
         not-below =
             some-there _
             (λ none.
-            none-bounds false (T' + (f + 1)) refl (λ d hd e. fails-below (at air d) (at gas d) M' T' (f + 1) (none d hd e)))
+            none-bounds false (4 * T' + e) refl (λ d hd there'. fails-below (at air d) (at gas d) M' T' e (none d hd there')))
 
-        not-above : some n (λ d. there d && ltb (T' * at air d) (at gas d * M' + (f + 1) * at air d)) ≡ true
+        not-above : some n (λ d. there d && ltb (4 * (T' * at air d)) (4 * (at gas d * M') + e * at air d)) ≡ true
         not-above =
             some-there _
             (λ none.
-            let le : f + 1 ≤ T' = fails-most (at air c) (at gas c) M' T' (f + 1) has (none c hc isThere) in
-            let apart : T' - (f + 1) + (f + 1) ≡ T' = omega arith in
-            none-bounds true (T' - (f + 1)) apart
-            (λ d hd e. fails-above (at air d) (at gas d) M' T' (f + 1) (T' - (f + 1)) apart (none d hd e)))
+            let le : e ≤ 4 * T' = fails-most (at air c) (at gas c) M' T' e has (none c hc isThere) in
+            let apart : 4 * T' - e + e ≡ 4 * T' = omega arith in
+            none-bounds true (4 * T' - e) apart
+            (λ d hd there'. fails-above (at air d) (at gas d) M' T' e (4 * T' - e) apart (none d hd there')))

@@ -14,7 +14,7 @@ use Rattle.model.specs.Basic.{at, sum, some}
 use Rattle.model.specs.World.{airFits}
 use Rattle.model.specs.Scheme.{Rule, opposite, highPiece, lowPiece}
 use Rattle.model.specs.Sweep.{Mesh, Sides, between, southCap, northCap, Flow, leaving, entering, afterFlow, allowed, parts, cellRatio, cellMismatch, pieces, airAfter, gasAfter, serves}
-use Rattle.model.specs.Range.{inRange, isNear, faceCount, substepInRange}
+use Rattle.model.specs.Range.{inRange, unitsAndQuarter, isNear, faceCount, substepInRange}
 use Rattle.model.specs.Laws.Basic.{sum-ext, both, every-at, some-true, at-tab, term-le-sum}
 use Rattle.model.specs.Laws.Scheme.{Limited}
 use Rattle.model.specs.Laws.Substep.{cell-safe}
@@ -254,7 +254,7 @@ module _
     {rule : Rule} (limited : Limited rule) (monotone : Monotone rule) (mesh : Mesh) (regular : Regular mesh) (flow : Flow)
     (air gas : List ℕ) (has : (c : ℕ) → c < mesh .cells → 1 ≤ at air c) (ok : allowed mesh flow air ≡ true) (c : ℕ)
     (hc : c < mesh .cells) where
-  pub substep-in-range : inRange (mesh .cells) (isNear mesh c) air gas (faceCount (mesh .sides c) + 1) (at (afterFlow mesh flow air) c) (at (afterFlow mesh (pieces rule mesh flow air gas) gas) c) ≡ true
+  pub substep-in-range : inRange (mesh .cells) (isNear mesh c) air gas (unitsAndQuarter (faceCount (mesh .sides c))) (at (afterFlow mesh flow air) c) (at (afterFlow mesh (pieces rule mesh flow air gas) gas) c) ≡ true
   substep-in-range =
       let fits = allowed-fits mesh flow air ok c hc in
       in-range (mesh .cells) (isNear mesh c) air gas c hc (near-self mesh c) (has c hc) (faceCount (mesh .sides c)) _ _ (fits .0) (fits .1)

@@ -230,8 +230,17 @@ module _ (D : Mismatch) (M T m : ℕ) (safe : Safe D M T) (hM : M ≤ airLimit) 
   pub tilt-fits : D .size * m * (M - m) < 2 ^ 63
   tilt-fits = lt-of-le-of-lt (tilt-le-level D M T safe m h) (level-fits m T (omega arith) hT)
 
+  pub numerator-most : numerator D M T m ≤ 9223231265007206400
+  numerator-most = le-trans (numerator-le D M T safe m h) (omega (arith, mul-le-mul hM hT))
+
   pub numerator-fits : numerator D M T m < 2 ^ 63
-  numerator-fits = lt-of-le-of-lt (numerator-le D M T safe m h) (level-fits M T hM hT)
+  numerator-fits = lt-of-le-of-lt numerator-most (omega arith)
+
+-- the largest numerator is that of a whole cell with the most air and the most tracer; so much is left below 2^63
+pub largest-numerator :
+    (numerator plain airLimit totalLimit airLimit ≡ 9223231265007206400) × (9223231265007206400 + 140771847569408 ≡ 2 ^ 63)
+unfolding numerator
+largest-numerator = (refl, refl)
 
 -- ---- the parts of a flux
 module _ (n s F : ℕ) (hn : 0 < n) where
