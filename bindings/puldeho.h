@@ -1,5 +1,5 @@
 /*
- * Puldeho, the transport core of the tracer console, for C (C99 or later) and C++: version 0.5.0.
+ * Puldeho, the transport core of the tracer console, for C (C99 or later) and C++: version 0.6.0.
  * Made by tools/bindings from the tables of bindings/: not to be edited.
  *
  * To compile and link, on x86-64 Linux: cc program.c $(pkg-config --cflags --libs puldeho)
@@ -34,6 +34,12 @@
  * then, and later versions, which keep books of each gas, refuse other calls until then.
  * Names that begin with puldeho or PULDEHO are the library's. Take sizes and limits by their names: they may grow.
  *
+ * Which version has which scale: ratios, mismatches and pieces have the scale 262,144 (PULDEHO_SCALE) from
+ * version 0.6 on, and had 65,536 before; the same calls then leave other amounts of gas. To tell two builds
+ * apart, load air {100, 928, 314, 81, 658, 100} and tracers {0, 221, 496, 522, 317, 0} on the grid 4, 1, 1, 1 and
+ * sweep row 0 with fluxes {421, 462, 475, 229}: the row's tracer is then 321, 110, 27, 1098, and was 322, 110,
+ * 27, 1097. The b of a remap's table keeps 65,536 (PULDEHO_TABLE_SCALE).
+ *
  * What is assumed of the stack: that it has room for the call, PULDEHO_STACK bytes or, of the proved
  * function under each call (return address and libc's functions included, arguments not):
  *   puldeho_raw_load                   16,576
@@ -61,12 +67,15 @@
 #include <stdint.h>
 #include <string.h>
 
-#define PULDEHO_VERSION "0.5.0"
+#define PULDEHO_VERSION "0.6.0"
 #define PULDEHO_VERSION_MAJOR 0
-#define PULDEHO_VERSION_MINOR 5
+#define PULDEHO_VERSION_MINOR 6
 #define PULDEHO_VERSION_PATCH 0
-#define PULDEHO_ABI puldeho_abi_0_5
+#define PULDEHO_ABI puldeho_abi_0_6
 
+/* the scale of ratios, mismatches and pieces: 262144 from version 0.6 on, and 65536 before.
+ * Builds whose scales differ give other amounts; no call takes it */
+#define PULDEHO_SCALE 262144
 /* the most air of a cell; the least is 1 */
 #define PULDEHO_AIR_LIMIT 65535
 /* the most units of a tracer in all cells together */

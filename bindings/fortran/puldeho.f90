@@ -1,4 +1,4 @@
-! Puldeho, the transport core of the tracer console, for Fortran 2003 and later: version 0.5.0.
+! Puldeho, the transport core of the tracer console, for Fortran 2003 and later: version 0.6.0.
 ! Made by tools/bindings from the tables of bindings/: not to be edited.
 !
 ! To compile and link: gfortran $(pkg-config --variable=fortran puldeho) program.f90 $(pkg-config --libs puldeho)
@@ -22,8 +22,11 @@ module puldeho
   implicit none
   private
 
-  character(len=*), parameter, public :: puldeho_version = "0.5.0"
+  character(len=*), parameter, public :: puldeho_version = "0.6.0"
 
+  ! the scale of ratios, mismatches and pieces: 262144 from version 0.6 on, and 65536 before. Builds whose
+  ! scales differ give other amounts; no call takes it
+  integer(c_int32_t), parameter, public :: puldeho_scale = 262144
   ! the most air of a cell; the least is 1
   integer(c_int32_t), parameter, public :: puldeho_air_limit = 65535
   ! the most units of a tracer in all cells together
@@ -174,8 +177,8 @@ module puldeho
 
   ! Does nothing. A library of another version, whose functions may take other arguments, has no such name.
   interface
-    subroutine puldeho_abi_0_5() bind(c)
-    end subroutine puldeho_abi_0_5
+    subroutine puldeho_abi_0_6() bind(c)
+    end subroutine puldeho_abi_0_6
   end interface
 
   ! The proved functions. Each returns refusal * 2**32 + count.
@@ -655,7 +658,7 @@ contains
     integer(c_int32_t), intent(out) :: refusal
     type(puldeho_world) :: loaded
 
-    call puldeho_abi_0_5()
+    call puldeho_abi_0_6()
     call copy_lists(loaded, grid, air, tracers)
     refusal = refusal_of(puldeho_raw_load( &
         loaded%grid%w, loaded%grid%r, loaded%grid%k, loaded%grid%n, loaded%air, size(loaded%air, &

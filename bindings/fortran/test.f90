@@ -1,5 +1,5 @@
 ! The Fortran module: words that say why a call is refused, a world that is kept and brought back, a load that is refused,
-! long sweeps, the count before a sweep, emitters, readings of a world that is only read, lengths, cell numbers, the count and the most steps of a remap.
+! case x1, long sweeps, the count before a sweep, emitters, readings of a world that is only read, lengths, cell numbers, the count and the most steps of a remap.
 ! The exit status is not 0 if anything differs.
 program test
   use, intrinsic :: iso_fortran_env, only: int64
@@ -59,11 +59,23 @@ program test
   call world%emission(0, 0, 1000000, refusal)
   call gives(puldeho_accepted)
   call read_only(world)
+  call shows_the_scale()
   call readout()
   call numbers(puldeho_grid(6, 3, 2, 5))
   print "(a)", "the Fortran module: as it should be"
 
 contains
+
+  ! Case x1. Before version 0.6 the scale was 65,536, and the row's tracer 322, 110, 27, 1097.
+  subroutine shows_the_scale()
+    type(puldeho_world) :: one
+
+    call one%load(grid, [100, 928, 314, 81, 658, 100], [0, 221, 496, 522, 317, 0], refusal)
+    call gives(puldeho_accepted)
+    call one%zonal(0, 0, [421, 462, 475, 229], refusal)
+    call gives(puldeho_accepted)
+    if (any(one%tracers /= [0, 321, 110, 27, 1098, 0]) .or. puldeho_scale /= 262144) error stop "x1 shows another scale"
+  end subroutine
 
   subroutine long_sweeps(one)
     type(puldeho_world), intent(inout) :: one

@@ -3,13 +3,15 @@
 import collections
 import enum
 
-__all__ = ["Refusal", "CountedZonal", "AIR_LIMIT", "TOTAL_LIMIT", "ZONAL_LIMIT", "MERIDIONAL_LIMIT", "MOST_SUBSTEPS", "TABLE_LIMIT", "TABLE_SCALE", "MOST_COLUMNS", "MOST_ROWS", "MOST_LAYERS", "MOST_TRACERS", "MOST_EMITTERS", "LEDGER_BLOCK"]
+__all__ = ["Refusal", "CountedZonal", "SCALE", "AIR_LIMIT", "TOTAL_LIMIT", "ZONAL_LIMIT", "MERIDIONAL_LIMIT", "MOST_SUBSTEPS", "TABLE_LIMIT", "TABLE_SCALE", "MOST_COLUMNS", "MOST_ROWS", "MOST_LAYERS", "MOST_TRACERS", "MOST_EMITTERS", "LEDGER_BLOCK"]
 
-VERSION = "0.5.0"
+VERSION = "0.6.0"
 # The shared library of this version. Another version's functions may take other arguments.
-SONAME = "libpuldeho.so.0.5"
-ABI = "puldeho_abi_0_5"
+SONAME = "libpuldeho.so.0.6"
+ABI = "puldeho_abi_0_6"
 
+# The scale of ratios, mismatches and pieces: 262144 from version 0.6 on, and 65536 before. Builds whose scales differ give other amounts; no call takes it
+SCALE = 262144
 # The most air of a cell; the least is 1
 AIR_LIMIT = 65535
 # The most units of a tracer in all cells together

@@ -26,6 +26,14 @@ class CaseP(unittest.TestCase):
         self.assertEqual(air.tolist(), [100, 100, 50, 150, 100, 100])
         self.assertEqual(tracers.tolist(), [0, 0, 38, 262, 100, 0])
 
+    def test_case_x1_shows_the_scale(self):
+        # before version 0.6 the scale was 65,536, and the row's tracer 322, 110, 27, 1097
+        one = puldeho.World(GRID, [100, 928, 314, 81, 658, 100], [0, 221, 496, 522, 317, 0])
+        self.assertEqual(one.zonal(0, 0, [421, 462, 475, 229]), 7)
+        self.assertEqual(one.air.tolist(), [100, 736, 273, 68, 904, 100])
+        self.assertEqual(one.tracers.tolist(), [0, 321, 110, 27, 1098, 0])
+        self.assertEqual(puldeho.SCALE, 262144)
+
     def test_a_list_is_copied(self):
         air, tracers = list(AIR), list(TRACERS)
         one = puldeho.World(GRID, air, tracers)

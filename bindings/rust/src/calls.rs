@@ -40,15 +40,17 @@ extern "C" {
 /// Does nothing, and is linked with the library of this version only: another one's functions may take other arguments.
 pub(crate) fn same_version() {
     extern "C" {
-        fn puldeho_abi_0_5();
+        fn puldeho_abi_0_6();
     }
     // SAFETY: it takes nothing and does nothing.
-    unsafe { puldeho_abi_0_5() }
+    unsafe { puldeho_abi_0_6() }
 }
 
 /// The version of the library that this wrapper was made for.
-pub const VERSION: &str = "0.5.0";
+pub const VERSION: &str = "0.6.0";
 
+/// The scale of ratios, mismatches and pieces: 262144 from version 0.6 on, and 65536 before. Builds whose scales differ give other amounts; no call takes it
+pub const SCALE: u32 = 262144;
 /// The most air of a cell; the least is 1
 pub const AIR_LIMIT: u32 = 65535;
 /// The most units of a tracer in all cells together

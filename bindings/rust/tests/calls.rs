@@ -26,6 +26,17 @@ fn case_p() {
     assert_eq!(world.grid(), GRID);
 }
 
+/// Before version 0.6 the scale was 65,536, and the row's tracer 322, 110, 27, 1097.
+#[test]
+fn case_x1_shows_the_scale() {
+    let air = [100, 928, 314, 81, 658, 100];
+    let mut world = World::load(GRID, air, [0, 221, 496, 522, 317, 0]).unwrap();
+    assert_eq!(world.zonal(0, 0, &[421, 462, 475, 229]), Ok(7));
+    assert_eq!(world.air(), [100, 736, 273, 68, 904, 100]);
+    assert_eq!(world.tracers(), [0, 321, 110, 27, 1098, 0]);
+    assert_eq!(puldeho::SCALE, 262_144);
+}
+
 #[test]
 fn a_world_is_made_by_an_accepted_load_only() {
     assert_eq!(
