@@ -10,7 +10,9 @@
 #define JOIN(prefix, call) JOIN_NAMES(prefix, call)
 #define CALL(call) JOIN(PREFIX, call)
 
-enum { MOST_W = 72, MOST_K = 32, MOST_N = 8, MOST_LAYER = 3170, MOST_FACES = 3240, MOST_AIR = 65535, SCALE = 65536 };
+enum { MOST_W = 72, MOST_K = 32, MOST_N = 8, MOST_LAYER = 3170, MOST_FACES = 3240, MOST_AIR = 65535 };
+/* The scale of ratio, mismatch and piece, and that of a table's b. */
+enum { SCALE = 262144, TABLE_SCALE = 65536 };
 /* A tracer's block of the ledger: how many emitters stand, the low and the high half of their units a tick, 16 times id,
  * cell, units. */
 enum { MOST_EMITTERS = 16, EMITTER = 3, FIRST_EMITTER = 3, BLOCK = FIRST_EMITTER + MOST_EMITTERS * EMITTER };
@@ -500,10 +502,10 @@ uint64_t CALL(meridional)(uint32_t w, uint32_t r, uint32_t k, uint32_t n, uint32
 
 static int table_fits(const uint32_t *table, size_t k)
 {
-    if (table[0] != 0 || table[1] != 0 || table[2 * k] != 0 || table[2 * k + 1] != SCALE)
+    if (table[0] != 0 || table[1] != 0 || table[2 * k] != 0 || table[2 * k + 1] != TABLE_SCALE)
         return 0;
     for (size_t j = 0; j <= k; j++)
-        if (table[2 * j] > 2097120 || table[2 * j + 1] > SCALE)
+        if (table[2 * j] > 2097120 || table[2 * j + 1] > TABLE_SCALE)
             return 0;
     return 1;
 }
@@ -515,7 +517,7 @@ static void edges_of(int64_t *edge, const uint32_t *air, const uint32_t *table, 
     for (size_t i = 0; i < k; i++)
         p += air[i * layer];
     for (size_t j = 0; j <= k; j++)
-        edge[j] = (int64_t)(table[2 * j] + table[2 * j + 1] * p / SCALE);
+        edge[j] = (int64_t)(table[2 * j] + table[2 * j + 1] * p / TABLE_SCALE);
 }
 
 /* The pairs of layers that share air in a column; 0 where the edges do not serve. */

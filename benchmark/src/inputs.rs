@@ -2,6 +2,7 @@
 //! winds that need 1 to 3 substeps, long ones of several cells, weak meridional winds, tables whose edges lie inside the old layers.
 
 use crate::ledgers::BLOCK;
+use crate::plain::TABLE_SCALE;
 use crate::worlds::Random;
 use reference::{Call, Grid, World};
 use std::f64::consts::TAU;
@@ -159,13 +160,13 @@ pub fn with_count(world: &World, call: &Call) -> Call {
 
 /// Edges near equal parts of a column's air, each moved by less than a third of a part.
 pub fn table(random: &mut Random, k: u32) -> Call {
-    let part = u64::from(65_536 / k);
+    let part = u64::from(TABLE_SCALE / k);
     let mut table = vec![0, 0];
     for j in 1..u64::from(k) {
-        let b = 65_536 * j / u64::from(k) + random.below(part / 3 + 1) - part / 6;
+        let b = u64::from(TABLE_SCALE) * j / u64::from(k) + random.below(part / 3 + 1) - part / 6;
         table.extend([random.below(500) as u32, b as u32]);
     }
-    table.extend([0, 65_536]);
+    table.extend([0, TABLE_SCALE]);
     Call::Remap { table }
 }
 

@@ -3,6 +3,8 @@
 
 mod beside;
 mod day;
+#[path = "../../compare/src/gases.rs"]
+mod gases;
 mod growth;
 mod inputs;
 #[path = "../../compare/src/ledgers.rs"]
@@ -87,6 +89,14 @@ fn agreement(lists: u64) {
         "All versions agree on {} calls of {lists} seeded lists (answer, count, every number).",
         12 * lists
     );
+    for version in &VERSIONS[1..] {
+        if version.gas_of_x1() != VERSIONS[0].gas_of_x1() {
+            println!(
+                "{} has another scale, by case x1; its amounts of gas are not compared.",
+                version.name
+            );
+        }
+    }
     println!("Calls by answer 0 to 20, where 13 to 15 are the runner program's: {reached:?}");
     let of_calls = |answer: usize| !(13..=15).contains(&answer);
     assert!(

@@ -10,7 +10,10 @@ const MOST_LAYER: usize = 3170;
 const MOST_FACES: usize = 3240;
 const MOST_AIR: i64 = 65_535;
 const MOST_TOTAL: u64 = 268_435_455;
-const SCALE: i64 = 65_536;
+/// The scale of ratio, mismatch and piece.
+const SCALE: i64 = 262_144;
+/// The scale of a table's b.
+pub const TABLE_SCALE: u32 = 65_536;
 const MOST_EMITTERS: usize = 16;
 /// A tracer's block of the ledger: how many emitters stand, the low and the high half of their units a tick, 16 times id, cell,
 /// units.
@@ -165,7 +168,7 @@ pub fn withdrawal(
 }
 
 fn ratio(m: u32, t: u32) -> i64 {
-    ((u64::from(t) << 16) / u64::from(m)) as i64
+    (SCALE as u64 * u64::from(t) / u64::from(m)) as i64
 }
 
 fn mismatch(qa: i64, q: i64, qb: i64) -> i64 {
@@ -563,10 +566,10 @@ pub fn meridional(
 
 fn table_fits(table: &[u32]) -> bool {
     table.starts_with(&[0, 0])
-        && table.ends_with(&[0, 65_536])
+        && table.ends_with(&[0, TABLE_SCALE])
         && table
             .chunks_exact(2)
-            .all(|pair| pair[0] <= 2_097_120 && pair[1] <= 65_536)
+            .all(|pair| pair[0] <= 2_097_120 && pair[1] <= TABLE_SCALE)
 }
 
 /// A column's old air and the table's edges in it.
@@ -585,7 +588,7 @@ fn column_at(air: &[u32], table: &[u32], c: usize, layer: usize) -> Column {
     }
     let p: i64 = column.air.iter().map(|&m| i64::from(m)).sum();
     for (edge, pair) in column.edges.iter_mut().zip(table.chunks_exact(2)) {
-        *edge = i64::from(pair[0]) + i64::from(pair[1]) * p / SCALE;
+        *edge = i64::from(pair[0]) + i64::from(pair[1]) * p / i64::from(TABLE_SCALE);
     }
     column
 }

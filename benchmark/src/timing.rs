@@ -104,7 +104,7 @@ pub fn agree(work: &Work) {
             if answer.is_none() {
                 world.clone_from(first);
             }
-            version.take_ledger(world, first);
+            version.take_over(world, first);
             let same = answer.is_none_or(|answer| Some(answer) == answers[0]) && *world == *first;
             assert!(
                 same,
@@ -147,11 +147,14 @@ pub fn round(
         let make = VERSIONS[v].call(number + number / COUNT);
         seconds[v] = deeper(number * 7 % 32, &mut || time(make, work, left));
         match first {
-            Some(first) => assert!(
-                *left == *first,
-                "{} differs from the others",
-                VERSIONS[v].name
-            ),
+            Some(first) => {
+                VERSIONS[v].take_over(&mut left.world, &first.world);
+                assert!(
+                    *left == *first,
+                    "{} differs from the others",
+                    VERSIONS[v].name
+                )
+            }
             None => {
                 *first = Some(Left {
                     answers: left.answers.clone(),

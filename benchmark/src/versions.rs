@@ -2,7 +2,7 @@
 
 use crate::plain;
 use crate::worlds::in_range;
-use reference::{Answer, Call, World};
+use reference::{Answer, Call, Grid, World};
 
 /// Makes a call.
 pub type MakeCall = fn(&mut World, &Call) -> Answer;
@@ -30,11 +30,37 @@ impl Version {
         self.ledger || (!is_later(call) && as_before)
     }
 
-    /// A version without a ledger takes over that of another world, since its own load does not empty it.
-    pub fn take_ledger(&self, world: &mut World, other: &World) {
+    /// What is not compared is taken over from another world: the ledger of a version without one, whose load does not empty it,
+    /// and the amounts of gas of a version with another scale.
+    pub fn take_over(&self, world: &mut World, other: &World) {
         if !self.ledger {
             world.ledger.clone_from(&other.ledger);
         }
+        if self.gas_of_x1() != VERSIONS[0].gas_of_x1() {
+            world.tracers.clone_from(&other.tracers);
+        }
+    }
+
+    /// What the sweep of case x1 leaves, which tells two scales apart: a library from before version 0.6 has another.
+    pub fn gas_of_x1(&self) -> Vec<u32> {
+        let mut world = World {
+            grid: Grid {
+                w: 4,
+                r: 1,
+                k: 1,
+                n: 1,
+            },
+            air: vec![100, 928, 314, 81, 658, 100],
+            tracers: vec![0, 221, 496, 522, 317, 0],
+            ledger: vec![0; plain::BLOCK],
+        };
+        let sweep = Call::Zonal {
+            layer: 0,
+            row: 0,
+            fluxes: vec![421, 462, 475, 229],
+        };
+        self.call(0)(&mut world, &sweep);
+        world.tracers
     }
 }
 

@@ -9,6 +9,7 @@
 //!     compare long-loop [RECORDS]         writes an input of so many records (default 5,000,000)
 
 mod emitters;
+mod gases;
 mod inputs;
 mod ledgers;
 #[rustfmt::skip]
@@ -20,6 +21,7 @@ mod readout;
 mod records;
 mod runner;
 mod situations;
+mod thin;
 mod worlds;
 
 use reference::{Answer, Call, World};
@@ -157,6 +159,7 @@ fn compare_calls(lists: u64) {
     let mut emitters = emitters::Situations::default();
     let mut readout = readout::Situations::default();
     let mut presses = presses::Situations::default();
+    let mut thin = thin::Situations::default();
     for list in 0..lists {
         let size = if list * 10 < lists * 6 {
             0
@@ -188,6 +191,7 @@ fn compare_calls(lists: u64) {
             emitters.add(&world, &call, &after, want);
             readout.add(&world, &call, &after, want);
             presses.add(&world, &call, &after, want);
+            thin.add(&world, &call, &after, want);
             world = after;
             *seen.entry((library::name(&call), want.number)).or_default() += 1;
         }
@@ -200,10 +204,11 @@ fn compare_calls(lists: u64) {
     emitters.print();
     readout.print();
     presses.print();
+    thin.print();
     if lists >= FULL {
         let unmet = long.missing().into_iter().chain(emitters.missing());
-        let unmet = unmet.chain(readout.missing());
-        all_reached(&seen, unmet.chain(presses.missing()));
+        let unmet = unmet.chain(readout.missing()).chain(presses.missing());
+        all_reached(&seen, unmet.chain(thin.missing()));
     }
 }
 

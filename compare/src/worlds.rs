@@ -1,5 +1,6 @@
 //! Seeded worlds and calls: mostly in range, some at and past the limits, some with lists of a wrong length.
 
+use crate::gases;
 use crate::ledgers;
 use reference::{Call, Grid, World};
 
@@ -221,10 +222,11 @@ fn long_exception(random: &mut Random, air: &[u32], turn: i64, fluxes: &mut Vec<
     }
 }
 
-/// A world with any ledger.
+/// A world with any ledger, and often with a thin gas or a packed cell.
 pub fn world_with_ledger(random: &mut Random, grid: Grid) -> World {
     let mut world = world(random, grid);
     ledgers::lend(random, &mut world);
+    gases::lend(random, &mut world);
     world
 }
 
