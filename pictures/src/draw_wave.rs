@@ -2,7 +2,7 @@
 
 use crate::plain;
 use crate::svg::{Anchor, Chart, Point, Svg, SMALL, TITLE, WORDS};
-use crate::wave::{Run, STEPS, W, WAVE};
+use crate::wave::{Run, COURANT, STEPS, W, WAVE};
 
 pub const EXACT: &str = "fill=\"#dedede\" stroke=\"#8c8c8c\" stroke-width=\"1\"";
 pub const LIBRARY: &str = "stroke=\"#0b5fa5\" stroke-width=\"2.6\" stroke-linejoin=\"round\"";
@@ -106,7 +106,12 @@ pub fn draw(run: &Run, numbers: &[String]) -> String {
     let more =
         format!("Courant number 0.5, {STEPS} steps, as in Figure 3 of Lin and others (1994)");
     let (mut svg, chart) = sheet(title, &more, numbers);
-    let compared = |mismatch| curve(&chart, &plain::carried(&run.before, STEPS, mismatch));
+    let compared = |mismatch| {
+        curve(
+            &chart,
+            &plain::carried(&run.before, COURANT, STEPS, mismatch),
+        )
+    };
     svg.line(&compared(plain::upstream), UPSTREAM);
     svg.line(&compared(plain::harmonic), HARMONIC);
     dotted(&mut svg, &chart, &run.after);

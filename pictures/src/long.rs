@@ -1,5 +1,6 @@
 //! The wave again, as many times round the row, by long sweeps and by zonal sweeps of larger Courant numbers.
 
+use crate::plain;
 use crate::progress::Progress;
 use crate::wave::{self, FLUX, STEPS, UNIT, W};
 use crate::world::{Record, Watch, World};
@@ -29,12 +30,7 @@ pub struct Run {
 impl Run {
     /// The part of the gas that is not where the exact result has it, in per cent.
     pub fn misplaced(&self) -> f64 {
-        let total: f64 = self.before.iter().sum();
-        let apart: f64 = (self.before.iter().zip(&self.after))
-            .map(|(before, after)| (before - after).abs())
-            .sum();
-        // What lacks in one cell is too much in another.
-        100.0 * apart / 2.0 / total
+        plain::misplaced(&self.before, &self.after)
     }
 }
 

@@ -1,4 +1,4 @@
-//! Schemes of source 001 in floating point, for a row at Courant number 0.5: only to draw and to compare with.
+//! Schemes of source 001 in floating point, for a row: only to draw and to compare with.
 
 /// The mismatch of a cell from its ratio and those of its neighbours.
 pub type Mismatch = fn(west: f64, own: f64, east: f64) -> f64;
@@ -29,14 +29,13 @@ pub fn monotonic(west: f64, own: f64, east: f64) -> f64 {
     size.copysign(mean)
 }
 
-/// The ratios after so many steps eastward round the row.
-pub fn carried(before: &[f64], steps: u32, mismatch: Mismatch) -> Vec<f64> {
-    const COURANT: f64 = 0.5;
+/// The ratios after so many steps eastward round the row, each of `courant` cells.
+pub fn carried(before: &[f64], courant: f64, steps: u32, mismatch: Mismatch) -> Vec<f64> {
     let w = before.len();
     let mut row = before.to_vec();
     for _ in 0..steps {
         let slope = |i: usize| mismatch(row[(i + w - 1) % w], row[i], row[(i + 1) % w]);
-        let given = |i: usize| COURANT * (row[i] + slope(i) / 2.0 * (1.0 - COURANT));
+        let given = |i: usize| courant * (row[i] + slope(i) / 2.0 * (1.0 - courant));
         let given: Vec<f64> = (0..w).map(given).collect();
         for i in 0..w {
             row[i] += given[(i + w - 1) % w] - given[i];
@@ -55,4 +54,12 @@ pub fn difference(one: &[f64], other: &[f64]) -> f64 {
 
 pub fn greatest(row: &[f64]) -> f64 {
     row.iter().copied().fold(f64::NEG_INFINITY, f64::max)
+}
+
+/// The part of a row's gas that is not where the exact result has it, in per cent; all cells have the same air.
+pub fn misplaced(exact: &[f64], row: &[f64]) -> f64 {
+    let total: f64 = exact.iter().sum();
+    let apart: f64 = (exact.iter().zip(row)).map(|(a, b)| (a - b).abs()).sum();
+    // What lacks in one cell is too much in another.
+    100.0 * apart / 2.0 / total
 }

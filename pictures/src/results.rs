@@ -4,7 +4,9 @@ use crate::hill;
 use crate::long::{self, Sweep};
 use crate::plain;
 use crate::sphere;
+use crate::thin;
 use crate::wave;
+use crate::whole::{EARLIER, NOW};
 use crate::world::Record;
 
 /// What the paper says that it keeps of the hill's peak, in per cent.
@@ -74,7 +76,7 @@ fn lines(record: &Record) -> Vec<String> {
 }
 
 fn wave_lines(run: &wave::Run) -> Vec<String> {
-    let carried = |mismatch| plain::carried(&run.before, wave::STEPS, mismatch);
+    let carried = |mismatch| plain::carried(&run.before, wave::COURANT, wave::STEPS, mismatch);
     let kept = |mismatch| 100.0 * plain::greatest(&carried(mismatch));
     let apart = plain::difference(&run.after, &carried(plain::monotonic));
     let mut lines = lines(&run.record);
@@ -129,8 +131,33 @@ fn hill_lines(run: &hill::Run) -> Vec<String> {
     lines
 }
 
+/// What the scale gives a thin gas, and what it does not.
+fn thin_lines(run: &thin::Run) -> Vec<String> {
+    let ((was, is), record) = (run.slope_kept(), &run.record);
+    let [earlier, now, floating] = run.misplaced();
+    let (before, after) = (grouped(record.total_before), grouped(record.total_after));
+    let (times, richer) = (thin::RICHER, run.richer);
+    vec![
+        format!("slope of the start   {was:.1} % of it at scale {EARLIER}, {is:.1} % at {NOW}"),
+        format!("gas out of its place {earlier:.2} % at scale {EARLIER}, {now:.2} % at {NOW}"),
+        format!("                     {floating:.2} % in floating point, {richer:.2} % with {times} times as many units"),
+        format!("gas total            {before} units before, {after} units after"),
+    ]
+}
+
+/// The same under the picture.
+pub fn thin_caption(run: &thin::Run) -> Vec<String> {
+    let ((was, is), [earlier, now, _]) = (run.slope_kept(), run.misplaced());
+    let (times, richer) = (thin::RICHER, run.richer);
+    vec![
+        format!("Slope that the cells have at the start: {was:.1} % of it at scale {EARLIER}, {is:.1} % at {NOW}."),
+        format!("Gas out of its place once round the row: {earlier:.2} % at scale {EARLIER}, {now:.2} % at {NOW}."),
+        format!("Most of it is that pieces are whole units of gas at any scale: with {times} times as many units {richer:.2} %."),
+    ]
+}
+
 /// The text of results.txt.
-pub fn all(wave: &wave::Run, long: &[long::Run], hill: &hill::Run) -> String {
+pub fn all(wave: &wave::Run, long: &[long::Run], hill: &hill::Run, thin: &thin::Run) -> String {
     let mut text = String::new();
     let wave_heading = format!(
         "Rectangular wave: {} of {} cells, Courant number 0.5, {} steps",
@@ -145,10 +172,17 @@ pub fn all(wave: &wave::Run, long: &[long::Run], hill: &hill::Run) -> String {
         sphere::EASTWARD,
         hill::STEPS
     );
+    let thin_heading = format!(
+        "Thin gas, a hill of {} units: once round {} cells in {} steps",
+        thin::TOP,
+        thin::W,
+        thin::STEPS
+    );
     let parts = [
         (wave_heading, wave_lines(wave)),
         (long_heading, long_lines(long)),
         (hill_heading, hill_lines(hill)),
+        (thin_heading, thin_lines(thin)),
     ];
     for (heading, lines) in parts {
         text.push_str(&format!("{heading}\n"));

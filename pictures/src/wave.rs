@@ -11,6 +11,7 @@ pub const WAVE: std::ops::Range<usize> = 20..30;
 const AIR: u32 = 60_000;
 /// Half of a cell's air passes each face in a step: Courant number 0.5.
 pub const FLUX: i32 = 30_000;
+pub const COURANT: f64 = 0.5;
 /// The units of gas for one unit of air where the wave is 1 high.
 pub const UNIT: u32 = 400;
 
