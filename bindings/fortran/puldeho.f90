@@ -25,7 +25,7 @@ module puldeho
   character(len=*), parameter, public :: puldeho_version = "0.6.0"
 
   ! the scale of ratios, mismatches and pieces: 262144 from version 0.6 on, and 65536 before. Builds whose
-  ! scales differ give other amounts; no call takes it
+  ! scales differ may give other amounts; no call takes it
   integer(c_int32_t), parameter, public :: puldeho_scale = 262144
   ! the most air of a cell; the least is 1
   integer(c_int32_t), parameter, public :: puldeho_air_limit = 65535

@@ -136,11 +136,11 @@ fn thin_lines(run: &thin::Run) -> Vec<String> {
     let ((was, is), record) = (run.slope_kept(), &run.record);
     let [earlier, now, floating] = run.misplaced();
     let (before, after) = (grouped(record.total_before), grouped(record.total_after));
-    let (times, richer) = (thin::RICHER, run.richer);
+    let (times, [richer, exact]) = (thin::RICHER, run.richer);
     vec![
-        format!("slope of the start   {was:.1} % of it at scale {EARLIER}, {is:.1} % at {NOW}"),
-        format!("gas out of its place {earlier:.2} % at scale {EARLIER}, {now:.2} % at {NOW}"),
-        format!("                     {floating:.2} % in floating point, {richer:.2} % with {times} times as many units"),
+        format!("slope at the start   {was:.1} % of the exact one at scale {EARLIER}, {is:.1} % at {NOW}"),
+        format!("gas out of its place {earlier:.2} % at scale {EARLIER}, {now:.2} % at {NOW}, {floating:.2} % in floating point"),
+        format!("                     with {times} times as many units {richer:.2} % at {NOW}, {exact:.2} % in floating point"),
         format!("gas total            {before} units before, {after} units after"),
     ]
 }
@@ -148,9 +148,9 @@ fn thin_lines(run: &thin::Run) -> Vec<String> {
 /// The same under the picture.
 pub fn thin_caption(run: &thin::Run) -> Vec<String> {
     let ((was, is), [earlier, now, _]) = (run.slope_kept(), run.misplaced());
-    let (times, richer) = (thin::RICHER, run.richer);
+    let (times, [richer, _]) = (thin::RICHER, run.richer);
     vec![
-        format!("Slope that the cells have at the start: {was:.1} % of it at scale {EARLIER}, {is:.1} % at {NOW}."),
+        format!("Slope that the cells have at the start: {was:.1} % of the exact one at scale {EARLIER}, {is:.1} % at {NOW}."),
         format!("Gas out of its place once round the row: {earlier:.2} % at scale {EARLIER}, {now:.2} % at {NOW}."),
         format!("Most of it is that pieces are whole units of gas at any scale: with {times} times as many units {richer:.2} %."),
     ]

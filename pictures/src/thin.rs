@@ -26,8 +26,9 @@ pub struct Run {
     pub earlier: Vec<f64>,
     /// The slopes of the cells at the start: without a scale, at the library's, at the earlier one.
     pub slopes: [Vec<f64>; 3],
-    /// The part of the gas out of its place, in per cent, if the hill has so many times as many units.
-    pub richer: f64,
+    /// The part of the gas out of its place, in per cent, if the hill has so many times as many units: in the library, and in
+    /// floating point.
+    pub richer: [f64; 2],
     pub record: Record,
 }
 
@@ -82,6 +83,11 @@ fn exact_slopes(row: &[f64]) -> Vec<f64> {
     (0..W).map(slope).collect()
 }
 
+/// The row once round by constraint (5) in floating point.
+fn floating(row: &[f64]) -> Vec<f64> {
+    plain::carried(row, COURANT, STEPS, plain::monotonic)
+}
+
 impl Run {
     /// The slopes of all cells together, in per cent of those without a scale: at the earlier scale, and now.
     pub fn slope_kept(&self) -> (f64, f64) {
@@ -95,7 +101,7 @@ impl Run {
 
     /// The gas out of its place in per cent: at the earlier scale, now, and in floating point.
     pub fn misplaced(&self) -> [f64; 3] {
-        let floating = plain::carried(&self.before, COURANT, STEPS, plain::monotonic);
+        let floating = floating(&self.before);
         [&self.earlier, &self.after, &floating].map(|row| plain::misplaced(&self.before, row))
     }
 }
@@ -109,6 +115,7 @@ pub fn run() -> Result<Run, Box<dyn Error>> {
     }
     let earlier = row(EARLIER).carried(&start, STEPS);
     let rich = hill(RICHER * TOP);
+    let rich_left = floats(&carried(&rich)?.gas);
     let before = floats(&thin);
     let slopes = [
         exact_slopes(&before),
@@ -120,7 +127,8 @@ pub fn run() -> Result<Run, Box<dyn Error>> {
         after: floats(&left.gas),
         before,
         slopes,
-        richer: plain::misplaced(&floats(&rich), &floats(&carried(&rich)?.gas)),
+        richer: [rich_left, floating(&floats(&rich))]
+            .map(|row| plain::misplaced(&floats(&rich), &row)),
         record: left.record,
     })
 }

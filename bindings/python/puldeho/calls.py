@@ -10,7 +10,7 @@ VERSION = "0.6.0"
 SONAME = "libpuldeho.so.0.6"
 ABI = "puldeho_abi_0_6"
 
-# The scale of ratios, mismatches and pieces: 262144 from version 0.6 on, and 65536 before. Builds whose scales differ give other amounts; no call takes it
+# The scale of ratios, mismatches and pieces: 262144 from version 0.6 on, and 65536 before. Builds whose scales differ may give other amounts; no call takes it
 SCALE = 262144
 # The most air of a cell; the least is 1
 AIR_LIMIT = 65535

@@ -49,7 +49,7 @@ pub(crate) fn same_version() {
 /// The version of the library that this wrapper was made for.
 pub const VERSION: &str = "0.6.0";
 
-/// The scale of ratios, mismatches and pieces: 262144 from version 0.6 on, and 65536 before. Builds whose scales differ give other amounts; no call takes it
+/// The scale of ratios, mismatches and pieces: 262144 from version 0.6 on, and 65536 before. Builds whose scales differ may give other amounts; no call takes it
 pub const SCALE: u32 = 262144;
 /// The most air of a cell; the least is 1
 pub const AIR_LIMIT: u32 = 65535;

@@ -1,4 +1,4 @@
--- Cases y6-1 to y6-29, but y6-21 and y6-22, for document 02, Slip 6: thin gases, the largest numbers, a table's b, the air limit, and the ends of the range, as one table with one theorem about `step`.
+-- Cases y6-1 to y6-30, but y6-21 and y6-22, for document 02, Slip 6: thin gases, the largest numbers, a table's b, the air limit, and the ends of the range, as one table with one theorem about `step`.
 -- Assumes nothing. Numbers that the documents do not give come from the second implementation (reference/cases/thin.txt), whose labels these are; "before" is what the scale 65,536 gave.
 use Prim.Native.Nat.{ℕ}
 use mathlib.Core.List.{List, [], _∷_, _++_}
@@ -80,6 +80,10 @@ thin =
     (sweep (minus 13000) (minus 5500) (pos 12500) (minus 10500)) 1
     (six 100 47500 37500 8000 46000 100)
     (six 0 50 37 9 47 0 ++ six 0 25824167 10181977 3047733 46946123 0) ∷
+    -- at every other power of two from 2^4 to 2^30: 14 12 15 12, or other amounts
+    gives "y6-30" (row (six 100 35216 22646 24863 22686 100) (six 0 19 11 12 11 0)) (sweep (pos 11083) (pos 8270) (pos 2084) (pos 2035)) 1
+    (six 100 26168 25459 31049 22735 100)
+    (six 0 14 13 14 12 0) ∷
     []
 
 pub large : List Case
