@@ -90,7 +90,7 @@ fn agreement(lists: u64) {
         12 * lists
     );
     for version in &VERSIONS[1..] {
-        if version.gas_of_x1() != VERSIONS[0].gas_of_x1() {
+        if !version.has_librarys_scale() {
             println!(
                 "{} has another scale, by case x1; its amounts of gas are not compared.",
                 version.name

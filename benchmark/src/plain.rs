@@ -74,7 +74,7 @@ fn common_places(
     }
     if air
         .iter()
-        .fold(false, |bad, &m| bad | (m == 0) | (m > 65_535))
+        .fold(false, |bad, &m| bad | (m == 0) | (i64::from(m) > MOST_AIR))
     {
         return Err(3);
     }

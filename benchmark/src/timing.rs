@@ -155,6 +155,8 @@ pub fn round(
                     VERSIONS[v].name
                 )
             }
+            // The amounts of gas of another scale are not what the others are held to.
+            None if !VERSIONS[v].has_librarys_scale() => {}
             None => {
                 *first = Some(Left {
                     answers: left.answers.clone(),

@@ -36,13 +36,18 @@ impl Version {
         if !self.ledger {
             world.ledger.clone_from(&other.ledger);
         }
-        if self.gas_of_x1() != VERSIONS[0].gas_of_x1() {
+        if !self.has_librarys_scale() {
             world.tracers.clone_from(&other.tracers);
         }
     }
 
-    /// What the sweep of case x1 leaves, which tells two scales apart: a library from before version 0.6 has another.
-    pub fn gas_of_x1(&self) -> Vec<u32> {
+    /// A library from before version 0.6 has another scale, 65,536.
+    pub fn has_librarys_scale(&self) -> bool {
+        self.gas_of_x1() == VERSIONS[0].gas_of_x1()
+    }
+
+    /// What the sweep of case x1 leaves, which tells the two scales apart.
+    fn gas_of_x1(&self) -> Vec<u32> {
         let mut world = World {
             grid: Grid {
                 w: 4,

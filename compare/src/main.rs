@@ -94,9 +94,10 @@ fn fluxes_of(call: &mut Call) -> &mut [i32] {
     }
 }
 
-/// Replaces numbers of the world and of the call by smaller ones as long as the two still differ.
+/// Replaces numbers of the world and of the call by smaller ones as long as the two still differ, in so many rounds at most: a large
+/// number that can only be made smaller by one would take as many as it has units.
 fn shrink(mut world: World, mut call: Call) -> (World, Call) {
-    loop {
+    for _ in 0..1_000 {
         let mut changed = false;
         for i in 0..numbers(&mut world).count() {
             for y in smaller(*number(&mut world, i)) {
@@ -123,9 +124,10 @@ fn shrink(mut world: World, mut call: Call) -> (World, Call) {
             }
         }
         if !changed {
-            return (world, call);
+            break;
         }
     }
+    (world, call)
 }
 
 /// The world's lists, a line each.

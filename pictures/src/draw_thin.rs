@@ -2,7 +2,7 @@
 
 use crate::draw_wave::curve;
 use crate::svg::{Anchor, Chart, Point, Svg, SMALL, TITLE, WORDS};
-use crate::thin::{Run, COURANT, STEPS, TOP, W};
+use crate::thin::{Run, AIR, COURANT, STEPS, TOP, W};
 use crate::whole::{EARLIER, NOW};
 
 const EXACT: &str = "stroke=\"#9a9a9a\" stroke-width=\"4\"";
@@ -52,7 +52,7 @@ fn legend(svg: &mut Svg, (x, y): Point, exact: &str) {
 /// The picture; `numbers` are the lines under it.
 pub fn draw(run: &Run, numbers: &[String]) -> String {
     let title = "A hill of one unit of gas in a thousand units of air";
-    let more = format!("{W} cells of 60,000 units of air round a row, {TOP} units of gas at the top; above: the slope in each cell at the start");
+    let more = format!("{W} cells of {AIR} units of air round a row, {TOP} units of gas at the top; above: the slope in each cell at the start");
     let height = 790 + 19 * numbers.len() as u32;
     let mut svg = Svg::new(900, height, title, &numbers.join(" "));
     svg.text((32.0, 34.0), Anchor::Start, TITLE, title);

@@ -8,7 +8,7 @@ use std::error::Error;
 use std::f64::consts::TAU;
 
 pub const W: usize = 72;
-const AIR: u32 = 60_000;
+pub const AIR: u32 = 60_000;
 /// The hill's height, in units of gas: a thousandth of a cell's air.
 pub const TOP: u32 = AIR / 1_000;
 const FLUX: i32 = 45_000;

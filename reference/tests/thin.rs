@@ -215,10 +215,15 @@ fn expect_range_end(before: &World, asked: &Call, cell: usize, amounts: (u32, u3
     };
     assert!(counts, "{asked:?} {answer:?}");
     assert_eq!((after.air[cell], after.tracers[cell]), amounts);
+    let mut met = false;
     for written in written(before, &after, asked) {
         written.expect_in_range();
-        assert!(written.cell != cell || !written.within_faces());
+        if written.cell == cell {
+            met = true;
+            assert!(!written.within_faces());
+        }
     }
+    assert!(met, "cell {cell} is not among those written");
 }
 
 #[test]

@@ -1,4 +1,4 @@
--- Cases y1-1 to y1-23 of document 02, Slip 1, as one table with one theorem about `step`, and the answer of y1-24; then its range, computed: a cell that lies across column 0, and that e = 2 is needed in full.
+-- Cases y1-1 to y1-23 of document 02, Slip 1, as one table with one theorem about `step`, and the answer of y1-24; then its range, computed: a cell that lies across column 0, and one that only touches.
 -- Assumes nothing. Numbers that document 02 and the request do not give come from the second implementation (reference/cases/long.txt).
 use Prim.Native.Nat.{ℕ, _+_, _*_, _%_}
 use mathlib.Core.List.{List, [], _∷_, _++_}
@@ -55,7 +55,7 @@ long-sweeps =
     refuses "y1-8 b" peak (long (negℤ (pos 1048561)) (pos 0) (pos 0) (pos 0)) 8 ∷
     refuses "y1-8 c" peak (long (pos 1048560) (pos 0) (pos 0) (pos 0)) 16 ∷
     refuses "y1-8 d" peak (long (pos 0) (pos 0) (pos 0) (negℤ (pos 1048560))) 16 ∷
-    -- the range needs two units
+    -- the range needs more than one unit
     gives "y1-9" (row (six 100 3 536 13 7 100) (six 0 0 535 13 7 0)) (long (pos 0) (pos 1) (pos 0) (pos 0)) 0 (six 100 3 535 14 7 100) (six 0 0 533 15 7 0) ∷
     -- column 0's stretch crosses column 0, to the west
     gives "y1-10" uneven (long (pos 35) (pos 20) (pos 30) (pos 55)) 0 (six 100 110 135 50 105 100) (six 0 96 266 52 101 0) ∷

@@ -1,10 +1,11 @@
--- The quarter of document 02, Slip 6, is needed in a row, in a cap, in a remap and in a long sweep: what is left there, above the range or below it (Cases/Thin), is in range, and without the quarter, with one unit for each face, or one, it is not.
+-- The quarter of document 02, Slip 6, is needed in a row, in a cap, in a remap and in a long sweep: what is left there, above the range or below it (Cases/Thin), is in range, and without the quarter, with one unit for each face, or one, it is not. And it is all: amounts a whole quarter past the units are not in range.
 -- Assumes nothing: all is computed, with `substepInRange`, `layerInRange` and `longCellInRange` as demand 3 has them.
 use Prim.Native.Nat.{ℕ, _*_}
 use mathlib.Core.List.{List, [], _∷_}
 use mathlib.Core.Bool.{Bool, true, false}
 use mathlib.Core.Path.{_≡_, refl}
-use lib.IntN.{ℤ}
+use lib.IntN.{ℤ, pos}
+use lib.ListN.{replicate}
 use Rattle.model.specs.Basic.{at, part}
 use Rattle.model.specs.World.{World, gas}
 use Rattle.model.specs.Scheme.{mismatch}
@@ -14,6 +15,7 @@ use Rattle.model.specs.Long.{longAir, longGas}
 use Rattle.model.specs.Range.{inRange, isNear, isNearLayer, substepInRange, layerInRange, overlaps, isNearOverlap, longCellInRange}
 use Rattle.model.specs.Step.{remap, longZonal, step}
 use Rattle.model.specs.Cases.{computes}
+use Rattle.model.specs.Cases.Marked.{grid}
 use Rattle.model.specs.Cases.Thin.{rowAbove, rowAboveFluxes, rowBelow, rowBelowFluxes, capBelow, capBelowFluxes, columnsAbove, columnsAboveEdges, columnsBelow, columnsBelowEdges, longAbove, longAboveFluxes, longBelow, longBelowFluxes}
 
 -- ---- cell c of a mesh from cell a on, after one substep: that it is allowed, that c is in range, and whether it would be with so many quarters of a unit
@@ -94,3 +96,20 @@ pub long-range-ends :
     × (step longBelow (longZonal 0 0 longBelowFluxes) .answer ≡ 0)
 unfolding longEnds longWithin computes inRange isNear overlaps isNearOverlap longCellInRange
 long-range-ends = (refl, refl, refl, refl)
+
+-- ---- and no more than a quarter: of cells with 4 units of air each, new amounts that are out of range by two units and a quarter, four and a quarter in a cap, and one and a quarter in a remap and a long sweep, from below and from above
+abbrev pub alike : ℕ → List ℕ
+alike T = replicate 6 T
+
+pub quarter-is-all :
+    substepInRange (ring 4) (replicate 4 4) (replicate 4 3) (replicate 4 1) (replicate 4 3) 0 ∷
+    substepInRange (ring 4) (replicate 4 4) (replicate 4 9) (replicate 4 1) (replicate 4 0) 0 ∷
+    substepInRange (layer 4 1) (alike 4) (alike 3) (alike 1) (alike 5) 0 ∷
+    substepInRange (layer 4 1) (alike 4) (alike 17) (alike 1) (alike 0) 5 ∷
+    layerInRange (grid 4 1 1 1) (0 ∷ 0 ∷ 0 ∷ 65536 ∷ []) (alike 4) (alike 3) (alike 1) (alike 2) 1 0 ∷
+    layerInRange (grid 4 1 1 1) (0 ∷ 0 ∷ 0 ∷ 65536 ∷ []) (alike 4) (alike 5) (alike 1) (alike 0) 1 0 ∷
+    longCellInRange 4 (replicate 4 (pos 0)) (replicate 4 4) (replicate 4 3) (replicate 4 1) (replicate 4 2) 0 ∷
+    longCellInRange 4 (replicate 4 (pos 0)) (replicate 4 4) (replicate 4 5) (replicate 4 1) (replicate 4 0) 0 ∷ [] ≡
+    replicate 8 false
+unfolding computes inRange isNear isNearLayer substepInRange layerInRange overlaps isNearOverlap longCellInRange
+quarter-is-all = refl

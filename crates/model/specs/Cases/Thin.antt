@@ -1,4 +1,4 @@
--- Cases y6-1 to y6-30, but y6-21 and y6-22, for document 02, Slip 6: thin gases, the largest numbers, a table's b, the air limit, and the ends of the range, as one table with one theorem about `step`.
+-- Cases y6-1 to y6-32, but y6-21 and y6-22, for document 02, Slip 6: thin gases, the largest numbers, a table's b, the air limit, and the ends of the range, as one table with one theorem about `step`.
 -- Assumes nothing. Numbers that the documents do not give come from the second implementation (reference/cases/thin.txt), whose labels these are; "before" is what the scale 65,536 gave.
 use Prim.Native.Nat.{ℕ}
 use mathlib.Core.List.{List, [], _∷_, _++_}
@@ -84,6 +84,14 @@ thin =
     gives "y6-30" (row (six 100 35216 22646 24863 22686 100) (six 0 19 11 12 11 0)) (sweep (pos 11083) (pos 8270) (pos 2084) (pos 2035)) 1
     (six 100 26168 25459 31049 22735 100)
     (six 0 14 13 14 12 0) ∷
+    -- the last bit of a mismatch: with mismatches cut to even numbers 45 55 50 40
+    gives "y6-31" (row (six 100 53630 52582 40135 45852 100) (six 0 53 51 39 47 0)) (sweep (pos 5000) (pos 0) (minus 11000) (minus 5000)) 1
+    (six 100 43630 57582 51135 39852 100)
+    (six 0 44 55 50 41 0) ∷
+    -- .. 18086581 60663291 11932869 8958850
+    gives "y6-32" (row (six 100 45426 41229 41351 52527 100) (six 0 23758031 51206770 18898165 5778625 0)) (sweep (pos 6000) (minus 7000) (pos 9000) (minus 4000)) 1
+    (six 100 35426 54229 25351 65527 100)
+    (six 0 18086581 60663292 11932868 8958850 0) ∷
     []
 
 pub large : List Case
@@ -110,7 +118,7 @@ large =
     gives "y6-16" (row (six 100 1 65535 2 5 100) (six 0 17129 268418326 0 0 0)) (long (minus 34807) (pos 1) (pos 0) (pos 0)) 0
     (six 100 34808 30727 3 5 100)
     (six 0 209424295 59011159 1 0 0) ∷
-    -- the largest mismatch that a piece shows, 23,456,247,709,696
+    -- a mismatch of 23,456,247,709,696, the largest of which one less would give another piece
     gives "y6-17" (row (six 100 1 2 1 1 100) (six 0 0 89478484 178956971 0 0)) (sweep (pos 0) (pos 1) (pos 0) (pos 0)) 1
     (six 100 1 1 2 1 100)
     (six 0 0 22369621 246065834 0 0) ∷

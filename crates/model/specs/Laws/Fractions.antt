@@ -401,8 +401,8 @@ Bounded n there air gas f M' T' =
     (b : Bool) (H L : ℕ) → ((d : ℕ) → d < n → there d ≡ true → Inside b H L (at air d) (at gas d)) → Near b H L M' T' f
 
 -- ---- document 02's quarter, f + 1/4 in quarters: were it passed, (4·T' − e)/(4·M') or (4·T' + e)/(4·M') would bound the cells there, and 4·M' would be the scale or more
-limit-below-scale : (M : ℕ) → M ≤ airLimit → 4 * M < scale
-limit-below-scale M h = omega arith
+four-limits-below-scale : (M : ℕ) → M ≤ airLimit → 4 * M < scale
+four-limits-below-scale M h = omega arith
 
 quarter-passed : (b : Bool) (M' T' f h : ℕ) → 0 < M' → Apart b h (4 * T') (unitsAndQuarter f) → Near b h (4 * M') M' T' f → scale ≤ 4 * M'
 quarter-passed true M' T' f h hM e near = le-of-mul-le-mul-right (omega (arith, ap (λ (x : ℕ). x * M') e)) hM
@@ -432,7 +432,7 @@ module _ (n : ℕ) (there : ℕ → Bool) (air gas : List ℕ) (c : ℕ) (hc : c
 
     none-bounds : (b : Bool) (h : ℕ) → Apart b h (4 * T') e → ((d : ℕ) → d < n → there d ≡ true → Inside b h (4 * M') (at air d) (at gas d)) → ⊥
     none-bounds b h apart inside =
-        omega (arith, quarter-passed b M' T' f h least apart (bounded b h (4 * M') inside), limit-below-scale M' most)
+        omega (arith, quarter-passed b M' T' f h least apart (bounded b h (4 * M') inside), four-limits-below-scale M' most)
 
     pub in-range : inRange n there air gas (unitsAndQuarter f) M' T' ≡ true
     unfolding inRange
