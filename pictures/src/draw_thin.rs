@@ -64,7 +64,7 @@ pub fn draw(run: &Run, numbers: &[String]) -> String {
         &[-3.0, -2.0, -1.0, 0.0, 1.0, 2.0, 3.0],
         "units of gas from end to end",
     );
-    let [exact, now, earlier] = &run.slopes;
+    let [earlier, now, exact] = &run.slopes;
     for (values, style) in [(exact, EXACT), (earlier, WAS), (now, IS)] {
         svg.line(&steps(&slopes, values), style);
     }

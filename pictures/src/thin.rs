@@ -24,7 +24,7 @@ pub struct Run {
     /// What the library leaves, and what the scheme leaves at the earlier scale.
     pub after: Vec<f64>,
     pub earlier: Vec<f64>,
-    /// The slopes of the cells at the start: without a scale, at the library's, at the earlier one.
+    /// The slopes of the cells at the start: at the earlier scale, at the library's, without a scale.
     pub slopes: [Vec<f64>; 3],
     /// The part of the gas out of its place, in per cent, if the hill has so many times as many units: in the library, and in
     /// floating point.
@@ -92,7 +92,7 @@ impl Run {
     /// The slopes of all cells together, in per cent of those without a scale: at the earlier scale, and now.
     pub fn slope_kept(&self) -> (f64, f64) {
         let sum = |slopes: &[f64]| slopes.iter().map(|slope| slope.abs()).sum::<f64>();
-        let [exact, now, earlier] = &self.slopes;
+        let [earlier, now, exact] = &self.slopes;
         (
             100.0 * sum(earlier) / sum(exact),
             100.0 * sum(now) / sum(exact),
@@ -118,9 +118,9 @@ pub fn run() -> Result<Run, Box<dyn Error>> {
     let rich_left = floats(&carried(&rich)?.gas);
     let before = floats(&thin);
     let slopes = [
-        exact_slopes(&before),
-        row(NOW).slopes(&start),
         row(EARLIER).slopes(&start),
+        row(NOW).slopes(&start),
+        exact_slopes(&before),
     ];
     Ok(Run {
         earlier: earlier.iter().map(|&units| units as f64).collect(),

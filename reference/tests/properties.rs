@@ -265,32 +265,8 @@ fn run_list(random: &mut Random, met: &mut Met, random_world: fn(&mut Random) ->
     }
 }
 
-#[test]
-fn conservation_ratio_and_range_on_random_lists() {
-    let mut random = Random::new(1);
-    let mut met = Met::default();
-    for _ in 0..8_000 {
-        run_list(&mut random, &mut met, random_world);
-    }
-    println!("{met:?}");
-    assert!(met.accepted_sweeps > 5_000);
-    assert!(met.many_substeps > 2_000);
-    assert!(met.accepted_long > 5_000);
-    assert!(met.accepted_counts > 3_000);
-    assert!(met.accepted_presses > 5_000);
-    assert!(met.presses_of_many_substeps > 2_000);
-    assert!(met.wrong_counts > 1_000);
-    assert!(met.accepted_meridional > 5_000);
-    assert!(met.accepted_remaps > 3_000);
-    assert!(met.emitters_added > 5_000);
-    assert!(met.emitters_removed > 200);
-    assert!(met.ticks > 3_000);
-    assert!(met.ratios_kept > 5_000);
-    assert!(met.refused > 5_000);
-}
-
 /// Lists on worlds of this kind; each kind of sweep, and the remap, is accepted often.
-fn run_lists_of(random_world: fn(&mut Random) -> World, seed: u64) {
+fn run_lists_of(random_world: fn(&mut Random) -> World, seed: u64) -> Met {
     let mut random = Random::new(seed);
     let mut met = Met::default();
     for _ in 0..8_000 {
@@ -302,6 +278,23 @@ fn run_lists_of(random_world: fn(&mut Random) -> World, seed: u64) {
     assert!(met.accepted_long > 5_000);
     assert!(met.accepted_meridional > 2_000);
     assert!(met.accepted_remaps > 2_000);
+    met
+}
+
+#[test]
+fn conservation_ratio_and_range_on_random_lists() {
+    let met = run_lists_of(random_world, 1);
+    assert!(met.accepted_counts > 3_000);
+    assert!(met.accepted_presses > 5_000);
+    assert!(met.presses_of_many_substeps > 2_000);
+    assert!(met.wrong_counts > 1_000);
+    assert!(met.accepted_meridional > 5_000);
+    assert!(met.accepted_remaps > 3_000);
+    assert!(met.emitters_added > 5_000);
+    assert!(met.emitters_removed > 200);
+    assert!(met.ticks > 3_000);
+    assert!(met.ratios_kept > 5_000);
+    assert!(met.refused > 5_000);
 }
 
 #[test]
