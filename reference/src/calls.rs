@@ -1,7 +1,7 @@
 //! The calls, each with one answer.
 
 use crate::grid::{Grid, World, MOST_TRACER};
-use crate::{emitters, long, meridional, presses, refusal, remap, zonal};
+use crate::{emitters, ledger, limiter, long, meridional, presses, refusal, remap, zonal};
 
 /// A call with its arguments. A remap's table is one flat list a, b, a, b, ...
 #[derive(Clone, Debug, PartialEq, Eq)]
@@ -68,6 +68,12 @@ pub enum Call {
     UnitsATick {
         tracer: u32,
     },
+    SetLimiter {
+        tracer: u32,
+        limiter: u32,
+        lo: u64,
+        hi: u64,
+    },
 }
 
 /// The refusal's number, or 0 if accepted, and the count.
@@ -95,11 +101,11 @@ fn count_or_refusal(world: &mut World, call: &Call) -> Result<u64, u32> {
     carry_out(world, call)
 }
 
-/// The call from its indices on.
+/// The call from its limiters on, where it tests them, else from its indices on.
 fn carry_out(world: &mut World, call: &Call) -> Result<u64, u32> {
     match call {
         Call::Load => {
-            emitters::leave_none(world);
+            world.ledger = ledger::after_load(&world.grid);
             Ok(0)
         }
         &Call::Emission {
@@ -125,15 +131,29 @@ fn carry_out(world: &mut World, call: &Call) -> Result<u64, u32> {
         Call::Remap { table } => remap::remap(world, table),
         &Call::Total { tracer } => total(world, tracer),
         &Call::Cell { tracer, cell } => cell_amount(world, tracer, cell),
-        &Call::AddEmitter {
+        _ => carry_out_on_ledger(world, call),
+    }
+}
+
+/// The calls on the emitters, and the one that sets a limiter.
+fn carry_out_on_ledger(world: &mut World, call: &Call) -> Result<u64, u32> {
+    match *call {
+        Call::AddEmitter {
             tracer,
             cell,
             id,
             units,
         } => emitters::add(world, tracer, [cell, id, units]),
-        &Call::RemoveEmitter { tracer, id } => emitters::remove(world, tracer, id),
-        &Call::Tick { tracer } => emitters::tick(world, tracer),
-        &Call::UnitsATick { tracer } => emitters::units_a_tick(world, tracer),
+        Call::RemoveEmitter { tracer, id } => emitters::remove(world, tracer, id),
+        Call::Tick { tracer } => emitters::tick(world, tracer),
+        Call::UnitsATick { tracer } => emitters::units_a_tick(world, tracer),
+        Call::SetLimiter {
+            tracer,
+            limiter,
+            lo,
+            hi,
+        } => limiter::set(world, tracer, limiter, lo, hi),
+        _ => unreachable!("the other calls have been tried"),
     }
 }
 
@@ -151,7 +171,7 @@ fn check_lengths(world: &World, call: &Call) -> Result<(), u32> {
     };
     let good = world.air.len() == grid.cells()
         && world.tracers.len() == grid.tracer_amounts()
-        && world.ledger.len() == grid.ledger_numbers()
+        && world.ledger.len() == ledger::numbers(grid)
         && arguments;
     good.then_some(()).ok_or(refusal::LENGTH)
 }

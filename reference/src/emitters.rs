@@ -1,9 +1,9 @@
-//! "Stacks that start and stop": the standing emitters of document 02, and the ledger that has
-//! them. Where each number of the ledger stands is the project's decision, not the document's.
+//! "Stacks that start and stop": the standing emitters of document 02, and their numbers in a
+//! tracer's block of the ledger (ledger.rs).
 
 use crate::calls::check_indices;
 use crate::grid::{Grid, World, MOST_TRACER};
-use crate::refusal;
+use crate::{ledger, refusal};
 
 /// "Keep up to 16 standing emitters for each tracer"
 const MOST_EMITTERS: usize = 16;
@@ -12,8 +12,8 @@ const EMITTER_NUMBERS: usize = 3;
 /// Where a block's emitters start: after how many stand, and the low and the high 32 bits of
 /// their units a tick.
 const FIRST_EMITTER: usize = 3;
-/// A tracer's block of the ledger.
-pub(crate) const BLOCK: usize = FIRST_EMITTER + MOST_EMITTERS * EMITTER_NUMBERS;
+/// The emitters' numbers in a block of the ledger, its first ones.
+pub(crate) const NUMBERS: usize = FIRST_EMITTER + MOST_EMITTERS * EMITTER_NUMBERS;
 
 /// "cell and units a tick", "under an id of 32 bits"
 #[derive(Clone, Copy)]
@@ -68,7 +68,7 @@ fn standing(grid: &Grid, block: &[u32]) -> Result<Vec<Emitter>, u32> {
 
 /// The standing emitters of a tracer, where the record of every tracer is good.
 fn record(world: &World, tracer: usize) -> Result<Vec<Emitter>, u32> {
-    let blocks = world.ledger.chunks(BLOCK);
+    let blocks = ledger::blocks(world);
     let records: Result<Vec<_>, u32> = blocks.map(|block| standing(&world.grid, block)).collect();
     Ok(records?.swap_remove(tracer))
 }
@@ -76,7 +76,7 @@ fn record(world: &World, tracer: usize) -> Result<Vec<Emitter>, u32> {
 /// Puts a tracer's emitters in its block: how many stand, their units a tick, "kept up to date",
 /// each emitter, and 0 where one stood and none stands now. Numbers after these stay.
 fn put(world: &mut World, tracer: usize, emitters: &[Emitter]) {
-    let block = &mut world.ledger[tracer * BLOCK..(tracer + 1) * BLOCK];
+    let block = ledger::block_mut(world, tracer);
     for i in emitters.len()..block[0] as usize {
         block[place(i)].fill(0);
     }
@@ -131,10 +131,5 @@ pub fn tick(world: &mut World, tracer: u32) -> Result<u64, u32> {
 pub fn units_a_tick(world: &World, tracer: u32) -> Result<u64, u32> {
     let tracer = Grid::present(tracer, world.grid.n as usize)?;
     record(world, tracer)?;
-    Ok(kept_sum(&world.ledger[tracer * BLOCK..]))
-}
-
-/// "A load leaves none standing, and doesn't test the old ones."
-pub fn leave_none(world: &mut World) {
-    world.ledger.fill(0);
+    Ok(kept_sum(ledger::block(world, tracer)))
 }

@@ -1,6 +1,6 @@
 //! The grid, the world, and the checks that every call makes (refusals 1, 3 and 4).
 
-use crate::{emitters, refusal};
+use crate::refusal;
 
 /// "A cell holds M units of air (1 to 65,535)"; "the air limit keeps 65,535" (document 02).
 pub(crate) const MOST_AIR: i64 = 65_535;
@@ -18,7 +18,7 @@ pub struct Grid {
 }
 
 /// A grid with lent air, tracers and ledger, raw: any lengths, any numbers. The ledger has each
-/// tracer's emitters (emitters.rs).
+/// tracer's emitters and its limiter (ledger.rs).
 #[derive(Clone, Debug, PartialEq, Eq)]
 pub struct World {
     pub grid: Grid,
@@ -67,11 +67,6 @@ impl Grid {
     /// N·K·C, the amounts of all tracers.
     pub(crate) fn tracer_amounts(&self) -> usize {
         self.n as usize * self.cells()
-    }
-
-    /// N blocks, the emitters of all tracers.
-    pub(crate) fn ledger_numbers(&self) -> usize {
-        self.n as usize * emitters::BLOCK
     }
 
     /// Zonal: "W signed fluxes".

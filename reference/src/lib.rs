@@ -1,12 +1,14 @@
 //! A second implementation of document 01, the tracer console's transport core,
 //! and of the requests of document 02 that have landed, written from their texts; of the walk
 //! (walk.rs) README.md says what else was known. Quotes in the comments are sentences of
-//! document 01, in scheme.rs, grid.rs, long.rs, emitters.rs, walk.rs, readout.rs, presses.rs and
-//! remap.rs of both.
+//! document 01, in scheme.rs, grid.rs, long.rs, emitters.rs, walk.rs, readout.rs, presses.rs,
+//! remap.rs, ledger.rs and limiter.rs of both.
 
 mod calls;
 mod emitters;
 mod grid;
+mod ledger;
+mod limiter;
 mod long;
 mod meridional;
 mod presses;
@@ -22,4 +24,5 @@ mod zonal;
 
 pub use calls::{call, Answer, Call};
 pub use grid::{Grid, World};
+pub use limiter::Limiter;
 pub use remap::tracer_above_edges;

@@ -1,6 +1,7 @@
 //! "Fast rows near the caps": document 02's long zonal sweep of one row in one layer.
 
 use crate::grid::{signed, write, World, MOST_AIR};
+use crate::limiter::{self, Limiter};
 use crate::refusal;
 use crate::scheme::{mismatch, piece_from_low_end, ratio};
 use crate::zonal::row_of;
@@ -13,11 +14,11 @@ struct Line<'a> {
 }
 
 impl<'a> Line<'a> {
-    fn new(air: &'a [i64], tracer: &'a [i64]) -> Line<'a> {
+    fn new(limiter: &Limiter, air: &'a [i64], tracer: &'a [i64]) -> Line<'a> {
         Line {
             air,
             tracer,
-            mismatches: ring_mismatches(air, tracer),
+            mismatches: ring_mismatches(limiter, air, tracer),
         }
     }
 
@@ -44,12 +45,14 @@ impl<'a> Line<'a> {
 }
 
 /// Each cell's mismatch with its neighbours in the ring. "High side is east."
-fn ring_mismatches(air: &[i64], tracer: &[i64]) -> Vec<i64> {
+fn ring_mismatches(limiter: &Limiter, air: &[i64], tracer: &[i64]) -> Vec<i64> {
     let columns = air.len();
     let ratio_of = |i: usize| ratio(air[i % columns], tracer[i % columns]);
-    (0..columns)
-        .map(|i| mismatch(ratio_of(i + columns - 1), ratio_of(i), ratio_of(i + 1)))
-        .collect()
+    let of_cell = |i: usize| {
+        let (west, east) = (ratio_of(i + columns - 1), ratio_of(i + 1));
+        mismatch(limiter, west, ratio_of(i), east)
+    };
+    (0..columns).map(of_cell).collect()
 }
 
 /// The faces from the west of column 0 to the east of the last column, which is the same face a
@@ -66,8 +69,8 @@ fn faces(air: &[i64], fluxes: &[i64]) -> Vec<(i64, i64)> {
 
 /// "The face's new mark is G(x − F), for its flux F. A cell's tracer is its east mark less its
 /// west mark, counting the turn at column 0."
-fn tracer_after(air: &[i64], tracer: &[i64], faces: &[(i64, i64)]) -> Vec<i64> {
-    let line = Line::new(air, tracer);
+fn tracer_after(limiter: &Limiter, air: &[i64], tracer: &[i64], faces: &[(i64, i64)]) -> Vec<i64> {
+    let line = Line::new(limiter, air, tracer);
     let mark = |&(x, flux): &(i64, i64)| line.carried_round(x - flux);
     faces
         .windows(2)
@@ -97,18 +100,18 @@ fn check(air: &[i64], fluxes: &[i64]) -> Result<(), u32> {
     Ok(())
 }
 
-/// The sweep, from the check of its indices on. It writes that row's cells in its layer only.
+/// The sweep, from the check of the limiters on. It writes that row's cells in its layer only.
 /// "Counts not named are 0."
 pub fn sweep(world: &mut World, layer: u32, row: u32, fluxes: &[i32]) -> Result<u64, u32> {
-    let grid = world.grid;
-    let (cells, fluxes) = row_of(grid, layer, row, fluxes)?;
+    let limiters = limiter::of_tracers(world)?;
+    let (cells, fluxes) = row_of(world.grid, layer, row, fluxes)?;
     let air = signed(&world.air[cells.clone()]);
     check(&air, &fluxes)?;
 
     let faces = faces(&air, &fluxes);
-    for t in 0..grid.n as usize {
+    for (t, limiter) in limiters.iter().enumerate() {
         let tracer = signed(&world.tracer(t)[cells.clone()]);
-        let after = tracer_after(&air, &tracer, &faces);
+        let after = tracer_after(limiter, &air, &tracer, &faces);
         write(&mut world.tracer_mut(t)[cells.clone()], &after);
     }
     write(&mut world.air[cells], &air_after(&air, &fluxes));

@@ -1,6 +1,7 @@
 //! "Meridional sweep of one layer."
 
 use crate::grid::{signed, write, Grid, World};
+use crate::limiter;
 use crate::refusal;
 use crate::substep::{Face, Neighbours, Region};
 
@@ -49,10 +50,11 @@ fn region(grid: &Grid) -> Region {
     }
 }
 
-/// The sweep, from the check of its indices on. "It is one substep under the same rules, with
+/// The sweep, from the check of the limiters on. "It is one substep under the same rules, with
 /// count 1".
 pub fn sweep(world: &mut World, layer: u32, fluxes: &[i32]) -> Result<u64, u32> {
     let grid = world.grid;
+    let limiters = limiter::of_tracers(world)?;
     let layer = Grid::present(layer, grid.layers())?;
     if fluxes.iter().any(|flux| flux.unsigned_abs() > MOST_FLUX) {
         return Err(refusal::FLUX);
@@ -65,9 +67,9 @@ pub fn sweep(world: &mut World, layer: u32, fluxes: &[i32]) -> Result<u64, u32> 
     if !region.allowed(&air, &fluxes) {
         return Err(refusal::MERIDIONAL);
     }
-    for t in 0..grid.n as usize {
+    for (t, limiter) in limiters.iter().enumerate() {
         let tracer = signed(&world.tracer(t)[cells.clone()]);
-        let after = region.tracer_after(&air, &tracer, &fluxes);
+        let after = region.tracer_after(limiter, &air, &tracer, &fluxes);
         write(&mut world.tracer_mut(t)[cells.clone()], &after);
     }
     write(

@@ -42,3 +42,5 @@ pub const NO_PLACE: u32 = 18;
 pub const NO_EMITTER: u32 = 19;
 /// "20 when the given count differs from the smallest that serves" (document 02)
 pub const COUNT: u32 = 20;
+/// "21 when a tracer's limiter is unknown or its lo exceeds its hi" (document 02)
+pub const LIMITER: u32 = 21;

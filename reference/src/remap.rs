@@ -1,6 +1,7 @@
 //! "Remap of all columns."
 
 use crate::grid::{amount_of, World, MOST_AIR};
+use crate::limiter::{self, Limiter};
 use crate::readout;
 use crate::refusal;
 use crate::scheme::{mismatch, piece_from_low_end, ratio};
@@ -68,15 +69,16 @@ fn places(air: &[i64], edges: &[i64]) -> Vec<Place> {
 }
 
 /// Each layer's mismatch in a column. "High side is down." "Caps (in a remap too), and the top
-/// and bottom layers in a remap, have D = 0."
-pub(crate) fn mismatches(air: &[i64], tracer: &[i64], is_cap: bool) -> Vec<i64> {
+/// and bottom layers in a remap, have D = 0." "caps and end layers keep D = 0" (document 02), under
+/// every limiter.
+pub(crate) fn mismatches(limiter: &Limiter, air: &[i64], tracer: &[i64], is_cap: bool) -> Vec<i64> {
     let mut mismatches = vec![0; air.len()];
     if is_cap {
         return mismatches;
     }
     let ratios: Vec<i64> = air.iter().zip(tracer).map(|(&m, &t)| ratio(m, t)).collect();
     for (k, three) in ratios.windows(3).enumerate() {
-        mismatches[k + 1] = mismatch(three[0], three[1], three[2]);
+        mismatches[k + 1] = mismatch(limiter, three[0], three[1], three[2]);
     }
     mismatches
 }
@@ -92,8 +94,14 @@ fn whole_layers(tracer: &[i64]) -> Vec<i64> {
 
 /// G at each place: "Let G(x) be the tracer in the x units of air from the top: whole layers,
 /// then a low-end piece."
-fn tracer_from_top(air: &[i64], tracer: &[i64], is_cap: bool, places: &[Place]) -> Vec<i64> {
-    let mismatches = mismatches(air, tracer, is_cap);
+fn tracer_from_top(
+    limiter: &Limiter,
+    air: &[i64],
+    tracer: &[i64],
+    is_cap: bool,
+    places: &[Place],
+) -> Vec<i64> {
+    let mismatches = mismatches(limiter, air, tracer, is_cap);
     let whole_layers = whole_layers(tracer);
     let at = |place: &Place| {
         let k = place.whole;
@@ -108,8 +116,14 @@ fn tracer_from_top(air: &[i64], tracer: &[i64], is_cap: bool, places: &[Place]) 
 }
 
 /// G at each edge of one column. The edges rise from 0 to the column's air sum.
-pub fn tracer_above_edges(air: &[i64], tracer: &[i64], is_cap: bool, edges: &[i64]) -> Vec<i64> {
-    tracer_from_top(air, tracer, is_cap, &places(air, edges))
+pub fn tracer_above_edges(
+    limiter: &Limiter,
+    air: &[i64],
+    tracer: &[i64],
+    is_cap: bool,
+    edges: &[i64],
+) -> Vec<i64> {
+    tracer_from_top(limiter, air, tracer, is_cap, &places(air, edges))
 }
 
 /// "A column is one cell place through all K layers": its amounts.
@@ -129,11 +143,12 @@ fn write_differences(amounts: &mut [u32], cell: usize, layer_cells: usize, at_ed
     }
 }
 
-/// The remap, from the check of its table on. Its count is document 02's (readout.rs), "summed
+/// The remap, from the check of the limiters on. Its count is document 02's (readout.rs), "summed
 /// over columns".
 pub fn remap(world: &mut World, table: &[u32]) -> Result<u64, u32> {
     let grid = world.grid;
     let layer_cells = grid.layer_cells();
+    let limiters = limiter::of_tracers(world)?;
     check_table(table)?;
     for cell in 0..layer_cells {
         let p = column(&world.air, cell, layer_cells).iter().sum();
@@ -146,9 +161,9 @@ pub fn remap(world: &mut World, table: &[u32]) -> Result<u64, u32> {
         let edges = edges(table, air.iter().sum());
         count += readout::count(&air, &edges);
         let places = places(&air, &edges);
-        for t in 0..grid.n as usize {
+        for (t, limiter) in limiters.iter().enumerate() {
             let tracer = column(world.tracer(t), cell, layer_cells);
-            let at_edges = tracer_from_top(&air, &tracer, grid.is_cap(cell), &places);
+            let at_edges = tracer_from_top(limiter, &air, &tracer, grid.is_cap(cell), &places);
             write_differences(world.tracer_mut(t), cell, layer_cells, &at_edges);
         }
         write_differences(&mut world.air, cell, layer_cells, &edges);

@@ -1,6 +1,6 @@
 //! "The runner program."
 
-use crate::{call, refusal, Answer, Call, Grid, World};
+use crate::{call, ledger, refusal, Answer, Call, Grid, World};
 
 /// What the records so far have set up.
 enum State {
@@ -115,7 +115,7 @@ fn load(state: &mut State, grid: Grid, body: &[u8]) -> Answer {
         grid,
         air: air.to_vec(),
         tracers: tracers.to_vec(),
-        ledger: vec![0; grid.ledger_numbers()],
+        ledger: vec![0; ledger::numbers(&grid)],
     };
     let answer = call(&mut world, &Call::Load);
     *state = if answer.number == 0 {

@@ -1,6 +1,8 @@
 //! "Ratio, mismatch, piece", and the parts of a flux.
 //! The functions are for air of at least 1 and amounts of a checked world.
 
+use crate::limiter::Limiter;
+
 /// "262,144 wherever document 01 has 65,536 as the scale of the ratio, the mismatch and the
 /// piece" (document 02). Where document 01 is quoted below, it has 65,536 for it.
 pub const SCALE: i64 = 262_144;
@@ -22,13 +24,13 @@ pub fn ratio(air: i64, tracer: i64) -> i64 {
 
 /// "Mismatch D of a cell with a neighbour on its low side (qa) and on its high side (qb):
 /// size = the smallest of |qb − qa|/2 rounded down, 2(q − least of the three),
-/// 2(greatest of the three − q); sign = that of qb − qa." It is in the ratios' scale.
-pub fn mismatch(qa: i64, q: i64, qb: i64) -> i64 {
-    let least = qa.min(q).min(qb);
-    let greatest = qa.max(q).max(qb);
-    let size = ((qb - qa).abs() / 2)
-        .min(2 * (q - least))
-        .min(2 * (greatest - q));
+/// 2(greatest of the three − q); sign = that of qb − qa." What stands beside |qb − qa|/2 is for
+/// the first limiter; the others have their own (limiter.rs). "The same sign rule is used". It is
+/// in the ratios' scale.
+pub fn mismatch(limiter: &Limiter, qa: i64, q: i64, qb: i64) -> i64 {
+    let half = (qb - qa).abs() / 2;
+    let size = i128::from(half).min(limiter.bound(qa, q, qb));
+    let size = i64::try_from(size).expect("a size is at most half a difference of ratios");
     size * (qb - qa).signum()
 }
 

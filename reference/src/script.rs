@@ -2,7 +2,7 @@
 
 use crate::readout::{self, Pair};
 use crate::walk::{self, State};
-use crate::{call, Call, Grid, World};
+use crate::{call, ledger, Call, Grid, Limiter, World};
 use std::str::FromStr;
 
 /// What is wrong with a line `walk` or `pairs` if no remap accepts such a column.
@@ -54,7 +54,7 @@ fn run_line(world: &mut World, line: &str) -> Result<String, String> {
     match name {
         "grid" => {
             world.grid = read_grid(arguments)?;
-            world.ledger = empty_ledger(&world.grid);
+            world.ledger = ledger_of(&world.grid);
         }
         "air" => world.air = numbers(arguments)?,
         "tracers" => world.tracers = numbers(arguments)?,
@@ -77,13 +77,14 @@ fn run_line(world: &mut World, line: &str) -> Result<String, String> {
     Ok(String::new())
 }
 
-/// The walk down one column, whose layers are the lists of the lines `air` and `tracers`: its number
-/// of steps, then a line for each state.
+/// The walk down one column, whose layers are the lists of the lines `air` and `tracers`, under the
+/// first limiter: its number of steps, then a line for each state.
 fn walk_lines(world: &World, arguments: &[&str]) -> Result<String, String> {
     let numbers: Vec<u32> = numbers(arguments)?;
     let states = match numbers.split_first() {
         Some((&cap @ (0 | 1), table)) => {
-            walk::states_by_table(&world.air, &world.tracers, cap == 1, table)
+            let limiter = Limiter::Present;
+            walk::states_by_table(&limiter, &world.air, &world.tracers, cap == 1, table)
         }
         _ => None,
     };
@@ -119,10 +120,14 @@ fn read_grid(arguments: &[&str]) -> Result<Grid, String> {
     Ok(Grid { w, r, k, n })
 }
 
-/// A ledger in which no emitter stands; an empty list where no call accepts the grid's N.
-fn empty_ledger(grid: &Grid) -> Vec<u32> {
-    let fits = grid.n <= 8;
-    vec![0; if fits { grid.ledger_numbers() } else { 0 }]
+/// The ledger as an accepted load leaves it: no emitter stands, and every tracer has the first
+/// limiter; an empty list where no call accepts the grid's N.
+fn ledger_of(grid: &Grid) -> Vec<u32> {
+    if grid.n <= 8 {
+        ledger::after_load(grid)
+    } else {
+        Vec::new()
+    }
 }
 
 fn read_call(name: &str, arguments: &[&str]) -> Result<Call, String> {
@@ -218,7 +223,23 @@ fn read_emitter_call(name: &str, arguments: &[&str]) -> Result<Call, String> {
             let [tracer] = fixed(arguments)?;
             Call::UnitsATick { tracer }
         }
-        _ => return Err(format!("unknown word '{name}'")),
+        _ => return read_set_limiter(name, arguments),
+    })
+}
+
+/// The call of document 02's seventh request.
+fn read_set_limiter(name: &str, arguments: &[&str]) -> Result<Call, String> {
+    if name != "set_limiter" {
+        return Err(format!("unknown word '{name}'"));
+    }
+    let [tracer, limiter, lo, hi] = fixed_words(arguments)?;
+    let [tracer, limiter] = fixed(&[tracer, limiter])?;
+    let [lo, hi] = fixed_numbers(&[lo, hi])?;
+    Ok(Call::SetLimiter {
+        tracer,
+        limiter,
+        lo,
+        hi,
     })
 }
 
@@ -228,11 +249,22 @@ fn numbers<T: FromStr>(words: &[&str]) -> Result<Vec<T>, String> {
     words.iter().map(number).collect()
 }
 
-/// Exactly L unsigned numbers.
-fn fixed<const L: usize>(words: &[&str]) -> Result<[u32; L], String> {
+/// Exactly L words.
+fn fixed_words<'a, const L: usize>(words: &[&'a str]) -> Result<[&'a str; L], String> {
     let found = words.len();
-    <[u32; L]>::try_from(numbers(words)?)
+    <[&str; L]>::try_from(words).map_err(|_| format!("{L} numbers are expected and {found} found"))
+}
+
+/// Exactly L numbers.
+fn fixed_numbers<T: FromStr, const L: usize>(words: &[&str]) -> Result<[T; L], String> {
+    let found = words.len();
+    <[T; L]>::try_from(numbers(words)?)
         .map_err(|_| format!("{L} numbers are expected and {found} found"))
+}
+
+/// Exactly L unsigned numbers of 32 bits.
+fn fixed<const L: usize>(words: &[&str]) -> Result<[u32; L], String> {
+    fixed_numbers(words)
 }
 
 /// Exactly L unsigned numbers and then any number of fluxes.

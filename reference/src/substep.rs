@@ -1,6 +1,7 @@
 //! One substep over the cells of a row or of a layer.
 
 use crate::grid::MOST_AIR;
+use crate::limiter::Limiter;
 use crate::scheme::{mismatch, piece_from_high_end, piece_from_low_end, ratio};
 
 /// A face between two cells. A positive flux goes from the low to the high cell.
@@ -62,11 +63,12 @@ impl Region {
             && after.iter().all(|air| (1..=MOST_AIR).contains(air))
     }
 
-    /// Each cell's mismatch. "Caps [...] have D = 0."
-    fn mismatches(&self, air: &[i64], tracer: &[i64]) -> Vec<i64> {
+    /// Each cell's mismatch. "Caps [...] have D = 0." "caps and end layers keep D = 0" (document
+    /// 02), under every limiter.
+    fn mismatches(&self, limiter: &Limiter, air: &[i64], tracer: &[i64]) -> Vec<i64> {
         let ratios: Vec<i64> = air.iter().zip(tracer).map(|(&m, &t)| ratio(m, t)).collect();
         let of_cell = |(cell, neighbours): (usize, &Option<Neighbours>)| match neighbours {
-            Some(near) => mismatch(ratios[near.low], ratios[cell], ratios[near.high]),
+            Some(near) => mismatch(limiter, ratios[near.low], ratios[cell], ratios[near.high]),
             None => 0,
         };
         self.neighbours.iter().enumerate().map(of_cell).collect()
@@ -74,9 +76,16 @@ impl Region {
 
     /// One tracer after an allowed substep: "In each substep all pieces are taken from the
     /// amounts before it, an eastward one from the giver's high end, a westward one from the
-    /// low end, then added to the receivers."
-    pub fn tracer_after(&self, air: &[i64], tracer: &[i64], fluxes: &[i64]) -> Vec<i64> {
-        let mismatches = self.mismatches(air, tracer);
+    /// low end, then added to the receivers." "Pieces now take the limiter with the cell, and
+    /// every caller hands it on."
+    pub fn tracer_after(
+        &self,
+        limiter: &Limiter,
+        air: &[i64],
+        tracer: &[i64],
+        fluxes: &[i64],
+    ) -> Vec<i64> {
+        let mismatches = self.mismatches(limiter, air, tracer);
         let mut after = tracer.to_vec();
         for (face, &flux) in self.faces.iter().zip(fluxes) {
             let (low, high) = (face.low, face.high);

@@ -2,6 +2,7 @@
 //! (remap.rs) doesn't use it; the tests compare the two.
 
 use crate::grid::{signed, sum, MOST_AIR, MOST_TRACER};
+use crate::limiter::Limiter;
 use crate::remap::{column_edges, mismatches};
 use crate::scheme::piece_from_low_end;
 
@@ -13,11 +14,11 @@ pub struct Column {
 }
 
 impl Column {
-    pub fn new(air: &[i64], tracer: &[i64], is_cap: bool) -> Column {
+    pub fn new(limiter: &Limiter, air: &[i64], tracer: &[i64], is_cap: bool) -> Column {
         Column {
             air: air.to_vec(),
             tracer: tracer.to_vec(),
-            mismatches: mismatches(air, tracer, is_cap),
+            mismatches: mismatches(limiter, air, tracer, is_cap),
         }
     }
 
@@ -90,6 +91,7 @@ pub fn steps(states: &[State]) -> usize {
 
 /// The states for a column's lists and a table; none if no remap accepts such a column.
 pub fn states_by_table(
+    limiter: &Limiter,
     air: &[u32],
     tracer: &[u32],
     is_cap: bool,
@@ -102,5 +104,6 @@ pub fn states_by_table(
         return None;
     }
     let edges = column_edges(table, layers.iter().sum()).ok()?;
-    Some(states(&Column::new(&layers, &amounts, is_cap), &edges))
+    let column = Column::new(limiter, &layers, &amounts, is_cap);
+    Some(states(&column, &edges))
 }

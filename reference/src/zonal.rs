@@ -1,6 +1,7 @@
 //! "Zonal sweep of one row in one layer."
 
 use crate::grid::{signed, write, Grid, World};
+use crate::limiter::{self, Limiter};
 use crate::refusal;
 use crate::scheme::parts;
 use crate::substep::{Face, Neighbours, Region};
@@ -67,21 +68,24 @@ pub(crate) fn row_of(grid: Grid, layer: u32, row: u32, fluxes: &[i32]) -> Result
     Ok((grid.row_range(layer, row), fluxes))
 }
 
-/// A sweep that no place refuses, before it is made: its row's cells, its fluxes, and the smallest
-/// count that serves.
+/// A sweep that no place refuses, before it is made: the tracers' limiters, its row's cells, its
+/// fluxes, and the smallest count that serves.
 pub(crate) struct Ready {
+    limiters: Vec<Limiter>,
     cells: Range<usize>,
     fluxes: Vec<i64>,
     pub smallest: u32,
 }
 
-/// The sweep made ready, from the check of its indices on, or refusal 5, 8 or 9.
+/// The sweep made ready, from the check of the limiters on, or refusal 21, 5, 8 or 9.
 pub(crate) fn ready(world: &World, layer: u32, row: u32, fluxes: &[i32]) -> Result<Ready, u32> {
     let grid = world.grid;
+    let limiters = limiter::of_tracers(world)?;
     let (cells, fluxes) = row_of(grid, layer, row, fluxes)?;
     let air = signed(&world.air[cells.clone()]);
     let smallest = smallest_count(&region(grid.columns()), &air, &fluxes)?;
     Ok(Ready {
+        limiters,
         cells,
         fluxes,
         smallest,
@@ -91,7 +95,12 @@ pub(crate) fn ready(world: &World, layer: u32, row: u32, fluxes: &[i32]) -> Resu
 /// The n substeps of a sweep, one after another, for an n that serves. "The sweep writes only that
 /// row's cells inside its layer, in the air and in all tracers".
 pub(crate) fn carry_out(world: &mut World, ready: &Ready, n: u32) {
-    let Ready { cells, fluxes, .. } = ready;
+    let Ready {
+        limiters,
+        cells,
+        fluxes,
+        ..
+    } = ready;
     let region = region(world.grid.columns());
     let mut air = signed(&world.air[cells.clone()]);
     let mut tracers: Vec<Vec<i64>> = (0..world.grid.n as usize)
@@ -99,8 +108,8 @@ pub(crate) fn carry_out(world: &mut World, ready: &Ready, n: u32) {
         .collect();
     for s in 1..=n {
         let part = parts(fluxes, i64::from(s), i64::from(n));
-        for tracer in &mut tracers {
-            *tracer = region.tracer_after(&air, tracer, &part);
+        for (tracer, limiter) in tracers.iter_mut().zip(limiters) {
+            *tracer = region.tracer_after(limiter, &air, tracer, &part);
         }
         air = region.air_after(&air, &part);
     }

@@ -4,7 +4,7 @@ mod common;
 use common::*;
 use reference::{call, script, Call, World};
 
-/// Grid 4, 1, 1, 2 with air 100, 6 cells, and blocks of the ledger at 0 and 51.
+/// Grid 4, 1, 1, 2 with air 100, 6 cells, and blocks of the ledger at 0 and 56.
 fn small_world() -> World {
     even_world(grid(4, 1, 1, 2), 100)
 }
@@ -18,11 +18,13 @@ fn with_emitters(world: &World, tracer: u32, emitters: &[[u32; 3]]) -> World {
     world
 }
 
-/// The first numbers of a tracer's block; the rest of it must be 0.
+/// The first numbers of a tracer's block; the rest of its emitters' must be 0, and its limiter is
+/// that of a load.
 fn expect_block(world: &World, tracer: usize, numbers: &[u32]) {
     let mut block = numbers.to_vec();
     block.resize(51, 0);
-    assert_eq!(world.ledger[51 * tracer..51 * (tracer + 1)], block);
+    block.extend([1, 0, 0, 0, 0]);
+    assert_eq!(world.ledger[BLOCK * tracer..BLOCK * (tracer + 1)], block);
 }
 
 /// 16 emitters, ids 100 to 115.
@@ -47,11 +49,11 @@ fn sixteen_stand_and_a_place_is_used_again() {
     expect_accepted(&world, &add_emitter(0, 0, 1, 0), 0);
     world = expect_accepted(&world, &remove_emitter(1, 104), 0);
     // The last one, 115 in cell 3, stands in the fifth place; 0 is over the place that it left.
-    assert_eq!(world.ledger[51 + 3 + 12..51 + 3 + 15], [115, 3, 3]);
-    assert_eq!(world.ledger[51 + 48..], [0, 0, 0]);
+    assert_eq!(world.ledger[56 + 3 + 12..56 + 3 + 15], [115, 3, 3]);
+    assert_eq!(world.ledger[56 + 48..56 + 51], [0, 0, 0]);
     world = expect_accepted(&world, &add_emitter(1, 5, 1, 9), 0);
-    assert_eq!(world.ledger[51 + 48..], [1, 5, 9]);
-    assert_eq!(world.ledger[51..54], [16, 15 * 3 + 9, 0]);
+    assert_eq!(world.ledger[56 + 48..56 + 51], [1, 5, 9]);
+    assert_eq!(world.ledger[56..59], [16, 15 * 3 + 9, 0]);
     expect_refusal(&world, &add_emitter(1, 0, 2, 0), 18);
     expect_refusal(&world, &add_emitter(1, 0, 100, 0), 18);
 }
@@ -133,7 +135,7 @@ fn numbers_past_the_standing_ones_are_not_tested() {
 
 /// Worlds whose tracer `broken` has one fault each in its record.
 fn faulty_worlds(world: &World, broken: usize) -> Vec<World> {
-    let first = 51 * broken;
+    let first = BLOCK * broken;
     let one = [[7, 3, 250], [8, 1, 20], [9, 5, 30]];
     let good = with_emitters(world, broken as u32, &one);
     let changed = |place: usize, number: u32| {
@@ -226,7 +228,7 @@ fn absent_indices_and_5_before_18_19_and_6() {
     expect_refusal(&full, &add_emitter(0, 5, 1, 1), 18);
     expect_refusal(&full, &remove_emitter(0, 1), 19);
     expect_refusal(&full, &tick(0), 6);
-    full.ledger[51] = 17;
+    full.ledger[56] = 17;
     for asked in [add_emitter(0, 5, 1, 1), remove_emitter(0, 1), tick(0)] {
         expect_refusal(&full, &asked, 5);
     }

@@ -163,7 +163,7 @@ fn cells_stay_within_one_and_a_quarter() {
         let mut after = world.clone();
         if call(&mut after, &long_zonal(layer, row, &fluxes)).number == 0 {
             let written = range::of_long_zonal(&world, &after, layer, row, &fluxes);
-            written.iter().for_each(Written::expect_in_range);
+            written.iter().for_each(Written::expect_claims);
             let most = world.air.iter().max().unwrap();
             turned += u32::from(fluxes.iter().any(|flux| flux.unsigned_abs() > *most));
             accepted += 1;

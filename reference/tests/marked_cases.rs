@@ -2,8 +2,8 @@
 
 mod common;
 use common::*;
-use reference::scheme::{mismatch, part, piece_from_high_end, piece_from_low_end, ratio, SCALE};
-use reference::{Call, World};
+use reference::scheme::{self, part, piece_from_high_end, piece_from_low_end, ratio, SCALE};
+use reference::{Call, Limiter, World};
 
 /// The sweep is accepted with this count and leaves this row; the caps stay as they were.
 fn expect_row(world: &World, fluxes: [i32; 4], count: u64, air: [u32; 4], tracer: [u32; 4]) {
@@ -153,6 +153,7 @@ fn ratio_mismatch_and_piece_by_hand() {
     assert_eq!(ratio(1_000, 1), 262);
     assert_eq!(ratio(65_535, 1), 4);
     assert_eq!(ratio(1, 268_435_455), 262_144 * 268_435_455);
+    let mismatch = |qa, q, qb| scheme::mismatch(&Limiter::Present, qa, q, qb);
     // |7 − 0|/2 cut to 3; 2(1 − 0) = 2; 2(7 − 6) = 2.
     assert_eq!(mismatch(0, 3, 7), 3);
     assert_eq!(mismatch(0, 1, 7), 2);

@@ -313,7 +313,7 @@ fn random_press(random: &mut Random) -> (World, Press) {
 #[test]
 fn two_presses_are_the_single_sweep_on_random_worlds() {
     let mut random = Random::new(51);
-    let mut met = [0; 21];
+    let mut met = [0; 22];
     let mut counts = [0; 17];
     for _ in 0..10_000 {
         let (world, press) = random_press(&mut random);

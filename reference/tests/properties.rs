@@ -1,6 +1,7 @@
 //! The four properties of demand 3, the smallest count and the remap's count, on random lists.
 
 mod common;
+use common::limits::{put_limits, random_limits};
 use common::range::{self, Written};
 use common::*;
 use reference::{call, Answer, Call, Grid, World};
@@ -32,7 +33,7 @@ fn tracers(grid: &Grid) -> std::ops::Range<usize> {
 /// The range after a remap, and its count.
 fn expect_remap_range_and_count(before: &World, after: &World, count: u64) {
     let (written, pairs) = range::of_remap(before, after);
-    written.iter().for_each(Written::expect_in_range);
+    written.iter().for_each(Written::expect_claims);
     assert_eq!(count, pairs);
     // "The old bounds then follow from it."
     let (k, c) = (u64::from(before.grid.k), layer_cells(&before.grid) as u64);
@@ -102,7 +103,7 @@ fn expect_zonal(
         let substep = zonal(layer, row, &part(fluxes, s, n));
         assert_eq!(call(&mut world, &substep), accepted(1));
         let written = range::of_zonal_substep(&old, &world, layer, row);
-        written.iter().for_each(Written::expect_in_range);
+        written.iter().for_each(Written::expect_claims);
     }
     assert_eq!(world, *after);
 }
@@ -129,12 +130,12 @@ fn expect_call_properties(before: &World, after: &World, asked: &Call, answer: A
         Call::LongZonal { layer, row, fluxes } if answer.number == 0 => {
             assert_eq!(answer.count, 0);
             let written = range::of_long_zonal(before, after, *layer, *row, fluxes);
-            written.iter().for_each(Written::expect_in_range);
+            written.iter().for_each(Written::expect_claims);
         }
         Call::Meridional { layer, .. } if answer.number == 0 => {
             assert_eq!(answer.count, 1);
             let written = range::of_meridional(before, after, *layer);
-            written.iter().for_each(Written::expect_in_range);
+            written.iter().for_each(Written::expect_claims);
         }
         Call::Remap { .. } if answer.number == 0 => {
             expect_remap_range_and_count(before, after, answer.count);
@@ -145,7 +146,7 @@ fn expect_call_properties(before: &World, after: &World, asked: &Call, answer: A
 
 /// A tracer's block of the ledger.
 fn block(world: &World, t: usize) -> &[u32] {
-    &world.ledger[51 * t..51 * (t + 1)]
+    &world.ledger[BLOCK * t..BLOCK * (t + 1)]
 }
 
 /// The units of a tracer's standing emitters, summed.
@@ -188,7 +189,8 @@ fn named_tracer(asked: &Call) -> Option<usize> {
         | Call::AddEmitter { tracer, .. }
         | Call::RemoveEmitter { tracer, .. }
         | Call::Tick { tracer }
-        | Call::UnitsATick { tracer } => Some(tracer as usize),
+        | Call::UnitsATick { tracer }
+        | Call::SetLimiter { tracer, .. } => Some(tracer as usize),
         _ => None,
     }
 }
@@ -208,6 +210,7 @@ struct Met {
     emitters_added: u32,
     emitters_removed: u32,
     ticks: u32,
+    limiters_set: u32,
     ratios_kept: u32,
     refused: u32,
 }
@@ -232,6 +235,7 @@ impl Met {
             Call::AddEmitter { .. } => self.emitters_added += 1,
             Call::RemoveEmitter { .. } => self.emitters_removed += 1,
             Call::Tick { .. } => self.ticks += 1,
+            Call::SetLimiter { .. } => self.limiters_set += 1,
             _ => {}
         }
     }
@@ -278,6 +282,7 @@ fn run_lists_of(random_world: fn(&mut Random) -> World, seed: u64) -> Met {
     assert!(met.accepted_long > 5_000);
     assert!(met.accepted_meridional > 2_000);
     assert!(met.accepted_remaps > 2_000);
+    assert!(met.limiters_set > 5_000);
     met
 }
 
@@ -307,7 +312,7 @@ fn lists_on_worlds_at_the_limits() {
     run_lists_of(random_extreme_world, 62);
 }
 
-/// The same list on two worlds that differ in all tracers but `kept`.
+/// The same list on two worlds that differ in all tracers but `kept`, and in their limiters.
 fn run_twin_lists(random: &mut Random) {
     let mut world = random_world(random);
     let kept = random.next() as usize % world.grid.n as usize;
@@ -321,6 +326,10 @@ fn run_twin_lists(random: &mut Random) {
             }
         })
         .collect();
+    for t in tracers(&world.grid).filter(|&t| t != kept) {
+        let other = random_limits(random, &twin, t);
+        put_limits(&mut twin, t, other);
+    }
     for _ in 0..12 {
         let asked = random_call(random, &world);
         let answer = call(&mut world, &asked);

@@ -49,6 +49,7 @@ impl ColumnCase {
 
 fn column(air: &[u32], edges: &[i64]) -> ColumnCase {
     ColumnCase {
+        limits: limits::FIRST,
         air: air.to_vec(),
         tracer: vec![0; air.len()],
         edges: edges.to_vec(),

@@ -1,5 +1,5 @@
 //! Refusals 1 to 12 at both sides of their limits, and their order; 16 and 17 are in long.rs, 18
-//! and 19 in emitters.rs, 20 in presses.rs.
+//! and 19 in emitters.rs, 20 in presses.rs, 21 in limiters.rs.
 
 mod common;
 use common::*;
@@ -403,6 +403,7 @@ fn refusals_come_in_row_order() {
             remove_emitter(9, 0),
             tick(9),
             units_a_tick(9),
+            set_limiter(9, 0, 1, 0),
         ] {
             expect_refusal(&world, &asked, first);
         }
@@ -471,7 +472,7 @@ fn any_numbers_and_lengths_never_panic() {
             _ => {}
         }
         let answer = checked_call(&mut world, &asked);
-        assert!(answer.number <= 12 || (16..=20).contains(&answer.number));
+        assert!(answer.number <= 12 || (16..=21).contains(&answer.number));
         if answer.number == 0 {
             assert_eq!(call(&mut world, &Call::Load), accepted(0));
         }

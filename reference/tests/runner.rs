@@ -32,6 +32,7 @@ fn has_record(asked: &Call) -> bool {
             | Call::RemoveEmitter { .. }
             | Call::Tick { .. }
             | Call::UnitsATick { .. }
+            | Call::SetLimiter { .. }
     )
 }
 
@@ -264,6 +265,7 @@ fn random_records(random: &mut Random) -> (Vec<u8>, String) {
     while world.grid.n > 2 || cells(&world.grid) > 2_048 {
         world = random_world(random);
     }
+    call(&mut world, &Call::Load);
     let g = world.grid;
     let mut input = grid_record(g.w as u8, g.r as u8, g.k as u8, g.n as u8);
     input.extend(load_record(&world));

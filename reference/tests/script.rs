@@ -49,8 +49,8 @@ fn every_call_and_wrong_lengths() {
 }
 
 #[test]
-fn a_grid_line_gives_an_empty_ledger() {
-    let zeros = " 0".repeat(48);
+fn a_grid_line_gives_the_ledger_of_a_load() {
+    let zeros = " 0".repeat(45);
     let script = "show_ledger\n\
                   grid 4 1 1 1\n\
                   air 9 9 9 9 9 9\n\
@@ -73,10 +73,9 @@ fn a_grid_line_gives_an_empty_ledger() {
     assert_eq!(
         outcome.lines,
         format!(
-            "ledger\nadd_emitter 0 0\nledger 1 7 0 4294967295 5 7{}\nunits_a_tick 0 7\n\
+            "ledger\nadd_emitter 0 0\nledger 1 7 0 4294967295 5 7{zeros} 1 0 0 0 0\nunits_a_tick 0 7\n\
              tick 0 0\nremove_emitter 19 0\ntick 2 0\nledger 1 2 3\nair 9 9 9 9 9 9\n\
-             tracers 0 0 0 0 0 7\nremove_emitter 19 0\nledger\n",
-            &zeros[..2 * 45]
+             tracers 0 0 0 0 0 7\nremove_emitter 19 0\nledger\n"
         )
     );
 }
@@ -101,6 +100,35 @@ fn two_presses_in_a_script() {
         "count_zonal 0 1\nair 100 100 100 100 100 100\ntracers 0 0 100 200 100 0\n\
          zonal_with_count 20 0\nzonal_with_count 2 0\nzonal_with_count 0 1\n\
          air 100 100 50 150 100 100\ntracers 0 0 38 262 100 0\n"
+    );
+}
+
+#[test]
+fn a_limiter_in_a_script() {
+    let zeros = " 0".repeat(51);
+    let script = "grid 4 1 1 2\n\
+                  air 100 100 100 100 100 100\n\
+                  tracers 0 0 300 200 50 0 0 0 300 200 50 0\n\
+                  set_limiter 1 3 4294967296 18446744073709551615\n\
+                  set_limiter 1 4 0 0\n\
+                  show_ledger\n\
+                  set_limiter 1 2 5 7\n\
+                  zonal 0 0 0 50 0 0\n\
+                  show\n\
+                  set_limiter 2 2 5 7\n\
+                  load\n\
+                  show_ledger\n";
+    let outcome = run(script);
+    assert_eq!(outcome.error, None);
+    assert_eq!(
+        outcome.lines,
+        format!(
+            "set_limiter 0 0\nset_limiter 21 0\n\
+             ledger{zeros} 1 0 0 0 0{zeros} 3 0 1 4294967295 4294967295\n\
+             set_limiter 0 0\nzonal 0 1\nair 100 100 50 150 100 100\n\
+             tracers 0 0 150 350 50 0 0 0 138 362 50 0\nset_limiter 5 0\nload 0 0\n\
+             ledger{zeros} 1 0 0 0 0{zeros} 1 0 0 0 0\n"
+        )
     );
 }
 
@@ -166,6 +194,14 @@ fn a_bad_line_is_named() {
         "remove_emitter 0 0 0",
         "tick",
         "units_a_tick 0 0",
+        "set_limiter 0 1 0",
+        "set_limiter 0 1 0 0 0",
+        "set_limiter 4294967296 1 0 0",
+        "set_limiter 0 4294967296 0 0",
+        "set_limiter 0 -1 0 0",
+        "set_limiter 0 1 -1 0",
+        "set_limiter 0 1 0 18446744073709551616",
+        "set_limiter 0 3 1.5 2",
         "pairs",
         "pairs x",
     ] {

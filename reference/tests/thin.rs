@@ -4,8 +4,8 @@
 mod common;
 use common::range::{self, Written};
 use common::*;
-use reference::scheme::{mismatch, piece_from_high_end, piece_from_low_end, ratio, SCALE};
-use reference::{call, script, Answer, Call, World};
+use reference::scheme::{self, piece_from_high_end, piece_from_low_end, ratio, SCALE};
+use reference::{call, script, Answer, Call, Limiter, World};
 
 const CASES: &str = include_str!("../cases/thin.txt");
 
@@ -99,6 +99,11 @@ fn the_numbers_differ_from_those_before() {
         assert_ne!(before, world.tracers, "{label}");
         assert_eq!(before.iter().sum::<u32>(), total, "{label}");
     }
+}
+
+/// The mismatch under the first limiter, which every tracer here has.
+fn mismatch(qa: i64, q: i64, qb: i64) -> i64 {
+    scheme::mismatch(&Limiter::Present, qa, q, qb)
 }
 
 fn ratio_at(scale: i64, air: i64, tracer: i64) -> i64 {

@@ -1,29 +1,48 @@
-//! Document 02's walk down a column: m9 by hand, random columns of every K beside the remap, and
-//! the number of steps.
+//! Document 02's walk down a column: m9 by hand, random columns of every K beside the remap, under
+//! each limiter, and the number of steps.
 
 mod common;
+use common::limits::{limits, put_limits, Limits, FIRST};
 use common::*;
+use reference::scheme::ratio;
 use reference::walk::{states, states_by_table, steps, Column, State};
-use reference::{script, tracer_above_edges};
+use reference::{script, tracer_above_edges, Limiter};
 
 impl ColumnCase {
     fn states(&self, is_cap: bool) -> Vec<State> {
-        let column = Column::new(&signed(&self.air), &signed(&self.tracer), is_cap);
+        let (air, tracer) = (signed(&self.air), signed(&self.tracer));
+        let column = Column::new(&self.limits.limiter(), &air, &tracer, is_cap);
         states(&column, &self.edges)
     }
 
     /// G at each edge, by the remap.
     fn marks(&self, is_cap: bool) -> Vec<i64> {
         let (air, tracer) = (signed(&self.air), signed(&self.tracer));
-        tracer_above_edges(&air, &tracer, is_cap, &self.edges)
+        let limiter = self.limits.limiter();
+        tracer_above_edges(&limiter, &air, &tracer, is_cap, &self.edges)
+    }
+
+    /// The three limiters, the third with bounds that some of the ratios are outside of.
+    fn each_limits(&self) -> [Limits; 3] {
+        let layers = self.air.iter().zip(&self.tracer);
+        let mut ratios: Vec<u64> = layers
+            .map(|(&m, &t)| ratio(m.into(), t.into()) as u64)
+            .collect();
+        ratios.sort_unstable();
+        let (lo, hi) = (ratios[ratios.len() / 4] / 2, ratios[ratios.len() * 3 / 4]);
+        [FIRST, limits(2, 0, 0), limits(3, lo, hi)]
     }
 }
 
-/// The test on the random columns of every K from 1 to 32, each as a row's and as a cap's.
+/// The test on the random columns of every K from 1 to 32, each as a row's and as a cap's, and under
+/// each limiter.
 fn for_random_cases(test: impl Fn(&ColumnCase, bool)) {
-    for case in (1..=32).flat_map(random_columns) {
-        test(&case, false);
-        test(&case, true);
+    for mut case in (1..=32).flat_map(random_columns) {
+        for limits in case.each_limits() {
+            case.limits = limits;
+            test(&case, false);
+            test(&case, true);
+        }
     }
 }
 
@@ -40,6 +59,7 @@ fn state(layers: usize, above: i64, amount: i64, edges: usize, mark: i64) -> Sta
 #[test]
 fn m9_by_hand() {
     let m9 = ColumnCase {
+        limits: FIRST,
         air: vec![100, 100, 100],
         tracer: vec![0, 100, 200],
         edges: vec![0, 150, 200, 300],
@@ -130,6 +150,7 @@ fn differences_of_marks_are_what_a_remap_leaves() {
         let layers = case.layers();
         let cell = if is_cap { 0 } else { 2 };
         let mut world = even_world(grid(4, 1, layers as u32, 1), 1);
+        put_limits(&mut world, 0, case.limits);
         for k in 0..layers {
             world.air[6 * k..6 * (k + 1)].fill(case.air[k]);
             world.tracers[6 * k + cell] = case.tracer[k];
@@ -149,7 +170,8 @@ fn differences_of_marks_are_what_a_remap_leaves() {
             let left = i64::from(world.tracers[6 * k + cell]);
             assert_eq!(left, mark_of(k + 1) - mark_of(k));
         }
-        let by_table = states_by_table(&case.air, &case.tracer, is_cap, &case.table());
+        let limiter = case.limits.limiter();
+        let by_table = states_by_table(&limiter, &case.air, &case.tracer, is_cap, &case.table());
         assert_eq!(by_table, Some(states));
     });
 }
@@ -213,7 +235,8 @@ fn the_other_rule_takes_2k_steps() {
 fn no_walk_where_no_remap_is_accepted() {
     let table = [0, 0, 150, 0, 200, 0, 0, 65_536];
     let walk = |air: &[u32], tracer: &[u32], table: &[u32]| {
-        states_by_table(air, tracer, false, table).map(|states| steps(&states))
+        let states = states_by_table(&Limiter::Present, air, tracer, false, table);
+        states.map(|states| steps(&states))
     };
     assert_eq!(walk(&[100; 3], &[0, 100, 200], &table), Some(5));
     assert_eq!(walk(&[100; 3], &[0, 100], &table), None);

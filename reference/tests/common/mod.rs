@@ -1,8 +1,10 @@
 //! Helpers of the tests: a generator of numbers, worlds, calls, table rows and columns.
 #![allow(dead_code)]
 
+pub mod limits;
 pub mod range;
 
+use limits::{random_limits, Limits};
 use reference::{call, Answer, Call, Grid, World};
 
 pub const MOST_TRACER: u64 = 268_435_455;
@@ -21,18 +23,23 @@ pub fn cells(grid: &Grid) -> usize {
     grid.k as usize * layer_cells(grid)
 }
 
-/// A ledger in which no emitter stands: 51 numbers for each tracer.
-pub fn empty_ledger(grid: &Grid) -> Vec<u32> {
-    vec![0; grid.n as usize * 51]
+/// A tracer's numbers in the ledger.
+pub const BLOCK: usize = 56;
+
+/// A ledger as a load leaves it: no emitter stands, and each tracer has the first limiter.
+pub fn loaded_ledger(grid: &Grid) -> Vec<u32> {
+    let mut block = [0; BLOCK];
+    block[51] = 1;
+    block.repeat(grid.n as usize)
 }
 
-/// A world in which no emitter stands.
+/// A world with the ledger of a load.
 pub fn world_of(grid: Grid, air: Vec<u32>, tracers: Vec<u32>) -> World {
     World {
         grid,
         air,
         tracers,
-        ledger: empty_ledger(&grid),
+        ledger: loaded_ledger(&grid),
     }
 }
 
@@ -144,6 +151,15 @@ pub fn units_a_tick(tracer: u32) -> Call {
     Call::UnitsATick { tracer }
 }
 
+pub fn set_limiter(tracer: u32, limiter: u32, lo: u64, hi: u64) -> Call {
+    Call::SetLimiter {
+        tracer,
+        limiter,
+        lo,
+        hi,
+    }
+}
+
 /// The table that keeps K layers of equal air as they are.
 pub fn even_table(layers: u32) -> Vec<u32> {
     (0..=layers)
@@ -168,6 +184,7 @@ pub fn each_call(grid: &Grid) -> Vec<Call> {
         add_emitter(0, 0, 0, 0),
         tick(0),
         units_a_tick(0),
+        set_limiter(0, 1, 0, 0),
     ]
 }
 
@@ -272,14 +289,23 @@ pub fn random_tracer(random: &mut Random, air: &[u32]) -> Vec<u32> {
     }
 }
 
-/// A world that a load accepts.
+/// A world that a load accepts, with limiters that 21 lets pass: the first for all tracers, or any
+/// for each.
 pub fn random_world(random: &mut Random) -> World {
     let grid = random_grid(random);
     let air = random_air(random, cells(&grid));
     let tracers = (0..grid.n)
         .flat_map(|_| random_tracer(random, &air))
         .collect();
-    world_of(grid, air, tracers)
+    with_some_limiters(random, world_of(grid, air, tracers))
+}
+
+/// The world, one time in two with a random limiter for each tracer.
+fn with_some_limiters(random: &mut Random, mut world: World) -> World {
+    if random.one_in(2) {
+        limits::put_random_limits(random, &mut world);
+    }
+    world
 }
 
 /// Air of cells with a thin gas, or of a nearly even ratio.
@@ -343,7 +369,7 @@ pub fn random_thin_world(random: &mut Random) -> World {
             _ => random_thin_tracer(random, &air),
         })
         .collect();
-    world_of(grid, air, tracers)
+    with_some_limiters(random, world_of(grid, air, tracers))
 }
 
 /// A world of air at its limits and of tracers at theirs.
@@ -364,7 +390,7 @@ pub fn random_extreme_world(random: &mut Random) -> World {
             _ => random_full_tracer(random, air.len()),
         })
         .collect();
-    world_of(grid, air, tracers)
+    with_some_limiters(random, world_of(grid, air, tracers))
 }
 
 /// An index that is mostly present.
@@ -512,7 +538,7 @@ fn random_emitter_call(random: &mut Random, world: &World) -> Call {
             add_emitter(tracer, random_index(random, cells(grid)), id, units)
         }
         4 => {
-            let first = world.ledger.get(51 * tracer as usize + 3);
+            let first = world.ledger.get(BLOCK * tracer as usize + 3);
             let standing = first.filter(|_| random.one_in(2));
             remove_emitter(tracer, *standing.unwrap_or(&id))
         }
@@ -521,11 +547,25 @@ fn random_emitter_call(random: &mut Random, world: &World) -> Call {
     }
 }
 
+/// A tracer's limiter and bounds, mostly such as 21 lets pass.
+fn random_set_limiter(random: &mut Random, world: &World) -> Call {
+    let tracer = random_index(random, world.grid.n as usize);
+    let named = tracer as usize % world.grid.n as usize;
+    let mut limits = random_limits(random, world, named);
+    match random.next() % 20 {
+        0 => limits.limiter = random.amount(4, 9),
+        1 => limits.limiter = 0,
+        2 => std::mem::swap(&mut limits.lo, &mut limits.hi),
+        _ => {}
+    }
+    set_limiter(tracer, limits.limiter, limits.lo, limits.hi)
+}
+
 /// A call on this world: mostly one that is accepted.
 pub fn random_call(random: &mut Random, world: &World) -> Call {
     let grid = &world.grid;
     let (cells, layer_cells) = (cells(grid), layer_cells(grid));
-    match random.next() % 32 {
+    match random.next() % 35 {
         0 => emission(
             random_index(random, grid.n as usize),
             random_index(random, cells),
@@ -562,6 +602,7 @@ pub fn random_call(random: &mut Random, world: &World) -> Call {
         }
         20..=25 => random_emitter_call(random, world),
         26..=31 => random_press(random, world),
+        32..=34 => random_set_limiter(random, world),
         _ => Call::Cell {
             tracer: random_index(random, grid.n as usize),
             cell: random_index(random, cells),
@@ -569,9 +610,10 @@ pub fn random_call(random: &mut Random, world: &World) -> Call {
     }
 }
 
-/// One tracer of a column, with its new edges.
+/// One tracer of a column, with its new edges. Its limiter is the first, if it isn't said.
 #[derive(Debug)]
 pub struct ColumnCase {
+    pub limits: Limits,
     pub air: Vec<u32>,
     pub tracer: Vec<u32>,
     pub edges: Vec<i64>,
@@ -634,6 +676,7 @@ fn random_column(random: &mut Random, layers: usize) -> ColumnCase {
     let air = random_air(random, layers);
     let tracer = random_tracer(random, &air);
     let mut case = ColumnCase {
+        limits: limits::FIRST,
         air,
         tracer,
         edges: Vec::new(),

@@ -1,7 +1,9 @@
 //! "Range": the cells that a substep, a remap or a long sweep writes, with their old
-//! neighbourhoods, and document 02's claim of them.
+//! neighbourhoods, and document 02's claim of them; and what the fixed limiter promises of them.
 
+use super::limits::{limits_of, Limits};
 use super::{cells, layer_cells};
+use reference::scheme::{ratio, SCALE};
 use reference::{Grid, World};
 
 /// One cell of one tracer after a substep, a remap or a long sweep.
@@ -9,6 +11,8 @@ use reference::{Grid, World};
 pub struct Written {
     pub tracer: usize,
     pub cell: usize,
+    /// The tracer's limiter.
+    pub limits: Limits,
     /// Air and tracer of each cell of its old neighbourhood.
     pub near: Vec<(u32, u32)>,
     /// Its own air and tracer afterwards.
@@ -39,10 +43,47 @@ impl Written {
     /// "A cell after a substep is then within one unit for each face plus a quarter of a unit, and
     /// after a remap or a long sweep within one and a quarter". Document 01's e, "the cell's faces
     /// in that sweep (two, for a cap W) plus 1, and 2 for a remap", follows, and so do the two
-    /// units of document 02's long sweep.
+    /// units of document 02's long sweep. "The range claim covers the first only."
     pub fn expect_in_range(&self) {
-        assert!(self.within_quarters(4 * self.faces + 1), "{self:?}");
-        assert!(self.within_units(self.faces + 1), "{self:?}");
+        if self.limits.limiter == 1 {
+            assert!(self.within_quarters(4 * self.faces + 1), "{self:?}");
+            assert!(self.within_units(self.faces + 1), "{self:?}");
+        }
+    }
+
+    /// Whether the fixed limiter promises something of this cell: every ratio of the old
+    /// neighbourhood is from lo to hi.
+    pub fn has_promise(&self) -> bool {
+        let within = |&(m, t): &(u32, u32)| {
+            let q = ratio(m.into(), t.into()) as u64;
+            (self.limits.lo..=self.limits.hi).contains(&q)
+        };
+        self.limits.limiter == 3 && self.near.iter().all(within)
+    }
+
+    /// How far T' is below lo·M' and above (hi + 1)·M', each in the ratios' scale, so that a unit
+    /// of tracer is 262,144.
+    pub fn beyond_bounds(&self) -> (i128, i128) {
+        let (m2, t2) = (i128::from(self.after.0), i128::from(self.after.1));
+        let (lo, hi) = (i128::from(self.limits.lo), i128::from(self.limits.hi));
+        let scaled = i128::from(SCALE) * t2;
+        (lo * m2 - scaled, scaled - (hi + 1) * m2)
+    }
+
+    /// What is promised of one substep, of a remap and of a long sweep: each is less than a unit
+    /// for each face, and less than one unit in a remap and in a long sweep.
+    pub fn expect_promise(&self) {
+        if self.has_promise() {
+            let most = i128::from(SCALE) * i128::from(self.faces);
+            let (below, above) = self.beyond_bounds();
+            assert!(below < most && above < most, "{self:?}");
+        }
+    }
+
+    /// The range for the first limiter, and the promise of the third.
+    pub fn expect_claims(&self) {
+        self.expect_in_range();
+        self.expect_promise();
     }
 
     /// Whether the range would hold without the quarter.
@@ -79,6 +120,7 @@ fn written(
         .map(|tracer| Written {
             tracer,
             cell,
+            limits: limits_of(before, tracer),
             near: near.iter().map(|&c| amounts(before, tracer, c)).collect(),
             after: amounts(after, tracer, cell),
             faces: faces as u64,
