@@ -4,7 +4,7 @@ use Prim.Native.Nat.{ℕ, _<_}
 use mathlib.Core.List.{List}
 use mathlib.Core.Path.{_≡_, sym, _∙_}
 use Rattle.model.specs.World.{World, layerCells, gas}
-use Rattle.model.specs.Scheme.{ruleOf}
+use Rattle.model.specs.Limiters.{ruleOf}
 use Rattle.model.specs.Remap.{column, airAbove, edge, layers, isCap}
 use Rattle.model.specs.Walk.{columnWalk, InBudget}
 use Rattle.model.specs.Step.{remap, step}

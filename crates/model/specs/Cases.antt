@@ -8,6 +8,7 @@ pub mod Emitters
 pub mod Walk
 pub mod Readout
 pub mod Presses
+pub mod Limiters
 use Prim.Native.Nat.{ℕ}
 use Prim.Native.String.{String}
 use mathlib.Core.List.{List, [], _∷_, cons≢nil}
@@ -17,13 +18,14 @@ use borrow.Author.Tests.{eqb-true}
 use lib.Dec.{eqb}
 use Rattle.model.specs.Basic.{sum, howMany, every, some, smallest, tabFrom, joined}
 use Rattle.model.specs.World.{Grid, World}
-use Rattle.model.specs.Scheme.{ratio, mismatch, highPiece}
+use Rattle.model.specs.Scheme.{ratio, bounded, mismatch, highPiece}
+use Rattle.model.specs.Limiters.{positiveRule, ruleFor}
 use Rattle.model.specs.Sweep.{ring, layer, leaving, afterFlow, fluxPart, parts, allowed, cellMismatch, pieces, airAfter, gasAfter, serves, substepCount, swept}
 use Rattle.model.specs.Remap.{column, edge, layerMismatch, layers, amountAbove, edgesServe, shareAir, columnCount, commonEdges, remappedAir, remappedGas, remapServes, remapCount, remapped}
 use Rattle.model.specs.Walk.{walkStep, walk}
 use Rattle.model.specs.Long.{carried, departure, longGas, longAir, longAirFits, longSwept}
 use Rattle.model.specs.Emitters.{recordFits, placeOf, ticked}
-use Rattle.model.specs.Step.{Call, Result, firstOf, commonPlaces, ownPlaces, accepted, refused, refusal, step}
+use Rattle.model.specs.Step.{Call, Result, firstOf, commonPlaces, limiterPlaces, ownPlaces, accepted, refused, refusal, step}
 
 pub record Case : Type 0 where
   pub label : String
@@ -69,7 +71,7 @@ failing cs = failingOf (λ (c : Case). c .label) asExpected cs
 
 -- Opens every definition that a case computes with
 unfoldable pub computes : ℕ
-unfolding sum howMany every some smallest tabFrom joined ratio mismatch highPiece ring layer leaving afterFlow fluxPart parts allowed cellMismatch pieces airAfter gasAfter serves substepCount swept column edge layerMismatch layers amountAbove edgesServe shareAir columnCount commonEdges remappedAir remappedGas remapServes remapCount remapped walkStep walk carried departure longGas longAir longAirFits longSwept recordFits placeOf ticked firstOf commonPlaces ownPlaces accepted refused refusal step sameList sameGrid sameResult asExpected failingOf failing
+unfolding sum howMany every some smallest tabFrom joined ratio bounded mismatch highPiece positiveRule ruleFor ring layer leaving afterFlow fluxPart parts allowed cellMismatch pieces airAfter gasAfter serves substepCount swept column edge layerMismatch layers amountAbove edgesServe shareAir columnCount commonEdges remappedAir remappedGas remapServes remapCount remapped walkStep walk carried departure longGas longAir longAirFits longSwept recordFits placeOf ticked firstOf commonPlaces limiterPlaces ownPlaces accepted refused refusal step sameList sameGrid sameResult asExpected failingOf failing
 computes = 0
 
 -- every case of a table has what is claimed of a case, for any kind of case

@@ -16,7 +16,7 @@ use Rattle.model.specs.Sweep.{Mesh, layer}
 use Rattle.model.specs.Remap.{column, columnAir, shareAir}
 use Rattle.model.specs.Range.{inRange, unitsAndQuarter, isNear, faceCount, substepInRange, SweepInRange, isNearLayer, layerInRange, overlaps, isNearOverlap, longCellInRange}
 use Rattle.model.specs.Step.{Call, longZonal, meridional, remap, total, step}
-use Rattle.model.specs.Lists.{Loaded, loadedWorld, listed, callAt, point, history, CallInRange, LoadedAlike, namesNoOther}
+use Rattle.model.specs.Lists.{Loaded, loadedWorld, listed, callAt, point, history, CallInRange, hasFirst, LoadedAlike, namesNoOther}
 use Rattle.model.specs.Laws.Basic.{some-at, at-part}
 use Rattle.model.specs.Laws.Lists.{callsBetween, calls-between, history-append}
 use Rattle.model.specs.Laws.Step.{answer-is}
@@ -148,13 +148,17 @@ module _ (w : World) (calls : List Call) (loaded : Loaded w) (no-loads : listed 
   none-stays-none t i j h le none same c hc =
       demand-3 w calls loaded no-loads i .ratioKept t 0 j h le (λ d hd. none d hd ∙ sym (zero-mul _)) same c hc ∙ zero-mul _
 
-  -- a call that is accepted at point i promises its range between the points i and i + 1
-  promised : (t i : ℕ) (call : Call) → t < start .grid .N → callAt calls i ≡ call → step (at-point i) call .answer ≡ 0 → CallInRange (at-point i) (at-point (suc i)) t call
-  promised t i call h made accepted =
-      rw made at (demand-3 w calls loaded no-loads i .inRange t h (rw made accepted))
+  -- a call that is accepted at point i promises its range between the points i and i + 1, for a gas that has the first limiter there
+  promised :
+      (t i : ℕ) (call : Call) → t < start .grid .N → hasFirst (at-point i) t ≡ true → callAt calls i ≡ call → step (at-point i) call .answer ≡ 0 →
+      CallInRange (at-point i) (at-point (suc i)) t call
+  promised t i call h first made accepted =
+      rw made at (demand-3 w calls loaded no-loads i .inRange t h first (rw made accepted))
 
-  -- where all ratios of a gas are from lo to hi, a remap leaves every cell of the world at the next point within two units of that, a long sweep every cell of its row, and a meridional sweep every cell of its layer within one unit for each of its faces and one more
-  module _ (t i lo hi : ℕ) (h : t < start .grid .N) (between : Between lo hi (worldCells (at-point i .grid)) (at-point i .air) (gas (at-point i) t)) where
+  -- where all ratios of a gas that has the first limiter are from lo to hi, a remap leaves every cell of the world at the next point within two units of that, a long sweep every cell of its row, and a meridional sweep every cell of its layer within one unit for each of its faces and one more
+  module _
+      (t i lo hi : ℕ) (h : t < start .grid .N) (first : hasFirst (at-point i) t ≡ true)
+      (between : Between lo hi (worldCells (at-point i .grid)) (at-point i .air) (gas (at-point i) t)) where
     abbrev g : Grid
     g = at-point i .grid
 
@@ -168,7 +172,7 @@ module _ (w : World) (calls : List Call) (loaded : Loaded w) (no-loads : listed 
     remap-stays-near table made accepted k c hk hc =
         in-range-near (g .K) _ _ _ lo hi 2 _ _
         (λ j hj. rw (at-column g (at-point i .air) c j hj, at-column g (gas (at-point i) t) c j hj) (between _ (cell-in g j c hj hc)))
-        (layer-in-units g table _ _ _ _ c k (promised t i (remap table) h made accepted c k hc hk))
+        (layer-in-units g table _ _ _ _ c k (promised t i (remap table) h first made accepted c k hc hk))
 
     pub long-stays-near :
         (k r : ℕ) (fluxes : List ℤ) → callAt calls i ≡ longZonal k r fluxes → step (at-point i) (longZonal k r fluxes) .answer ≡ 0 →
@@ -180,7 +184,7 @@ module _ (w : World) (calls : List Call) (loaded : Loaded w) (no-loads : listed 
         let near =
         in-range-near (g .W) _ (part (at-point i .air) a (g .W)) (part (gas (at-point i) t) a (g .W)) lo hi 2 _ _
         (λ d hd. rw (at-part (at-point i .air) a (g .W) d hd, at-part (gas (at-point i) t) a (g .W) d hd) (between (a + d) (omega arith)))
-        (long-cell-in-units (g .W) fluxes _ _ _ _ c (promised t i (longZonal k r fluxes) h made accepted c hc)) in
+        (long-cell-in-units (g .W) fluxes _ _ _ _ c (promised t i (longZonal k r fluxes) h first made accepted c hc)) in
         rw (at-part (next .air) a (g .W) c hc, at-part (gas next t) a (g .W) c hc) at near
 
     pub meridional-stays-near :
@@ -189,7 +193,7 @@ module _ (w : World) (calls : List Call) (loaded : Loaded w) (no-loads : listed 
         Near lo hi (faceCount (layer (g .W) (g .R) .sides c) + 1) (at (next .air) (layerStart g k + c)) (at (gas next t) (layerStart g k + c))
     meridional-stays-near k fluxes made accepted c hc =
         let sweeps = meridional-sweeps k fluxes (at-point i) (sym (answer-is _ _) ∙ accepted) in
-        one-substep-near (promised t i (meridional k fluxes) h made accepted) lo hi _ (sweeps .inside) between c (unfold layer in hc)
+        one-substep-near (promised t i (meridional k fluxes) h first made accepted) lo hi _ (sweeps .inside) between c (unfold layer in hc)
 
   -- whatever another load brings of the other gases, one gas has the same total at each point, and a reading of its total answers the same
   pub one-gas-alone :

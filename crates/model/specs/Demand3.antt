@@ -9,13 +9,13 @@ use lib.ListN.{take, replicate}
 use Rattle.model.specs.Basic.{tab}
 use Rattle.model.specs.World.{World, block, gasTotal, airTotal}
 use Rattle.model.specs.Emitters.{presentUnits}
-use Rattle.model.specs.Step.{Call, load, emission, withdrawal, zonal, longZonal, meridional, remap, total, cell, addEmitter, removeEmitter, tick, unitsATick, countZonal, zonalWithCount, brokenRecord, firstOf, meaning, lentFits, ownPlaces, refusal, step}
-use Rattle.model.specs.Lists.{Loaded, loadedWorld, listed, callAt, after, point, history, HasRatio, CallInRange, LoadedAlike, Alike, namesNoOther, SameReply}
+use Rattle.model.specs.Step.{Call, load, emission, withdrawal, zonal, longZonal, meridional, remap, total, cell, addEmitter, removeEmitter, tick, unitsATick, countZonal, zonalWithCount, setLimiter, brokenRecord, firstOf, meaning, lentFits, ownPlaces, refusal, step}
+use Rattle.model.specs.Lists.{Loaded, loadedWorld, listed, callAt, after, point, history, HasRatio, CallInRange, hasFirst, LoadedAlike, Alike, namesNoOther, SameReply}
 use Rattle.model.specs.Laws.Step.{Reached, answer-is, own-refusal, loaded-reached, loaded-alike}
 use Rattle.model.specs.Laws.Keeps.{Kept, MeaningKeeps, StepKeeps, step-keeps, names-grid}
 use Rattle.model.specs.Laws.Lists.{listed-take, listed-at, point-range, list-kept, list-alike, points-ratio}
 use Rattle.model.specs.Laws.Amounts.{emission-keeps, withdrawal-keeps, total-keeps, cell-keeps}
-use Rattle.model.specs.Laws.Standing.{record-sound, record-left, no-place, add-keeps, remove-keeps, tick-keeps, units-keeps, reading-is-sum}
+use Rattle.model.specs.Laws.Standing.{record-sound, record-left, no-place, add-keeps, remove-keeps, limiter-keeps, tick-keeps, units-keeps, reading-is-sum}
 use Rattle.model.specs.Laws.Zonal.{zonal-keeps, count-keeps, with-count-keeps}
 use Rattle.model.specs.Laws.LongZonal.{long-keeps}
 use Rattle.model.specs.Laws.Meridional.{meridional-keeps}
@@ -34,9 +34,9 @@ pub record HoldsAt (start : World) (calls : List Call) (i : ℕ) : Type 0 where
   pub ratioKept :
       (t z j : ℕ) → t < start .grid .N → i ≤ j → HasRatio (point start calls i) t z →
       history start t (take j calls) ≡ history start t (take i calls) → HasRatio (point start calls j) t z
-  -- "Each substep of a sweep leaves each cell it writes within its old neighbourhood's range of ratios, .. and a remap", and a long sweep: the call made at this point, if it is accepted; it leads to the next point
+  -- "Each substep of a sweep leaves each cell it writes within its old neighbourhood's range of ratios, .. and a remap", and a long sweep: the call made at this point, if it is accepted, for a tracer that has the first limiter there; it leads to the next point
   pub inRange :
-      (t : ℕ) → t < start .grid .N → step (point start calls i) (callAt calls i) .answer ≡ 0 →
+      (t : ℕ) → t < start .grid .N → hasFirst (point start calls i) t ≡ true → step (point start calls i) (callAt calls i) .answer ≡ 0 →
       CallInRange (point start calls i) (point start calls (suc i)) t (callAt calls i)
   -- "After any other accepted load that differs only in the other gases, the same list gives the same amounts of one gas and the same answers to calls that name no other gas": for a set of gases `own`
   pub independent :
@@ -60,6 +60,7 @@ call-keeps (tick t) e = tick-keeps t
 call-keeps (unitsATick t) e = units-keeps t
 call-keeps (countZonal k r fluxes) e = count-keeps k r fluxes
 call-keeps (zonalWithCount k r n fluxes) e = with-count-keeps k r n fluxes
+call-keeps (setLimiter t number lo hi) e = limiter-keeps t number lo hi
 
 pub any-keeps : (call : Call) → meaning call .listed ≡ true → (w : World) → Reached w → StepKeeps w call
 any-keeps call e = step-keeps call (call-keeps call e)
@@ -79,7 +80,7 @@ demand-3 w calls loaded no-loads i =
       gasKept = kept .gasKept;
       airKept = kept .airKept;
       ratioKept = λ t z j h le. points-ratio any-keeps i j start calls no-loads reached le t z h;
-      inRange = λ t h e. point-range start calls i t (here .inRange t (rw (kept .sameGrid) h) e);
+      inRange = λ t h first e. point-range start calls i t (here .inRange t (rw (kept .sameGrid) h) first e);
       independent =
           λ own v other alike.
           let vv = loaded-reached v other in
@@ -95,7 +96,7 @@ pub reached :
 reached w calls start no-loads i =
     let kept = calls-keep (loadedWorld w) (take i calls) (listed-take i calls no-loads) (loaded-reached w start) in (
       kept .reached,
-      λ call lent. own-refusal (point (loadedWorld w) calls i) call (kept .reached .fits) (rw (kept .sameGrid) lent),
+      λ call lent. own-refusal (point (loadedWorld w) calls i) call (kept .reached) (rw (kept .sameGrid) lent),
     )
 
 -- There no record of emitters is broken, so that 5 is never given for one; the reading of the units a tick is accepted, and gives the sum over the emitters present
@@ -111,12 +112,12 @@ emitters-reached w calls start no-loads i =
       record-sound (kept .reached),
       λ t h.
           let answer : step now (unitsATick t) .answer ≡ 0 =
-          answer-is now (unitsATick t) ∙ own-refusal now (unitsATick t) (kept .reached .fits) refl ∙
+          answer-is now (unitsATick t) ∙ own-refusal now (unitsATick t) (kept .reached) refl ∙
           record-left now (kept .reached) t (rw (kept .sameGrid) h) [] ∙ no-place now in
           (answer, reading-is-sum now t answer),
     )
 
--- Two lists that meet the premises, their answers, counts and totals by computation, so that the theorem is not empty: calls of every kind, on the world of m9 and on that of m1, seven of them refused.
+-- Two lists that meet the premises, their answers, counts and totals by computation, so that the theorem is not empty: calls of every kind, on the world of m9 and on that of m1, eight of them refused.
 abbrev worked : List Call
 worked =
     emission 0 1 268433655 ∷ emission 0 1 1 ∷ withdrawal 0 1 268433600 ∷ emission 0 3 20 ∷
@@ -136,6 +137,7 @@ ticks =
     addEmitter 0 3 77 5 ∷ addEmitter 0 2 77 6 ∷ tick 0 ∷ tick 0 ∷ unitsATick 0 ∷ removeEmitter 0 77 ∷ removeEmitter 0 77 ∷
     cell 0 3 ∷
     countZonal 0 0 (replicate 4 (pos 150)) ∷ zonalWithCount 0 0 1 (replicate 4 (pos 150)) ∷ zonalWithCount 0 0 2 (replicate 4 (pos 150)) ∷
+    setLimiter 0 4 0 0 ∷ setLimiter 0 2 0 0 ∷ zonal 0 0 (four (pos 0) (pos 50) (pos 0) (pos 0)) ∷
     []
 
 pub worked-start : Loaded stair × Loaded peak
@@ -148,19 +150,19 @@ worked-listed = (refl, refl)
 
 pub worked-answers :
     (tab 13 (λ i. step (point (loadedWorld stair) worked i) (callAt worked i) .answer) ≡ 0 ∷ 6 ∷ 0 ∷ 0 ∷ 0 ∷ 0 ∷ 9 ∷ 0 ∷ 16 ∷ 0 ∷ 12 ∷ 0 ∷ 0 ∷ [])
-    × (tab 11 (λ i. step (point (loadedWorld peak) ticks i) (callAt ticks i) .answer) ≡ 0 ∷ 18 ∷ 0 ∷ 0 ∷ 0 ∷ 0 ∷ 19 ∷ 0 ∷ 0 ∷ 20 ∷ 0 ∷ [])
+    × (tab 14 (λ i. step (point (loadedWorld peak) ticks i) (callAt ticks i) .answer) ≡ 0 ∷ 18 ∷ 0 ∷ 0 ∷ 0 ∷ 0 ∷ 19 ∷ 0 ∷ 0 ∷ 20 ∷ 0 ∷ 21 ∷ 0 ∷ 0 ∷ [])
 unfolding computes after
 worked-answers = (refl, refl)
 
 pub worked-counts :
     (tab 13 (λ i. step (point (loadedWorld stair) worked i) (callAt worked i) .count) ≡ 0 ∷ 0 ∷ 0 ∷ 0 ∷ 1 ∷ 1 ∷ 0 ∷ 0 ∷ 0 ∷ 28 ∷ 0 ∷ 1875 ∷ 177 ∷ [])
-    × (tab 11 (λ i. step (point (loadedWorld peak) ticks i) (callAt ticks i) .count) ≡ 0 ∷ 0 ∷ 0 ∷ 0 ∷ 5 ∷ 0 ∷ 0 ∷ 210 ∷ 2 ∷ 0 ∷ 2 ∷ [])
+    × (tab 14 (λ i. step (point (loadedWorld peak) ticks i) (callAt ticks i) .count) ≡ 0 ∷ 0 ∷ 0 ∷ 0 ∷ 5 ∷ 0 ∷ 0 ∷ 210 ∷ 2 ∷ 0 ∷ 2 ∷ 0 ∷ 0 ∷ 1 ∷ [])
 unfolding computes after
 worked-counts = (refl, refl)
 
 pub worked-totals :
     (tab 14 (λ i. gasTotal (point (loadedWorld stair) worked i) 0) ≡ 1800 ∷ 268435455 ∷ 268435455 ∷ 1855 ∷ replicate 10 1875)
-    × (tab 12 (λ i. gasTotal (point (loadedWorld peak) ticks i) 0) ≡ 400 ∷ 400 ∷ 400 ∷ 405 ∷ replicate 8 410)
+    × (tab 15 (λ i. gasTotal (point (loadedWorld peak) ticks i) 0) ≡ 400 ∷ 400 ∷ 400 ∷ 405 ∷ replicate 11 410)
 unfolding computes after
 worked-totals = (refl, refl)
 
@@ -170,7 +172,7 @@ worked-air = refl
 
 pub worked-emitted :
     (tab 14 (λ i. history (loadedWorld stair) 0 (take i worked) .emitted) ≡ 0 ∷ replicate 3 268433655 ++ replicate 10 268433675)
-    × (tab 12 (λ i. history (loadedWorld peak) 0 (take i ticks) .emitted) ≡ 0 ∷ 0 ∷ 0 ∷ 5 ∷ replicate 8 10)
+    × (tab 15 (λ i. history (loadedWorld peak) 0 (take i ticks) .emitted) ≡ 0 ∷ 0 ∷ 0 ∷ 5 ∷ replicate 11 10)
 unfolding computes history
 worked-emitted = (refl, refl)
 

@@ -13,7 +13,8 @@ use Rattle.model.specs.World.{World, worldCells, block, gasTotal}
 use Rattle.model.specs.Emitters.{standing, keptUnits, presentUnits, hasId, emitterAdded, emitterRemoved}
 use Rattle.model.specs.Step.{Call, addEmitter, removeEmitter, tick, Exchange, noExchange, meaning, ownPlaces, step}
 use Rattle.model.specs.Lists.{Loaded, loadedWorld, after, exchanged}
-use Rattle.model.specs.Laws.Emitters.{kept-is, noEmitters, none-present, none-room, none-has, none-sound, length-added, added-present, added-has, add-remove}
+use Rattle.model.specs.Limiters.{freshBlock}
+use Rattle.model.specs.Laws.Emitters.{kept-is, none-present, none-room, none-has, none-sound, length-added, added-present, added-has, add-remove}
 use Rattle.model.specs.Laws.Step.{Reached, passes, answer-is, own-refusal, loaded-is, loaded-block, loaded-reached}
 use Rattle.model.specs.Laws.Keeps.{exchange-accepted}
 use Rattle.model.specs.Laws.Lists.{after-append}
@@ -36,7 +37,7 @@ allBeside t (calls ∷ rest) = besides t calls && allBeside t rest
 
 module _ (t c id units : ℕ) where
   abbrev stack : List ℕ
-  stack = emitterAdded noEmitters id c units
+  stack = emitterAdded freshBlock id c units
 
   -- a world in which tracer t has this emitter and no other
   record Stands (total : ℕ) (w : World) : Type 0 where
@@ -48,7 +49,7 @@ module _ (t c id units : ℕ) where
 
   units-kept : {total : ℕ} {w : World} → Stands total w → keptUnits (block w t) ≡ units
   units-kept {total} {w} s =
-      kept-is (s .reached .emitters t (s .there)) ∙ ap presentUnits (s .only) ∙
+      kept-is (s .reached .blocks t (s .there)) ∙ ap presentUnits (s .only) ∙
       added-present (none-sound (worldCells (w .grid))) id c units none-room ∙
       ap (λ (x : ℕ). x + units) none-present ∙
       omega arith
@@ -85,7 +86,7 @@ module _ (t c id units : ℕ) where
   tick-accepted : {total : ℕ} {w : World} → Stands total w → total + units ≤ totalLimit → step w (tick t) .answer ≡ 0
   unfolding ownPlaces
   tick-accepted {total} {w} s room =
-      answer-is w (tick t) ∙ own-refusal w (tick t) (s .reached .fits) refl ∙ record-left w (s .reached) t (s .there) _ ∙
+      answer-is w (tick t) ∙ own-refusal w (tick t) (s .reached) refl ∙ record-left w (s .reached) t (s .there) _ ∙
       passes _ [] w (le-ltb totalLimit (gasTotal w t + keptUnits (block w t)) (omega (arith, s .totalIs, units-kept s))) ∙
       no-place w
 
@@ -125,13 +126,13 @@ module _ (t c id units : ℕ) where
       rw (after-append (step w (tick t) .next) calls (ticking t rest)) (rw sum at last)
 
   -- its removal leaves the tracer without emitters, and the total as it is
-  removal : {total : ℕ} {w : World} → Stands total w → (gasTotal (step w (removeEmitter t id) .next) t ≡ total) × (block (step w (removeEmitter t id) .next) t ≡ noEmitters)
+  removal : {total : ℕ} {w : World} → Stands total w → (gasTotal (step w (removeEmitter t id) .next) t ≡ total) × (block (step w (removeEmitter t id) .next) t ≡ freshBlock)
   removal {total} {w} s =
       let none = none-sound (worldCells (w .grid)) in
       let has : hasId (block w t) id ≡ true = rw (s .only) (added-has none id c units none-room (s .inside) (none-has id)) in
       let accepted : step w (removeEmitter t id) .answer ≡ 0 = answer-is w (removeEmitter t id) ∙ can-remove w (s .reached) t id (s .there) has in
       let is = step-next w (removeEmitter t id) accepted .0 in
-      let left : emitterRemoved (block w t) id ≡ noEmitters = ap (λ (b : List ℕ). emitterRemoved b id) (s .only) ∙ add-remove none id c units none-room (s .inside) (none-has id) in (
+      let left : emitterRemoved (block w t) id ≡ freshBlock = ap (λ (b : List ℕ). emitterRemoved b id) (s .only) ∙ add-remove none id c units none-room (s .inside) (none-has id) in (
         ap (λ (v : World). gasTotal v t) is ∙ s .totalIs,
         ap (λ (v : World). block v t) is ∙ block-changed w (s .reached) t (s .there) (emitterRemoved (block w t) id) (rw left (none .many)) ∙ left,
       )
@@ -143,7 +144,7 @@ pub inventory :
     let end = after start ((addEmitter t c id units ∷ first) ++ ticking t rest ++ (removeEmitter t id ∷ [])) in
     t < start .grid .N → c < worldCells (start .grid) → besides t first ≡ true → allBeside t rest ≡ true →
     gasTotal start t + length rest * units ≤ totalLimit →
-    (gasTotal end t ≡ gasTotal start t + length rest * units) × (block end t ≡ noEmitters)
+    (gasTotal end t ≡ gasTotal start t + length rest * units) × (block end t ≡ freshBlock)
 unfolding after
 inventory w t c id units first rest loaded there inside beside-first beside-rest room =
     let before = all-beside t c id units first beside-first added in
@@ -158,7 +159,7 @@ inventory w t c id units first rest loaded there inside beside-first beside-rest
     reached : Reached start
     reached = loaded-reached w loaded
 
-    none : block start t ≡ noEmitters
+    none : block start t ≡ freshBlock
     none = loaded-block w loaded t (rw (loaded-is w loaded) at there)
 
     free : standing (block start t) < mostEmitters
@@ -180,7 +181,7 @@ inventory w t c id units first rest loaded there inside beside-first beside-rest
           inside = rw (kept .sameGrid) inside;
           only =
               ap (λ (v : World). block v t) is ∙
-              block-changed start reached t there (emitterAdded (block start t) id c units) (length-added (reached .emitters t there) id c units) ∙
+              block-changed start reached t there (emitterAdded (block start t) id c units) (length-added (reached .blocks t there) id c units) ∙
               ap (λ (b : List ℕ). emitterAdded b id c units) none;
           totalIs = ap (λ (v : World). gasTotal v t) is;
         }

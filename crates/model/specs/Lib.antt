@@ -2,12 +2,13 @@ pub mod Limits
 pub mod Basic
 pub mod World
 pub mod Scheme
+pub mod Emitters
+pub mod Limiters
 pub mod Sweep
 pub mod Remap
 pub mod Walk
 pub mod Long
 pub mod Range
-pub mod Emitters
 pub mod Step
 pub mod Lists
 pub mod Cases
@@ -18,3 +19,5 @@ pub mod Inventory
 pub mod Budget
 pub mod Readout
 pub mod Presses
+pub mod PerGas
+pub mod FixedBounds

@@ -62,9 +62,12 @@ mostSubsteps = 16
 abbrev pub mostEmitters : ℕ
 mostEmitters = 16
 
--- the numbers of the ledger for each tracer: three, and three for each emitter (Emitters.antt)
+-- the numbers of the ledger for each tracer: of its emitters three, and three for each (Emitters.antt), and behind them five of its limiter (Limiters.antt)
+abbrev pub emitterNumbers : ℕ
+emitterNumbers = 51
+
 abbrev pub blockNumbers : ℕ
-blockNumbers = 51
+blockNumbers = 56
 
 -- "K·C above 2,048 or N above 2": the largest world that the runner program takes
 abbrev pub programCells : ℕ

@@ -3,10 +3,11 @@ use Prim.Native.Nat.{ℕ, zero, suc, _+_, _*_, _<_}
 use mathlib.Core.List.{List, [], _∷_}
 use mathlib.Core.Bool.{Bool, true, false, _&&_}
 use mathlib.Core.Path.{_≡_}
-use lib.Dec.{ltb}
+use lib.Dec.{ltb, eqb}
 use lib.ListN.{getD, take}
 use Rattle.model.specs.Basic.{at}
 use Rattle.model.specs.World.{World, worldCells, gas, block}
+use Rattle.model.specs.Limiters.{presentOne, limiterOf}
 use Rattle.model.specs.Step.{Call, load, total, Exchange, noExchange, Named, nobody, tracer, meaning, step}
 
 -- "It starts with the world of an accepted load": that `step` accepts the load of w, and the world that it leaves
@@ -53,18 +54,22 @@ HasRatio w t z = (c : ℕ) → c < worldCells (w .grid) → at (gas w t) c ≡ z
 abbrev pub CallInRange : World → World → ℕ → Call → Type 0
 CallInRange w next t call = meaning call .range w next t
 
+-- (02) "The range claim covers the first only.": tracer t has the first limiter in the world w
+abbrev pub hasFirst : World → ℕ → Bool
+hasFirst w t = eqb (limiterOf w t .number) presentOne
+
 -- "Take two accepted loads on the same grid, N included, alike in all but the other tracers": `own` tells the tracers that are not the others
 pub record LoadedAlike (own : ℕ → Bool) (w v : World) : Type 0 where
   pub sameGrid : w .grid ≡ v .grid
   pub sameAir : w .air ≡ v .air
   pub sameGas : (t : ℕ) → own t ≡ true → gas w t ≡ gas v t
 
--- "At each point the air and this tracer's amounts are the same in both", and its emitters
+-- "At each point the air and this tracer's amounts are the same in both", and its block of the ledger: its emitters and its limiter
 pub record Alike (own : ℕ → Bool) (w v : World) : Type 0 where
   pub sameGrid : w .grid ≡ v .grid
   pub sameAir : w .air ≡ v .air
   pub sameGas : (t : ℕ) → own t ≡ true → gas w t ≡ gas v t
-  pub sameEmitters : (t : ℕ) → own t ≡ true → block w t ≡ block v t
+  pub sameBlock : (t : ℕ) → own t ≡ true → block w t ≡ block v t
 
 -- "calls that name no other tracer": an absent tracer's number names none
 abbrev pub namesOwn : (ℕ → Bool) → World → Named → Bool

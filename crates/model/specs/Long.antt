@@ -6,7 +6,8 @@ use mathlib.Core.Bool.{Bool}
 use lib.IntN.{ℤ}
 use Rattle.model.specs.Basic.{at, part, sum, tab, every}
 use Rattle.model.specs.World.{World, airFits, movedPart}
-use Rattle.model.specs.Scheme.{Rule, ruleOf}
+use Rattle.model.specs.Scheme.{Rule}
+use Rattle.model.specs.Limiters.{ruleOf}
 use Rattle.model.specs.Sweep.{Flow, ring, westOf, flux, forward, backward, afterFlow, cellMismatch}
 use Rattle.model.specs.Remap.{ColumnLayer, amountAbove}
 

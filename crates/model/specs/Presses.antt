@@ -14,12 +14,12 @@ use lib.ListN.{take, replicate}
 use Rattle.model.specs.Basic.{part}
 use Rattle.model.specs.World.{Grid, World, rowStart}
 use Rattle.model.specs.Sweep.{ring}
-use Rattle.model.specs.Step.{Call, load, emission, withdrawal, zonal, longZonal, meridional, remap, total, cell, addEmitter, removeEmitter, tick, unitsATick, countZonal, zonalWithCount, Place, firstOf, absent, otherCount, Result, meaning, commonPlaces, ownPlaces, accepted, refused, refusal, step, rowAir, zonalCount}
+use Rattle.model.specs.Step.{Call, load, emission, withdrawal, zonal, longZonal, meridional, remap, total, cell, addEmitter, removeEmitter, tick, unitsATick, countZonal, zonalWithCount, setLimiter, Place, firstOf, absent, otherCount, Result, meaning, commonPlaces, limiterPlaces, ownPlaces, accepted, refused, refusal, step, rowAir, zonalCount}
 use Rattle.model.specs.Lists.{Loaded, loadedWorld, listed, after, point, history, SameReply}
 use Rattle.model.specs.Laws.Basic.{Apart}
 use Rattle.model.specs.Laws.Grid.{layer-apart, rows-apart}
 use Rattle.model.specs.Laws.Chain.{IsCount, count-smallest}
-use Rattle.model.specs.Laws.Step.{passes, stops, found, numbered, behind-passed, behind-stopped, step-accepted, step-refused, answer-is, refused-changes-nothing, accepted-passed, loaded-reached}
+use Rattle.model.specs.Laws.Step.{passes, stops, found, numbered, behind-passed, behind-stopped, step-accepted, step-refused, answer-is, refused-changes-nothing, accepted-passed, limiters-sound, loaded-reached}
 use Rattle.model.specs.Laws.Keeps.{Kept}
 use Rattle.model.specs.Laws.Part.{ChangesOnly, air-apart}
 use Rattle.model.specs.Laws.Zonal.{zonal-sweeps, zonal-changes-only, reply-row}
@@ -51,16 +51,16 @@ module _ (w : World) (k r : ℕ) (fluxes : List ℤ) where
 
   -- ---- their refusals
   count-refusal : refusal w (countZonal k r fluxes) ≡ refusal w (zonal k r fluxes)
-  unfolding refusal commonPlaces ownPlaces
+  unfolding refusal commonPlaces limiterPlaces ownPlaces
   count-refusal = refl
 
   given-passed : (n : ℕ) → refusal w (zonal k r fluxes) ≡ 0 → refusal w (zonalWithCount k r n fluxes) ≡ firstOf (otherCount k r n fluxes ∷ []) w
-  unfolding refusal commonPlaces ownPlaces numbered
-  given-passed n e = behind-passed (commonPlaces (zonal k r fluxes) ++ ownPlaces (zonal k r fluxes)) (otherCount k r n fluxes ∷ []) w refl e
+  unfolding refusal commonPlaces limiterPlaces ownPlaces numbered
+  given-passed n e = behind-passed (commonPlaces (zonal k r fluxes) ++ (limiterPlaces (zonal k r fluxes) ++ ownPlaces (zonal k r fluxes))) (otherCount k r n fluxes ∷ []) w refl e
 
   given-stopped : (n m : ℕ) → refusal w (zonal k r fluxes) ≡ suc m → refusal w (zonalWithCount k r n fluxes) ≡ suc m
-  unfolding refusal commonPlaces ownPlaces
-  given-stopped n m e = behind-stopped (commonPlaces (zonal k r fluxes) ++ ownPlaces (zonal k r fluxes)) (otherCount k r n fluxes ∷ []) w m e
+  unfolding refusal commonPlaces limiterPlaces ownPlaces
+  given-stopped n m e = behind-stopped (commonPlaces (zonal k r fluxes) ++ (limiterPlaces (zonal k r fluxes) ++ ownPlaces (zonal k r fluxes))) (otherCount k r n fluxes ∷ []) w m e
 
   -- ---- the first press gives the single sweep's answer and count, and writes nothing
   pub first-press : (counted .answer ≡ single .answer) × (counted .count ≡ single .count) × (counted .next ≡ w)
@@ -158,6 +158,7 @@ leavesRowAir k r (tick t) = true
 leavesRowAir k r (unitsATick t) = true
 leavesRowAir k r (countZonal l s fluxes) = true
 leavesRowAir k r (zonalWithCount l s n fluxes) = not (eqb l k && eqb s r)
+leavesRowAir k r (setLimiter t number lo hi) = true
 
 unfoldable pub leaveRowAir : ℕ → ℕ → List Call → Bool
 leaveRowAir k r [] = true
@@ -231,6 +232,7 @@ one-leaves k r (zonalWithCount l s n fluxes) e w there =
     row-stays k r w there l s (zonalWithCount l s n fluxes) e
     (λ served. row-named l s _ w (accepted-passed w (zonalWithCount l s n fluxes) served .2))
     (λ served. rw (accepted-press w l s fluxes n (answer-is w (zonalWithCount l s n fluxes) ∙ served) .1) (zonal-changes-only l s fluxes w))
+one-leaves k r (setLimiter t number lo hi) e w there = air-stays k r (setLimiter t number lo hi) w refl refl
 
 all-leave : (k r : ℕ) (calls : List Call) → leaveRowAir k r calls ≡ true → (w : World) → r < w .grid .R → RowStays k r w (after w calls)
 unfolding leaveRowAir after
@@ -254,7 +256,7 @@ module _ (w : World) (calls : List Call) (loaded : Loaded w) (no-loads : listed 
       SameReply (at-point i) (at-point j) (countZonal k r fluxes)
       × (pressed (at-point j) k r fluxes (counted (at-point i) k r fluxes .count) ≡ single (at-point j) k r fluxes)
   count-stands fluxes i j sameAir =
-      let same = reply-row k r fluxes (at-point i) (at-point j) (kept i .sameGrid ∙ sym (kept j .sameGrid)) sameAir (kept i .reached .fits) (kept j .reached .fits) in
+      let same = reply-row k r fluxes (at-point i) (at-point j) (kept i .sameGrid ∙ sym (kept j .sameGrid)) sameAir (limiters-sound (kept i .reached) ∙ sym (limiters-sound (kept j .reached))) (kept i .reached .fits) (kept j .reached .fits) in
       let first = first-press (at-point i) k r fluxes in
       let later = first-press (at-point j) k r fluxes in
       let count = first .1 ∙ same .1 ∙ sym (later .1) in (
@@ -262,7 +264,7 @@ module _ (w : World) (calls : List Call) (loaded : Loaded w) (no-loads : listed 
         ap (pressed (at-point j) k r fluxes) count ∙ first-count (at-point j) k r fluxes,
       )
 
-  -- calls between them that leave the row's air alone: emissions, withdrawals, ticks, readings, changes of emitters, and sweeps of other rows and layers
+  -- calls between them that leave the row's air alone: emissions, withdrawals, ticks, readings, changes of emitters and limiters, and sweeps of other rows and layers
   pub row-air-stays :
       (i j : ℕ) → i ≤ j → r < loadedWorld w .grid .R → leaveRowAir k r (callsBetween calls i j) ≡ true →
       rowAir (at-point i) k r ≡ rowAir (at-point j) k r
@@ -282,7 +284,7 @@ pub some-leave :
     leaveRowAir 0 0
     (emission 0 1 5 ∷ withdrawal 0 1 5 ∷ zonal 1 0 (replicate 4 (pos 50)) ∷ longZonal 2 0 (replicate 4 (pos 50)) ∷ meridional 1 (replicate 8 (pos 1)) ∷
     addEmitter 0 3 7 40 ∷ tick 0 ∷ unitsATick 0 ∷ removeEmitter 0 7 ∷ countZonal 0 0 (replicate 4 (pos 50)) ∷ zonalWithCount 1 0 1 (replicate 4 (pos 50)) ∷
-    total 0 ∷ cell 0 3 ∷ []) ≡
+    setLimiter 0 2 0 0 ∷ total 0 ∷ cell 0 3 ∷ []) ≡
     true
 unfolding leaveRowAir
 some-leave = refl

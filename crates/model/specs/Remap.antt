@@ -7,7 +7,8 @@ use lib.Dec.{leb, ltb, eqb}
 use Rattle.model.specs.Limits.{airLimit, tableScale}
 use Rattle.model.specs.Basic.{at, sum, tab, every, some, howMany}
 use Rattle.model.specs.World.{Grid, World, layerCells, worldCells, layerStart, moved}
-use Rattle.model.specs.Scheme.{Mismatch, Rule, ruleOf, ratio, plain, lowPiece}
+use Rattle.model.specs.Scheme.{Mismatch, Rule, ratio, plain, lowPiece}
+use Rattle.model.specs.Limiters.{ruleOf}
 
 -- "A column is one cell place through all K layers"
 unfoldable pub column : Grid → List ℕ → ℕ → List ℕ

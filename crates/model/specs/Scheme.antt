@@ -5,7 +5,6 @@ use mathlib.Core.Bool.{Bool, true, false, not}
 use lib.Dec.{leb}
 use Rattle.model.specs.Limits.{scale}
 use Rattle.model.specs.Basic.{distance}
-use Rattle.model.specs.World.{World}
 
 -- "Ratio: q = floor(65,536·T / M)", (02) with 262,144
 unfoldable pub ratio : ℕ → ℕ → ℕ
@@ -20,20 +19,17 @@ pub record Mismatch : Type 0 where
 abbrev pub Rule : Type 0
 Rule = ℕ → ℕ → ℕ → Mismatch
 
--- "a neighbour on its low side (qa) and on its high side (qb): size = the smallest of |qb − qa|/2 rounded down, 2(q − least of the three), 2(greatest of the three − q); sign = that of qb − qa"; where qa = qb the size is 0 and the sign is never used
-unfoldable pub mismatch : Rule
-mismatch qa q qb =
-    record {
-      size =
-          min (distance qa qb / 2)
-          (min (2 * (q - min qa (min q qb)))
-          (2 * (max qa (max q qb) - q)));
-      positive = leb qa qb;
-    }
+-- "a neighbour on its low side (qa) and on its high side (qb): size = the smallest of |qb − qa|/2 rounded down" and what a rule sets as its limit; "sign = that of qb − qa"; where qa = qb the size is 0 and the sign is never used
+abbrev pub limitedTo : ℕ → ℕ → ℕ → Mismatch
+limitedTo limit qa qb = record { size = min (distance qa qb / 2) limit; positive = leb qa qb }
 
--- the rule for tracer t of a world: document 01 has one for all
-abbrev pub ruleOf : World → ℕ → Rule
-ruleOf w t = mismatch
+-- ".., 2(q − least ..), 2(greatest .. − q)": the rule that two ratios bound, `least` and `greatest`
+unfoldable pub bounded : ℕ → ℕ → Rule
+bounded least greatest qa q qb = limitedTo (min (2 * (q - least)) (2 * (greatest - q))) qa qb
+
+-- ".. least of the three .. greatest of the three"
+unfoldable pub mismatch : Rule
+mismatch qa q qb = bounded (min qa (min q qb)) (max qa (max q qb)) qa q qb
 
 -- "D = 0"
 abbrev pub plain : Mismatch

@@ -1,4 +1,4 @@
--- Document 01, "Refusals by place of checking" and "Emission, withdrawal, load, readings", and the long sweep, the emitters and the two presses of document 02: a call, what it means, and `step`, what it answers and leaves.
+-- Document 01, "Refusals by place of checking" and "Emission, withdrawal, load, readings", and the long sweep, the emitters, the two presses and the limiters of document 02: a call, what it means, and `step`, what it answers and leaves.
 -- Total in any world and any arguments. A place's test is computed only when it is reached.
 use Prim.Native.Nat.{ℕ, zero, suc, _+_, _*_, _-_}
 use mathlib.Core.List.{List, [], _∷_, _++_}
@@ -7,9 +7,9 @@ use lib.Dec.{leb, ltb, eqb}
 use lib.ListN.{length, set}
 use lib.IntN.{ℤ, natAbs}
 use Rattle.model.specs.Limits.{mostColumns, mostRows, mostLayers, mostTracers, tableScale, totalLimit, zonalLimit, meridionalLimit, tableLimit, mostEmitters, blockNumbers}
-use Rattle.model.specs.Basic.{at, part, every, zeros}
+use Rattle.model.specs.Basic.{at, part, every, tab, joined}
 use Rattle.model.specs.World.{Grid, World, layerCells, worldCells, layerStart, rowStart, tracerStart, withAmounts, withLedger, gas, withGas, block, withBlock, gasTotal, airFits}
-use Rattle.model.specs.Scheme.{ruleOf}
+use Rattle.model.specs.Limiters.{Limiter, limiterFits, withLimiter, freshBlock, limiterOf, ruleOf}
 use Rattle.model.specs.Sweep.{Mesh, ring, layer, flux, airAfter, gasAfter, serves, substepCount, swept}
 use Rattle.model.specs.Remap.{airAbove, remapServes, remapCount, remapped}
 use Rattle.model.specs.Long.{longAirFits, longSwept}
@@ -33,6 +33,7 @@ pub data Call : Type 0 where
   unitsATick : (t : ℕ) → Call
   countZonal : (k r : ℕ) → List ℤ → Call
   zonalWithCount : (k r n : ℕ) → List ℤ → Call
+  setLimiter : (t number lo hi : ℕ) → Call
 
 -- A place: its number, and the test of whether it applies
 pub record Place : Type 0 where
@@ -63,6 +64,10 @@ absent i many = place 5 (λ w. not (ltb i (many (w .grid))))
 -- .. and (02) "An emitter record handed in with, for any tracer, an absent cell, an id twice, more than 16 entries or a false sum is refused by 5 in this slip's calls; no other call tests it."
 abbrev pub brokenRecord : Place
 brokenRecord = place 5 (λ w. not (every (w .grid .N) (λ t. recordFits (worldCells (w .grid)) (block w t))))
+
+-- 21 (02): "when a tracer's limiter is unknown or its lo exceeds its hi"
+abbrev pub brokenLimiter : Place
+brokenLimiter = place 21 (λ w. not (every (w .grid .N) (λ t. limiterFits (limiterOf w t))))
 
 -- no flux's size exceeds a limit
 abbrev pub fluxesWithin : List ℤ → ℕ → Bool
@@ -103,9 +108,9 @@ pub record Result : Type 0 where
 abbrev pub withAmount : World → ℕ → ℕ → ℕ → World
 withAmount w t c amount = withAmounts w (w .air) (set (w .tracers) (tracerStart (w .grid) t + c) amount)
 
--- (02) "A load leaves none standing": the world with 0 over its whole ledger
+-- (02) "A load leaves none standing", and "gives every tracer the first limiter, with both bounds 0": the world with the ledger that a load leaves
 abbrev pub cleared : World → World
-cleared w = withLedger w (zeros (length (w .ledger)))
+cleared w = withLedger w (joined (tab (w .grid .N) (λ t. freshBlock)))
 
 -- The units of one tracer that come in and go out
 pub record Exchange : Type 0 where
@@ -120,10 +125,11 @@ pub data Named : Type 0 where
   nobody : Named
   tracer : ℕ → Named
 
--- What a call means: whether a list of calls may hold it; whether the list that it lends has the grid's length; its own places, in the table's order; where it is accepted, its count and the world afterwards; the tracer that it names; what it exchanges of tracer t, and the range that it promises for tracer t from the world before it to the world afterwards, where it is accepted
+-- What a call means: whether a list of calls may hold it; whether the list that it lends has the grid's length; whether it tests the limiters; its own places, in the table's order; where it is accepted, its count and the world afterwards; the tracer that it names; what it exchanges of tracer t, and the range that it promises for tracer t from the world before it to the world afterwards, where it is accepted
 pub record Meaning : Type 1 where
   pub listed : Bool
   pub lent : Grid → Bool
+  pub limiters : Bool
   pub places : List Place
   pub count : World → ℕ
   pub next : World → World
@@ -137,6 +143,7 @@ reads names places count =
     record {
       listed = true;
       lent = λ g. true;
+      limiters = false;
       places = places;
       count = count;
       next = λ w. w;
@@ -151,6 +158,7 @@ changes t c refusing new x =
     record {
       listed = true;
       lent = λ g. true;
+      limiters = false;
       places = absent t (λ g. g .N) ∷ absent c worldCells ∷ refusing ∷ [];
       count = λ w. 0;
       next = λ w. withAmount w t c (new (amountAt w t c));
@@ -159,12 +167,13 @@ changes t c refusing new x =
       range = λ w next t'. Unit {0};
     }
 
--- one that changes the emitters of tracer t
+-- one that changes tracer t's block of the ledger: its emitters, or its limiter
 abbrev pub enters : ℕ → List Place → (List ℕ → List ℕ) → Meaning
 enters t places new =
     record {
       listed = true;
       lent = λ g. true;
+      limiters = false;
       places = places;
       count = λ w. 0;
       next = λ w. withBlock w t (new (block w t));
@@ -180,6 +189,7 @@ sweeps mesh start fluxes count lent places =
     record {
       listed = true;
       lent = lent;
+      limiters = true;
       places = places;
       count = count;
       next = λ w. swept w (mesh (w .grid)) (start (w .grid)) fluxes (count w);
@@ -208,6 +218,7 @@ counts m =
     record {
       listed = m .listed;
       lent = m .lent;
+      limiters = m .limiters;
       places = m .places;
       count = m .count;
       next = λ before. before;
@@ -218,11 +229,12 @@ counts m =
 
 abbrev pub meaning : Call → Meaning
 -- "A load checks lent air and tracers, changes nothing in them, and they are the world from then on."
--- (02) "A load leaves none standing, and doesn't test the old ones." It begins a list and stands in none.
+-- (02) "A load leaves none standing, and doesn't test the old ones."; "A load gives every tracer the first limiter" and tests none either. It begins a list and stands in none.
 meaning load =
     record {
       listed = false;
       lent = λ g. true;
+      limiters = false;
       places = [];
       count = λ w. 0;
       next = cleared;
@@ -242,6 +254,7 @@ meaning (longZonal k r fluxes) =
     record {
       listed = true;
       lent = λ g. eqb (length fluxes) (g .W);
+      limiters = true;
       places =
           absent k (λ g. g .K) ∷ absent r (λ g. g .R) ∷ fluxTooLarge fluxes zonalLimit ∷
           place 16 (λ w. not (fluxesWithin fluxes (airAbove (rowAir w k r) (w .grid .W)))) ∷
@@ -260,6 +273,7 @@ meaning (remap table) =
     record {
       listed = true;
       lent = λ g. eqb (length table) (2 * (g .K + 1));
+      limiters = true;
       places = place 11 (λ w. not (tableFits (w .grid .K) table)) ∷ place 12 (λ w. not (remapServes w table)) ∷ [];
       count = λ w. remapCount w table;
       next = λ w. remapped w table;
@@ -284,6 +298,7 @@ meaning (tick t) =
     record {
       listed = true;
       lent = λ g. true;
+      limiters = false;
       places = absent t (λ g. g .N) ∷ brokenRecord ∷ place 6 (λ w. ltb totalLimit (gasTotal w t + keptUnits (block w t))) ∷ [];
       count = λ w. 0;
       next = λ w. withGas w t (ticked (block w t) (standing (block w t)) (gas w t));
@@ -297,6 +312,10 @@ meaning (unitsATick t) = reads (tracer t) (absent t (λ g. g .N) ∷ brokenRecor
 -- 20 is "tested after 9 in the second call"
 meaning (countZonal k r fluxes) = counts (sweepsRow k r fluxes (λ w. zonalCount w k r fluxes) [])
 meaning (zonalWithCount k r n fluxes) = sweepsRow k r fluxes (λ w. n) (otherCount k r n fluxes ∷ [])
+-- (02) "a new call sets one tracer's limiter and bounds"; 21 "after 5, for the given ones only, in the setting call"
+meaning (setLimiter t number lo hi) =
+    let given : Limiter = record { number = number; lo = lo; hi = hi } in
+    enters t (absent t (λ g. g .N) ∷ place 21 (λ w. not (limiterFits given)) ∷ []) (λ b. withLimiter b given)
 
 -- 2: "a lent length is not the grid's"; a sweep's fluxes and a remap's table are lent too
 abbrev pub lentFits : Grid → Call → Bool
@@ -318,6 +337,10 @@ commonPlaces call =
     place 4 (λ w. not (every (w .grid .N) (λ t. leb (gasTotal w t) totalLimit))) ∷
     []
 
+-- 21 (02): "after 4 in calls that move air and in Slip 5's count call"
+unfoldable pub limiterPlaces : Call → List Place
+limiterPlaces call = elim (meaning call .limiters) [ true ↦ brokenLimiter ∷ [] | false ↦ [] ]
+
 unfoldable pub ownPlaces : Call → List Place
 ownPlaces call = meaning call .places
 
@@ -331,7 +354,7 @@ refused w number = record { answer = number; count = 0; next = w }
 
 -- The refusal that a call gets, 0 where it is accepted
 unfoldable pub refusal : World → Call → ℕ
-refusal w call = firstOf (commonPlaces call ++ ownPlaces call) w
+refusal w call = firstOf (commonPlaces call ++ (limiterPlaces call ++ ownPlaces call)) w
 
 -- What a call does in a world
 unfoldable pub step : World → Call → Result

@@ -9,7 +9,8 @@ use lib.IntN.{ℤ, pos, negsuc}
 use Rattle.model.specs.Limits.{mostSubsteps}
 use Rattle.model.specs.Basic.{at, sum, tab, every, smallest, part}
 use Rattle.model.specs.World.{World, airFits, movedPart}
-use Rattle.model.specs.Scheme.{Mismatch, Rule, ruleOf, ratio, plain, highPiece, lowPiece}
+use Rattle.model.specs.Scheme.{Mismatch, Rule, ratio, plain, highPiece, lowPiece}
+use Rattle.model.specs.Limiters.{ruleOf}
 
 -- The faces of a cell: a low and a high one; or, of a cap, n faces from face k on, all on its high side (south) or all on its low side (north)
 pub data Sides : Type 0 where

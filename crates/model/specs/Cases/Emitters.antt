@@ -17,11 +17,11 @@ use Rattle.model.specs.Cases.Marked.{grid, four, six, hundreds, refuses}
 abbrev one : ℕ → ℕ → ℕ → List ℕ
 one id c units = id ∷ c ∷ units ∷ []
 
--- a block of 51 numbers: how many stand, the two halves of their sum, the emitters, and 0
+-- a block of 56 numbers: how many stand, the two halves of their sum, the emitters, and 0; then the first limiter
 abbrev holding : ℕ → ℕ → ℕ → List (List ℕ) → List ℕ
 holding n low high emitters =
     let numbers : List ℕ = joined emitters in
-    n ∷ low ∷ high ∷ numbers ++ zeros (48 - length numbers)
+    n ∷ low ∷ high ∷ numbers ++ zeros (48 - length numbers) ++ 1 ∷ 0 ∷ 0 ∷ 0 ∷ 0 ∷ []
 
 abbrev none : List ℕ
 none = holding 0 0 0 []
@@ -184,21 +184,21 @@ lent n = having gases (zeros n)
 
 abbrev lengths : List Case
 lengths =
-    refuses "y2-57 load" (lent 101) load 2 ∷
-    refuses "y2-57 emission" (lent 101) (emission 0 3 7) 2 ∷
-    refuses "y2-57 withdrawal" (lent 101) (withdrawal 0 3 7) 2 ∷
-    refuses "y2-57 zonal" (lent 101) (zonal 0 0 (four (pos 0) (pos 50) (pos 0) (pos 0))) 2 ∷
-    refuses "y2-57 long" (lent 101) (longZonal 0 0 (four (pos 0) (pos 0) (pos 50) (pos 0))) 2 ∷
-    refuses "y2-57 meridional" (lent 101) (meridional 0 (four (pos 10) (pos 0) (pos 0) (pos 0) ++ four (pos 0) (pos 0) (pos 0) (negℤ (pos 10)))) 2 ∷
-    refuses "y2-57 remap" (lent 101) (remap (four 0 0 0 65536)) 2 ∷
-    refuses "y2-57 total" (lent 101) (total 0) 2 ∷
-    refuses "y2-57 cell" (lent 101) (cell 0 3) 2 ∷
-    refuses "y2-57 added" (lent 101) (addEmitter 0 0 50 1) 2 ∷
-    refuses "y2-57 removed" (lent 101) (removeEmitter 0 7) 2 ∷
-    refuses "y2-57 tick" (lent 101) (tick 0) 2 ∷
-    refuses "y2-57 reading" (lent 101) (unitsATick 0) 2 ∷
-    refuses "y2-58" (lent 103) (emission 0 3 7) 2 ∷
-    refuses "y2-59" (lent 51) (tick 0) 2 ∷
+    refuses "y2-57 load" (lent 111) load 2 ∷
+    refuses "y2-57 emission" (lent 111) (emission 0 3 7) 2 ∷
+    refuses "y2-57 withdrawal" (lent 111) (withdrawal 0 3 7) 2 ∷
+    refuses "y2-57 zonal" (lent 111) (zonal 0 0 (four (pos 0) (pos 50) (pos 0) (pos 0))) 2 ∷
+    refuses "y2-57 long" (lent 111) (longZonal 0 0 (four (pos 0) (pos 0) (pos 50) (pos 0))) 2 ∷
+    refuses "y2-57 meridional" (lent 111) (meridional 0 (four (pos 10) (pos 0) (pos 0) (pos 0) ++ four (pos 0) (pos 0) (pos 0) (negℤ (pos 10)))) 2 ∷
+    refuses "y2-57 remap" (lent 111) (remap (four 0 0 0 65536)) 2 ∷
+    refuses "y2-57 total" (lent 111) (total 0) 2 ∷
+    refuses "y2-57 cell" (lent 111) (cell 0 3) 2 ∷
+    refuses "y2-57 added" (lent 111) (addEmitter 0 0 50 1) 2 ∷
+    refuses "y2-57 removed" (lent 111) (removeEmitter 0 7) 2 ∷
+    refuses "y2-57 tick" (lent 111) (tick 0) 2 ∷
+    refuses "y2-57 reading" (lent 111) (unitsATick 0) 2 ∷
+    refuses "y2-58" (lent 113) (emission 0 3 7) 2 ∷
+    refuses "y2-59" (lent 56) (tick 0) 2 ∷
     refuses "y2-60" (record { grid = grid 3 1 1 2; air = hundreds; tracers = gases; ledger = [] }) load 1 ∷
     refuses "y2-61" (record { grid = grid 4 1 1 2; air = set hundreds 0 0; tracers = gases; ledger = [] }) load 2 ∷
     []
@@ -209,8 +209,8 @@ broken = two falseSum seventeen
 
 abbrev others : List Case
 others =
-    enters "y2-64" (two (holding 3 0 0 (one 7 3 250 ∷ one 8 1 20 ∷ one 9 5 30 ∷ remains)) (holding 17 80 0 (tab 16 (λ i. one 5 5 5)))) load (zeros 102) ∷
-    enters "y2-65" (two three single) load (zeros 102) ∷
+    enters "y2-64" (two (holding 3 0 0 (one 7 3 250 ∷ one 8 1 20 ∷ one 9 5 30 ∷ remains)) (holding 17 80 0 (tab 16 (λ i. one 5 5 5)))) load (none ++ none) ∷
+    enters "y2-65" (two three single) load (none ++ none) ∷
     refuses "y2-66" (record { grid = grid 4 1 1 2; air = set hundreds 0 0; tracers = gases; ledger = three ++ single }) load 3 ∷
     refuses "y2-67" (having (set gases 0 268435455) (falseSum ++ seventeen)) load 4 ∷
     emits "y2-68 emission" broken (emission 0 3 7) (six 0 0 100 207 100 0 ++ six 5 7 11 13 17 19) ∷

@@ -1,23 +1,23 @@
 -- Document 01, "Marked cases" m1 to m12, as one table with one theorem about `step`.
 -- Assumes nothing. Amounts that document 01 leaves open: the caps hold air 100 and tracer 0 where nothing else is said.
-use Prim.Native.Nat.{ℕ, _*_}
+use Prim.Native.Nat.{ℕ}
 use Prim.Native.String.{String}
 use mathlib.Core.List.{List, [], _∷_, _++_}
 use mathlib.Core.Path.{refl}
 use lib.IntN.{ℤ, pos, negℤ}
 use lib.ListN.{replicate}
-use Rattle.model.specs.Limits.{blockNumbers}
-use Rattle.model.specs.Basic.{zeros}
+use Rattle.model.specs.Basic.{joined, tab}
 use Rattle.model.specs.World.{Grid, World}
+use Rattle.model.specs.Limiters.{freshBlock}
 use Rattle.model.specs.Step.{Call, emission, zonal, remap}
 use Rattle.model.specs.Cases.{Case, Hold, hold, computes}
 
--- a grid, a world in which no emitter stands, four fluxes, six amounts: south cap, row of four, north cap
+-- a grid, a world with the ledger that a load leaves, four fluxes, six amounts: south cap, row of four, north cap
 abbrev pub grid : ℕ → ℕ → ℕ → ℕ → Grid
 grid W R K N = record { W = W; R = R; K = K; N = N }
 
 abbrev pub world : Grid → List ℕ → List ℕ → World
-world g air tracers = record { grid = g; air = air; tracers = tracers; ledger = zeros (g .N * blockNumbers) }
+world g air tracers = record { grid = g; air = air; tracers = tracers; ledger = joined (tab (g .N) (λ t. freshBlock)) }
 
 abbrev pub four : {A : Type 0} → A → A → A → A → List A
 four a b c d = a ∷ b ∷ c ∷ d ∷ []

@@ -57,7 +57,7 @@ module _ (w : World) (reached : Reached w) (t c x : ℕ) (present : t < w .grid 
                 air = fits .air;
                 totals = λ t' h. totals t' h (ℕ-discrete t' t);
               };
-              emitters = reached .emitters;
+              blocks = reached .blocks;
             };
         sameGrid = refl;
         gasKept = λ t' h. kept t' h (ℕ-discrete t' t);
@@ -101,7 +101,7 @@ module _ (own : ℕ → Bool) (w : World) (t c : ℕ) (inside : c < worldCells (
         sameGrid = a .sameGrid;
         sameAir = a .sameAir;
         sameGas = λ t' o. same t' o (ℕ-discrete t' t);
-        sameEmitters = a .sameEmitters;
+        sameBlock = a .sameBlock;
       }
     where
       x : ℕ
@@ -124,7 +124,7 @@ module _ (own : ℕ → Bool) (w : World) (t c : ℕ) (inside : c < worldCells (
         sameGrid = refl;
         sameAir = refl;
         sameGas = λ t' o. sym (gas-unchanged w t c x inside t' (λ q. true≢false (sym o ∙ ap own q ∙ other)));
-        sameEmitters = λ t' o. refl;
+        sameBlock = λ t' o. refl;
       }
 
 -- ---- the calls
@@ -158,7 +158,7 @@ changes-keep t c last new x reading room =
           let r = room w (q .1) in
           record {
             kept = amount-kept w reached t c _ (p .0) (q .0) x (r .balance) (r .most (reached .fits .totals t (p .0)));
-            inRange = λ t' h. tt;
+            inRange = λ t' h first. tt;
             alike = λ own v vv a named. (amount-alike own w t c (q .0) v a (named-alike own w v a t named (p .0)) new, refl);
             apart = λ own other. amount-apart own w t c (q .0) _ (names-present own w t (p .0) ∙ other);
           };

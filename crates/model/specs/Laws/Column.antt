@@ -18,7 +18,7 @@ use Rattle.model.specs.Range.{inRange, unitsAndQuarter, isNearLayer}
 use Rattle.model.specs.Step.{tableFits}
 use Rattle.model.specs.Laws.Basic.{both, every-at, sum-steps, steps-rise}
 use Rattle.model.specs.Laws.Scheme.{Limited, Safe, ratio-safe, plain-safe, ratio-constant}
-use Rattle.model.specs.Laws.Fractions.{Inside, room-level, room-between, Monotone, Bounded, in-range}
+use Rattle.model.specs.Laws.Fractions.{Monotone, Roomy, room-ends, Bounded, in-range}
 use Rattle.model.specs.Laws.Above.{Leans, amount-none, amount-whole, amount-rises, between-sum, between-even, layer-between, amount-between}
 
 -- ---- edges that serve, of a table that fits
@@ -128,23 +128,20 @@ module _ {rule : Rule} (limited : Limited rule) (cap : Bool) (K : ℕ) (table ai
       same : (i : ℕ) → i < K → layerRatio air gas i ≡ scale * z
       same i hi = ratio-constant (at air i) (at gas i) z (has i hi) (even i hi)
 
-  -- a layer near which none passes a fraction may lean by its slope
+  -- a layer near which all layers fit may lean by its slope
   layer-leans :
-      Monotone rule → (shares : ℕ → Bool) (b : Bool) (H L : ℕ) →
-      ((d : ℕ) → d < K → isNearLayer K shares d ≡ true → Inside b H L (at air d) (at gas d)) → (k : ℕ) → k < K →
+      {b : Bool} {H L : ℕ} {Fits : ℕ → ℕ → Type 0} → Roomy rule b H L Fits → (shares : ℕ → Bool) →
+      ((d : ℕ) → d < K → isNearLayer K shares d ≡ true → Fits (at air d) (at gas d)) → (k : ℕ) → k < K →
       shares k ≡ true → Leans b H L (layerOf rule cap K air gas k)
-  layer-leans monotone shares b H L inside k h shared =
-      let here = inside k h (near-self K shares k shared) in
+  layer-leans {b} {H} {L} roomy shares fits k h shared =
+      let here = fits k h (near-self K shares k shared) in
       ⊎-elim
-      (λ (e : layerMismatch rule cap K air gas k ≡ plain). rw e (room-level b H L _ _ here))
+      (λ (e : layerMismatch rule cap K air gas k ≡ plain). rw e (roomy .level _ _ here))
       (λ inner.
-      let up : k - 1 < K = omega arith in
       rw (inner .2)
-      (room-between b H L (at air k) (at gas k) (has k h) here _ (at air (k - 1)) (at gas (k - 1)) (at air (suc k)) (at gas (suc k)) (has _ up) (has _ (inner .1))
-      (inside _ up (near-above K shares k shared (inner .0) h))
-      (inside _ (inner .1) (near-below K shares k shared))
-      (monotone .towardsLow _ _ _)
-      (monotone .towardsHigh _ _ _)))
+      (room-ends b _ H L _ _ _
+      (roomy .low _ _ _ _ _ (fits (k - 1) (omega arith) (near-above K shares k shared (inner .0) h)) here)
+      (roomy .high _ _ _ _ _ here (fits (suc k) (inner .1) (near-below K shares k shared)))))
       (layer-slope rule cap K air gas k h)
 
   module _ (edges : Edges K table (airAbove air K)) where
@@ -173,7 +170,7 @@ module _ {rule : Rule} (limited : Limited rule) (cap : Bool) (K : ℕ) (table ai
         rw (layers-are rule cap K air gas)
         (between-even (layerOf rule cap K air gas) K has _ K (edge-rises K table _ edges) (edge-le K table _ edges K (omega arith)) z (λ k p. (layer-level z even k p, even k p)) j h)
 
-    -- ---- the range: a new layer passes no fraction that bounds the layers near it, but for 1/scale and a unit
+    -- ---- the range: a new layer passes no fraction that leaves room to the layers near it, but for 1/scale and a unit
     shared :
         (j k : ℕ) →
         max (airAbove air k) (edge table (airAbove air K) j) < min (airAbove air (suc k)) (edge table (airAbove air K) (suc j)) →
@@ -181,18 +178,18 @@ module _ {rule : Rule} (limited : Limited rule) (cap : Bool) (K : ℕ) (table ai
     unfolding shareAir
     shared j k h = lt-ltb _ _ h
 
-    new-layer-bounded :
-        Monotone rule → (j : ℕ) → j < K →
-        Bounded K (isNearLayer K (shareAir table air (airAbove air K) j)) air gas 1 (newAir table (airAbove air K) j) (newTracer table (airAbove air K) (layers rule cap K air gas) j)
-    new-layer-bounded monotone j h b H L inside =
+    pub new-layer-bounded :
+        (j : ℕ) → j < K →
+        Bounded rule K (isNearLayer K (shareAir table air (airAbove air K) j)) air gas 1 (newAir table (airAbove air K) j) (newTracer table (airAbove air K) (layers rule cap K air gas) j)
+    new-layer-bounded j h b H L Fits roomy fits =
         rw (layers-are rule cap K air gas)
         (amount-between (layerOf rule cap K air gas) K has layer-safe b H L _ _ (edges .rises j h) (edge-le K table _ edges (suc j) h)
-        (λ k hk s. layer-leans monotone (shareAir table air (airAbove air K) j) b H L inside k hk (shared j k s)))
+        (λ k hk s. layer-leans roomy (shareAir table air (airAbove air K) j) fits k hk (shared j k s)))
 
     pub new-layer-in-range :
         Monotone rule → (j : ℕ) → j < K →
         inRange K (isNearLayer K (shareAir table air (airAbove air K) j)) air gas (unitsAndQuarter 1) (newAir table (airAbove air K) j) (newTracer table (airAbove air K) (layers rule cap K air gas) j) ≡ true
     new-layer-in-range monotone j h =
         let some = layer-between (layerOf rule cap K air gas) K has K _ _ (omega arith) (edges .rises j h) (edge-le K table _ edges (suc j) h) in
-        in-range K _ air gas (some .0) (some .1) (near-self K (shareAir table air (airAbove air K) j) _ (shared j _ (some .2))) (has _ (some .1)) 1 _ _ (new-air-least K table _ edges j h) (edges .most j h)
-        (new-layer-bounded monotone j h)
+        in-range K _ air gas (some .0) (some .1) (near-self K (shareAir table air (airAbove air K) j) _ (shared j _ (some .2))) has monotone 1 _ _ (new-air-least K table _ edges j h) (edges .most j h)
+        (new-layer-bounded j h)

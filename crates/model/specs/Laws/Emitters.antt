@@ -1,5 +1,5 @@
--- Laws of a tracer's block of the ledger: what holds of it in every world that calls reach, and what adding and removing an emitter does to it.
--- Assumes a block of 51 numbers, as place 2 has it.
+-- Laws of a tracer's block of the ledger: what holds of it in every world that calls reach, and what adding and removing an emitter and setting the limiter do to it.
+-- Assumes a block of 56 numbers, as place 2 has it.
 use Prim.Native.Nat.{ℕ, zero, suc, _+_, _*_, _-_, _/_, _%_, _≤_, _<_}
 use mathlib.Core.List.{List}
 use mathlib.Core.Bool.{Bool, true, false, not, _&&_, _||_, or-false, false≢true, true≢false}
@@ -13,12 +13,14 @@ use borrow.Author.Tests.{leb-true, ltb-true, eqb-true, le-leb, lt-ltb, eq-eqb, n
 use lib.Dec.{leb, ltb, eqb}
 use lib.ListN.{length, set, length-set}
 use lib.Seq.{ext-getD, set-getD, getD-set-same, getD-set-other}
-use Rattle.model.specs.Limits.{mostEmitters, blockNumbers}
-use Rattle.model.specs.Basic.{at, part, zeros, tabFrom, sum, every, some}
+use Rattle.model.specs.Limits.{mostEmitters, emitterNumbers, blockNumbers}
+use Rattle.model.specs.Basic.{at, zeros, tabFrom, sum, every, some}
 use Rattle.model.specs.Emitters.{standing, emitterId, emitterCell, emitterUnits, half, keptUnits, presentUnits, hasId, recordFits, withHead, withEmitter, emitterAdded, placeOf, emitterRemoved, ticked}
-use Rattle.model.specs.Laws.Basic.{length-zeros, at-zeros, length-part, at-part, sum-ext, sum-more, sum-set, sum-changed, both, every-at, every-true, some-true, le-or-lt}
+use Rattle.model.specs.Limiters.{Limiter, limiterFits, limiterIn, withLimiter, firstLimiter, freshBlock}
+use Rattle.model.specs.Laws.Basic.{length-zeros, at-zeros, sum-ext, sum-more, sum-set, sum-changed, both, every-at, every-true, some-true, le-or-lt}
+use Rattle.model.specs.Laws.Limiters.{limiter-rest, length-limiter, limiter-read}
 
--- a block that calls left: it passes its test, its sum is in halves below 2^32, and 0 stands over its free places
+-- a block that calls left: it passes its test, its sum is in halves below 2^32, 0 stands over the free places of its emitters, and its limiter is one of the three
 pub record Sound (cells : ℕ) (b : List ℕ) : Type 0 where
   pub many : length b ≡ blockNumbers
   pub few : standing b ≤ mostEmitters
@@ -26,44 +28,71 @@ pub record Sound (cells : ℕ) (b : List ℕ) : Type 0 where
   pub apart : (i j : ℕ) → i < standing b → j < standing b → i ≢ j → emitterId b i ≢ emitterId b j
   pub low : at b 1 ≡ presentUnits b % half
   pub high : at b 2 ≡ presentUnits b / half
-  pub free : (k : ℕ) → 3 + 3 * standing b ≤ k → at b k ≡ 0
+  pub free : (k : ℕ) → 3 + 3 * standing b ≤ k → k < emitterNumbers → at b k ≡ 0
+  pub limiter : limiterFits (limiterIn b) ≡ true
 
--- ---- a block in which none stands, as a load leaves it
-abbrev pub noEmitters : List ℕ
-noEmitters = zeros blockNumbers
+-- ---- a block as a load leaves it: none stands
+fresh-at : (k : ℕ) → k < emitterNumbers → at freshBlock k ≡ 0
+fresh-at k h = limiter-rest (zeros blockNumbers) firstLimiter k h ∙ at-zeros blockNumbers k
 
-pub part-none : (n a m : ℕ) → a + m ≤ n → part (zeros n) a m ≡ zeros m
-part-none n a m h =
-    let inside : a + m ≤ length (zeros n) = rw (length-zeros n) h in
-    ext-getD 0 (part (zeros n) a m) (zeros m)
-    (length-part (zeros n) a m inside ∙ sym (length-zeros m))
-    (λ i k.
-    let few : i < m = rw (length-part (zeros n) a m inside) at k in
-    at-part (zeros n) a m i few ∙ at-zeros n (a + i) ∙ sym (at-zeros m i))
-
-pub none-present : presentUnits noEmitters ≡ 0
+pub none-present : presentUnits freshBlock ≡ 0
 unfolding sum tabFrom
 none-present = refl
 
-pub none-room : standing noEmitters < mostEmitters
-none-room = rw (at-zeros blockNumbers 0) (omega arith)
+pub none-room : standing freshBlock < mostEmitters
+none-room = rw (fresh-at 0 (omega arith)) (omega arith)
 
-pub none-has : (id : ℕ) → hasId noEmitters id ≡ false
+pub none-has : (id : ℕ) → hasId freshBlock id ≡ false
 unfolding tabFrom some
 none-has id = refl
 
-pub none-sound : (cells : ℕ) → Sound cells noEmitters
+pub fresh-limiter : limiterIn freshBlock ≡ firstLimiter
+fresh-limiter = limiter-read (zeros blockNumbers) firstLimiter (length-zeros blockNumbers)
+
+pub none-sound : (cells : ℕ) → Sound cells freshBlock
 none-sound cells =
-    let at-none : (k : ℕ) → at noEmitters k ≡ 0 = at-zeros blockNumbers in
+    let stand : standing freshBlock ≡ 0 = fresh-at 0 (omega arith) in
     record {
-      many = length-zeros blockNumbers;
-      few = rw (at-none 0) (omega arith);
-      there = λ i h. absurd (omega (arith, at-none 0));
-      apart = λ i j h. absurd (omega (arith, at-none 0));
-      low = at-none 1 ∙ rw none-present;
-      high = at-none 2 ∙ rw none-present;
-      free = λ k h. at-none k;
+      many = length-limiter (zeros blockNumbers) firstLimiter (length-zeros blockNumbers);
+      few = rw stand (omega arith);
+      there = λ i h. absurd (omega arith);
+      apart = λ i j h. absurd (omega arith);
+      low = fresh-at 1 (omega arith) ∙ rw none-present;
+      high = fresh-at 2 (omega arith) ∙ rw none-present;
+      free = λ k h few. fresh-at k few;
+      limiter = ap limiterFits fresh-limiter;
     }
+
+-- ---- another limiter: the emitters are as they were
+pub limiter-sound : {cells : ℕ} {b : List ℕ} → Sound cells b → (l : Limiter) → limiterFits l ≡ true → Sound cells (withLimiter b l)
+limiter-sound {cells} {b} sound l fits =
+    record {
+      many = length-limiter b l (sound .many);
+      few = rw same-standing (sound .few);
+      there = λ i h. rw (same (4 + 3 * i) (omega (arith, in-block i (rw same-standing at h)))) (sound .there i (rw same-standing at h));
+      apart =
+          λ i j h h' ne e.
+          sound .apart i j (rw same-standing at h) (rw same-standing at h') ne
+          (sym (same (3 + 3 * i) (omega (arith, in-block i (rw same-standing at h)))) ∙ e ∙ same (3 + 3 * j) (omega (arith, in-block j (rw same-standing at h'))));
+      low = same 1 (omega arith) ∙ sound .low ∙ ap (λ (x : ℕ). x % half) (sym same-present);
+      high = same 2 (omega arith) ∙ sound .high ∙ ap (λ (x : ℕ). x / half) (sym same-present);
+      free = λ k h few. same k few ∙ sound .free k (rw same-standing at h) few;
+      limiter = ap limiterFits (limiter-read b l (sound .many)) ∙ fits;
+    }
+  where
+    same : (k : ℕ) → k < emitterNumbers → at (withLimiter b l) k ≡ at b k
+    same = limiter-rest b l
+
+    same-standing : standing (withLimiter b l) ≡ standing b
+    same-standing = same 0 (omega arith)
+
+    in-block : (i : ℕ) → i < standing b → 5 + 3 * i < emitterNumbers
+    in-block i h = omega (arith, sound .few)
+
+    same-present : presentUnits (withLimiter b l) ≡ presentUnits b
+    same-present =
+        ap (λ (n : ℕ). sum n (emitterUnits (withLimiter b l))) same-standing ∙
+        sum-ext (standing b) _ _ (λ i h. same (5 + 3 * i) (in-block i h))
 
 -- ---- the test of a record
 pub kept-is : {cells : ℕ} {b : List ℕ} → Sound cells b → keptUnits b ≡ presentUnits b
@@ -165,6 +194,16 @@ module _ (b : List ℕ) (many : length b ≡ blockNumbers) where
     other-units : (j : ℕ) → j ≢ i → emitterUnits (withEmitter b i id c units) j ≡ emitterUnits b j
     other-units j h = emitter-rest (5 + 3 * j) (omega arith) (omega arith) (omega arith)
 
+-- the same limiter, where the numbers behind the emitters' are the same
+same-limiter : (b c : List ℕ) → ((k : ℕ) → emitterNumbers ≤ k → at b k ≡ at c k) → limiterIn b ≡ limiterIn c
+same-limiter b c same =
+    λ i.
+    record {
+      number = same 51 (omega arith) i;
+      lo = same 52 (omega arith) i + half * same 53 (omega arith) i;
+      hi = same 54 (omega arith) i + half * same 55 (omega arith) i;
+    }
+
 -- ---- an emitter added
 module _ {cells : ℕ} {b : List ℕ} (sound : Sound cells b) (id c units : ℕ) where
   abbrev n : ℕ
@@ -230,6 +269,13 @@ module _ {cells : ℕ} {b : List ℕ} (sound : Sound cells b) (id c units : ℕ)
     added-kept : keptUnits b + units ≡ presentUnits more
     added-kept = ap (λ (x : ℕ). x + units) (kept-is sound) ∙ sym added-present
 
+    -- the numbers behind the emitters' are as they were
+    added-behind : (k : ℕ) → emitterNumbers ≤ k → at more k ≡ at b k
+    added-behind k h = added-rest k (omega arith) (omega arith) (omega arith) (omega arith)
+
+    pub added-keeps-limiter : limiterIn more ≡ limiterIn b
+    added-keeps-limiter = same-limiter more b added-behind
+
     pub added-sound : c < cells → hasId b id ≡ false → Sound cells more
     added-sound there new =
         record {
@@ -240,9 +286,10 @@ module _ {cells : ℕ} {b : List ℕ} (sound : Sound cells b) (id c units : ℕ)
           low = added-low ∙ ap (λ (x : ℕ). x % half) added-kept;
           high = added-high ∙ ap (λ (x : ℕ). x / half) added-kept;
           free =
-              λ k h.
+              λ k h few.
               let past : 3 + 3 * (n + 1) ≤ k = rw added-standing at h in
-              added-rest k (omega arith) (omega arith) (omega arith) (omega arith) ∙ sound .free k (omega arith);
+              added-rest k (omega arith) (omega arith) (omega arith) (omega arith) ∙ sound .free k (omega arith) few;
+          limiter = ap limiterFits added-keeps-limiter ∙ sound .limiter;
         }
       where
         cell-there : (i : ℕ) → Dec (i ≡ n) → i < n + 1 → emitterCell more i < cells
@@ -389,6 +436,16 @@ module _ {cells : ℕ} {b : List ℕ} (sound : Sound cells b) (id : ℕ) (presen
   removed-kept : units ≡ presentUnits fewer
   removed-kept = omega (arith, kept-is sound, removed-present)
 
+  removed-behind : (k : ℕ) → emitterNumbers ≤ k → at fewer k ≡ at b k
+  removed-behind k h =
+      let in-block : last < mostEmitters = omega (arith, sound .few, gone-in) in
+      let inside = gone-in in
+      removed-rest k (omega arith) (omega arith) (omega arith) (omega arith) (omega arith) (omega arith) ∙
+      head-rest b (sound .many) last units k (omega arith)
+
+  pub removed-keeps-limiter : limiterIn fewer ≡ limiterIn b
+  removed-keeps-limiter = same-limiter fewer b removed-behind
+
   pub removed-sound : Sound cells fewer
   removed-sound =
       record {
@@ -407,6 +464,7 @@ module _ {cells : ℕ} {b : List ℕ} (sound : Sound cells b) (id : ℕ) (presen
         low = removed-head 1 (omega arith) ∙ head-low b (sound .many) last units ∙ ap (λ (x : ℕ). x % half) removed-kept;
         high = removed-head 2 (omega arith) ∙ head-high b (sound .many) last units ∙ ap (λ (x : ℕ). x / half) removed-kept;
         free = λ k h. freed k (rw removed-standing at h) (ℕ-discrete k (3 + 3 * last)) (ℕ-discrete k (4 + 3 * last)) (ℕ-discrete k (5 + 3 * last));
+        limiter = ap limiterFits removed-keeps-limiter ∙ sound .limiter;
       }
     where
       room : last < mostEmitters
@@ -414,14 +472,14 @@ module _ {cells : ℕ} {b : List ℕ} (sound : Sound cells b) (id : ℕ) (presen
 
       freed :
           (k : ℕ) → 3 + 3 * last ≤ k → Dec (k ≡ 3 + 3 * last) → Dec (k ≡ 4 + 3 * last) → Dec (k ≡ 5 + 3 * last) →
-          at fewer k ≡ 0
-      freed k h (yes p) q r = rw p (emitter-id filled filled-many last 0 0 0 room)
-      freed k h (no p) (yes q) r = rw q (emitter-cell filled filled-many last 0 0 0 room)
-      freed k h (no p) (no q) (yes r) = rw r (emitter-units filled filled-many last 0 0 0 room)
-      freed k h (no p) (no q) (no r) =
+          k < emitterNumbers → at fewer k ≡ 0
+      freed k h (yes p) q r few = rw p (emitter-id filled filled-many last 0 0 0 room)
+      freed k h (no p) (yes q) r few = rw q (emitter-cell filled filled-many last 0 0 0 room)
+      freed k h (no p) (no q) (yes r) few = rw r (emitter-units filled filled-many last 0 0 0 room)
+      freed k h (no p) (no q) (no r) few =
           let inside = gone-in in
           removed-rest k p q r (omega arith) (omega arith) (omega arith) ∙ head-rest b (sound .many) last units k (omega arith) ∙
-          sound .free k (omega arith)
+          sound .free k (omega arith) few
 
 -- ---- an emitter added and removed again: every number of the block is as it was
 module _ {cells : ℕ} {b : List ℕ} (sound : Sound cells b) (id c units : ℕ) (room : standing b < mostEmitters) (there : c < cells) (new : hasId b id ≡ false) where
@@ -459,11 +517,12 @@ module _ {cells : ℕ} {b : List ℕ} (sound : Sound cells b) (id c units : ℕ)
       )
 
   behind-head : (k : ℕ) → 3 ≤ k → at (emitterRemoved with-it id) k ≡ at b k
-  behind-head k past = go (le-or-lt (3 + 3 * standing b) k)
+  behind-head k past = go (le-or-lt (3 + 3 * standing b) k) (le-or-lt emitterNumbers k)
     where
-      go : (3 + 3 * standing b ≤ k) ⊎ (k < 3 + 3 * standing b) → at (emitterRemoved with-it id) k ≡ at b k
-      go (inl h) = again .free k (rw same-standing h) ∙ sym (sound .free k h)
-      go (inr h) =
+      go : (3 + 3 * standing b ≤ k) ⊎ (k < 3 + 3 * standing b) → (emitterNumbers ≤ k) ⊎ (k < emitterNumbers) → at (emitterRemoved with-it id) k ≡ at b k
+      go (inl h) (inl behind) = removed-behind sound-with id added-has k behind ∙ added-behind sound id c units room k behind
+      go (inl h) (inr few) = again .free k (rw same-standing h) few ∙ sym (sound .free k h few)
+      go (inr h) either =
           let many = added-standing sound id c units in
           let at-last = place-last in
           removed-rest sound-with id added-has k (omega arith) (omega arith) (omega arith) (omega arith) (omega arith) (omega arith) ∙

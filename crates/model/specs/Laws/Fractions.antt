@@ -1,17 +1,16 @@
 -- How far the tracer in some air can pass a fraction H/L of tracer to air: the pieces of a cell, what they leave of it, their sums; and the documents' range from that. From above and from below at once, by a Bool: true where H/L bounds from above.
--- Of the scale they use that it is above 0, and in the last section that four times the air limit is below it; of a limiter what `Towards` says.
+-- Of the scale they use that it is above 0, and in the last section that four times the air limit is below it; of a limiter what `Roomy` says, and for the documents' range what `Towards` says.
 use Prim.Native.Nat.{ℕ, zero, suc, _+_, _*_, _-_, _/_, _≤_, _<_, min, max}
 use mathlib.Core.List.{List}
 use mathlib.Core.Bool.{Bool, true, false, not, true-and, _&&_}
 use mathlib.Core.Path.{_≡_, refl, ap, _∙_}
-use native.Mathlib.Nat.{zero-mul, suc-mul, add-mul, sub-add-cancel, div-mul-le-self, lt-div-mul-add, min-comm, max-comm, mul-le-mul-right, le-of-mul-le-mul-right}
+use native.Mathlib.Nat.{zero-mul, suc-mul, add-mul, sub-add-cancel, div-mul-le-self, lt-div-mul-add, min-comm, max-comm, mul-le-mul-right, le-of-mul-le-mul-right, lt-of-mul-lt-mul-right}
 use native.Mathlib.Omega.{arith}
 use borrow.Author.Tests.{leb-true, leb-false, ltb-false}
 use lib.Dec.{leb, ltb}
 use Rattle.model.specs.Limits.{scale, airLimit}
 use Rattle.model.specs.Basic.{at, sum, some}
-use Rattle.model.specs.World.{World}
-use Rattle.model.specs.Scheme.{ratio, Mismatch, Rule, mismatch, ruleOf, opposite, highPiece, lowPiece}
+use Rattle.model.specs.Scheme.{ratio, Mismatch, Rule, mismatch, bounded, opposite, highPiece, lowPiece}
 use Rattle.model.specs.Range.{inRange, unitsAndQuarter}
 use Rattle.model.specs.Laws.Basic.{sum-ext, some-unless}
 use Rattle.model.specs.Laws.Scheme.{Safe, numerator, numerator-none, numerator-whole, numerators-meet, piece-is, tilt-le-level, mismatch-low, mismatch-high}
@@ -21,12 +20,17 @@ abbrev pub Within : Bool → ℕ → ℕ → ℕ → Type 0
 Within true x y s = x ≤ y + s
 Within false x y s = y ≤ x + s
 
--- ---- floors: never above, and at most one below
+-- ---- room: x may move by g and is then past y by at most s
+abbrev pub RatioRoom : Bool → ℕ → ℕ → ℕ → ℕ → Type 0
+RatioRoom true x g y s = x + g ≤ y + s
+RatioRoom false x g y s = y + g ≤ x + s
+
+-- ---- floors: never above, and less than one below
 abbrev pub lost : Bool → ℕ
 lost true = 0
 lost false = 1
 
-pub floor-within : (b : Bool) (N X : ℕ) → 0 < X → Within b (N / X * X) N (lost b * X)
+pub floor-within : (b : Bool) (N X : ℕ) → 0 < X → RatioRoom b (N / X * X) (lost b) N (lost b * X)
 floor-within true N X h = omega (arith, div-mul-le-self N X)
 floor-within false N X h = omega (arith, lt-div-mul-add {a = N} h)
 
@@ -36,6 +40,16 @@ leaning true true d = d
 leaning true false d = 0
 leaning false true d = 0
 leaning false false d = d
+
+-- at most its size, and nothing if that is 0
+pub leaning-most : (b s : Bool) (d : ℕ) → leaning b s d ≤ d
+leaning-most true true d = omega arith
+leaning-most true false d = omega arith
+leaning-most false true d = omega arith
+leaning-most false false d = omega arith
+
+pub level-leaning : (b s : Bool) → leaning b s 0 ≡ 0
+level-leaning b s = omega (arith, leaning-most b s 0)
 
 -- how far r is past q
 abbrev pub gap : Bool → ℕ → ℕ → ℕ
@@ -58,12 +72,12 @@ module _ (qa q qb : ℕ) where
   sorted false e = omega (arith, leb-false qa qb e)
 
   mismatch-towards-high : Towards (mismatch qa q qb) q qb
-  unfolding mismatch
+  unfolding mismatch bounded
   mismatch-towards-high b =
       leaning-le b _ _ q qb qa (sorted _ refl .0) (mismatch-low qa q qb) (mismatch-high qa q qb)
 
   mismatch-towards-low : Towards (opposite (mismatch qa q qb)) q qa
-  unfolding mismatch
+  unfolding mismatch bounded
   mismatch-towards-low b =
       leaning-le b _ _ q qa qb (sorted _ refl .1) (rw (min-comm qb qa) (mismatch-low qa q qb)) (rw (max-comm qb qa) (mismatch-high qa q qb))
 
@@ -72,14 +86,8 @@ pub record Monotone (rule : Rule) : Type 0 where
   pub towardsHigh : (qa q qb : ℕ) → Towards (rule qa q qb) q qb
   pub towardsLow : (qa q qb : ℕ) → Towards (opposite (rule qa q qb)) q qa
 
-pub rule-monotone : (w : World) (t : ℕ) → Monotone (ruleOf w t)
-rule-monotone w t = record { towardsHigh = mismatch-towards-high; towardsLow = mismatch-towards-low }
-
-pub level-towards : (s : Bool) (q r : ℕ) → Towards (record { size = 0; positive = s }) q r
-level-towards true q r true = omega arith
-level-towards true q r false = omega arith
-level-towards false q r true = omega arith
-level-towards false q r false = omega arith
+pub mismatch-monotone : Monotone mismatch
+mismatch-monotone = record { towardsHigh = mismatch-towards-high; towardsLow = mismatch-towards-low }
 
 -- ---- inside: a cell of air M and tracer T does not pass the fraction H/L
 abbrev pub Inside : Bool → ℕ → ℕ → ℕ → ℕ → Type 0
@@ -93,14 +101,13 @@ ratio-inside true H L M T hM i =
 ratio-inside false H L M T hM i =
     le-of-mul-le-mul-right (omega (arith, mul-le-mul-right L (floor-within false (scale * T) M hM), mul-le-mul-right scale i)) hM
 
--- ---- room: x may move by g and is then past y by at most s
-abbrev pub RatioRoom : Bool → ℕ → ℕ → ℕ → ℕ → Type 0
-RatioRoom true x g y s = x + g ≤ y + s
-RatioRoom false x g y s = y + g ≤ x + s
-
--- a cell may lean by d: its end is past H/L by at most 1/scale
+-- ---- a cell may lean by d: its end is past H/L by at most 1/scale
 abbrev pub CellRoom : Bool → ℕ → ℕ → ℕ → ℕ → ℕ → Type 0
 CellRoom b H L M T d = RatioRoom b (2 * scale * T * L) (d * L * M) (2 * scale * H * M) (2 * L * M)
+
+-- it may lean at its high end by D
+abbrev pub EndRoom : Bool → ℕ → ℕ → ℕ → ℕ → Mismatch → Type 0
+EndRoom b H L M T D = CellRoom b H L M T (leaning b (D .positive) (D .size))
 
 -- g takes q to r
 abbrev Apart : Bool → ℕ → ℕ → ℕ → Type 0
@@ -111,15 +118,15 @@ gap-apart : (b : Bool) (q r d : ℕ) → suc d ≤ 2 * gap b q r → Apart b q r
 gap-apart true q r d h = omega arith
 gap-apart false q r d h = omega arith
 
-room-gap :
-    (b : Bool) (H L M T q r g d : ℕ) → Within (not b) (q * M) (scale * T) (lost (not b) * M) →
+pub room-gap :
+    (b : Bool) (H L M T q r g d : ℕ) → RatioRoom (not b) (q * M) (lost (not b)) (scale * T) (lost (not b) * M) →
     Within b (r * L) (scale * H) (lost b * L) → Apart b q r g → d ≤ 2 * g → CellRoom b H L M T d
 room-gap true H L M T q r g d f h e k =
     omega (arith, mul-le-mul-right L f, mul-le-mul-right M h, ap (λ (x : ℕ). x * L * M) e, mul-le-mul-right (L * M) k)
 room-gap false H L M T q r g d f h e k =
     omega (arith, mul-le-mul-right L f, mul-le-mul-right M h, ap (λ (x : ℕ). x * L * M) e, mul-le-mul-right (L * M) k)
 
-pub room-level : (b : Bool) (H L M T : ℕ) → Inside b H L M T → CellRoom b H L M T 0
+room-level : (b : Bool) (H L M T : ℕ) → Inside b H L M T → CellRoom b H L M T 0
 room-level true H L M T i = omega (arith, mul-le-mul-right scale i)
 room-level false H L M T i = omega (arith, mul-le-mul-right scale i)
 
@@ -137,6 +144,21 @@ room b H L M T M₂ T₂ (suc d) hM hM₂ i i₂ h =
     (ratio-inside b H L M₂ T₂ hM₂ i₂)
     (gap-apart b q r d h)
     h
+
+-- ---- what the laws of a substep, a remap and a long sweep ask of a rule: a cell that fits has room, and at an end where its neighbour fits it has room for the rule's mismatch
+pub record Roomy (rule : Rule) (b : Bool) (H L : ℕ) (Fits : ℕ → ℕ → Type 0) : Type 0 where
+  pub level : (M T : ℕ) → Fits M T → CellRoom b H L M T 0
+  pub high : (qa M T M₂ T₂ : ℕ) → Fits M T → Fits M₂ T₂ → EndRoom b H L M T (rule qa (ratio M T) (ratio M₂ T₂))
+  pub low : (M₁ T₁ M T qb : ℕ) → Fits M₁ T₁ → Fits M T → EndRoom b H L M T (opposite (rule (ratio M₁ T₁) (ratio M T) qb))
+
+-- a monotone rule, for cells that have air and are inside
+monotone-roomy : {rule : Rule} → Monotone rule → (b : Bool) (H L : ℕ) → Roomy rule b H L (λ M T. (0 < M) × Inside b H L M T)
+monotone-roomy monotone b H L =
+    record {
+      level = λ M T i. room-level b H L M T (i .1);
+      high = λ qa M T M₂ T₂ i i₂. room b H L M T M₂ T₂ _ (i .0) (i₂ .0) (i .1) (i₂ .1) (monotone .towardsHigh _ _ _ b);
+      low = λ M₁ T₁ M T qb i₁ i. room b H L M T M₁ T₁ _ (i .0) (i₁ .0) (i .1) (i₁ .1) (monotone .towardsLow _ _ _ b);
+    }
 
 -- ---- the numerator n of a part, with its tilt added or taken off
 abbrev Tilted : Bool → ℕ → ℕ → ℕ → Type 0
@@ -182,9 +204,9 @@ middle-within false true M τ m₁ m₂ r δ n₁ n₂ u v e e₁ e₂ h =
 middle-within false false M τ m₁ m₂ r δ n₁ n₂ u v e e₁ e₂ h =
     omega (arith, ap (λ (x : ℕ). x * τ) e, ap (λ (x : ℕ). x * (δ * r)) e, mul-le-mul-right r h)
 
--- ---- near: p units of tracer in m units of air pass H/L by at most 1/scale for each unit of air, and j units in all
+-- ---- near: p units of tracer in m units of air pass H/L by at most 1/scale for each unit of air, and j units in all; by less, if j is above 0
 abbrev pub Near : Bool → ℕ → ℕ → ℕ → ℕ → ℕ → Type 0
-Near b H L m p j = Within b (p * (scale * L)) (m * (scale * H)) (m * L + j * (scale * L))
+Near b H L m p j = RatioRoom b (p * (scale * L)) (min (j * L) 1) (m * (scale * H)) (m * L + j * (scale * L))
 
 pub near-add : (b : Bool) (H L m p j m' p' j' : ℕ) → Near b H L m p j → Near b H L m' p' j' → Near b H L (m + m') (p + p') (j + j')
 near-add true H L m p j m' p' j' h h' = omega arith
@@ -203,28 +225,38 @@ near-sum b H L j (suc n) m p h =
 
 -- the same of T - p units in r units of air: what p units leave of T
 abbrev pub LeavesInRange : Bool → ℕ → ℕ → ℕ → ℕ → ℕ → ℕ → Type 0
-LeavesInRange b H L r T p j = Within b (T * (scale * L)) (r * (scale * H) + p * (scale * L)) (r * L + j * (scale * L))
+LeavesInRange b H L r T p j =
+    RatioRoom b (T * (scale * L)) (min (j * L) 1) (r * (scale * H) + p * (scale * L)) (r * L + j * (scale * L))
+
+-- if x times k with a rest z is at most y times k, x is at most y, and below it if z is above 0
+below : (x y z k : ℕ) → 0 < k → x * k + z ≤ y * k → x + min z 1 ≤ y
+below x y zero k hk h =
+    let le : x * k ≤ y * k = omega arith in
+    omega (arith, le-of-mul-le-mul-right le hk)
+below x y (suc z) k hk h =
+    let lt : x * k < y * k = omega arith in
+    omega (arith, lt-of-mul-lt-mul-right k lt)
 
 -- p is j floors of the numerator N in all: of a piece, and of what pieces leave
 enter :
     (b : Bool) (H L M m N p j : ℕ) → 0 < M → Within b (N * L) (m * (2 * scale * H * M)) (m * (2 * L * M)) →
-    Within b (p * (2 * scale * M)) N (j * (2 * scale * M)) → Near b H L m p j
-enter true H L M m N p j hM h f = le-of-mul-le-mul-right {k = 2 * M} (omega (arith, mul-le-mul-right L f)) (omega arith)
-enter false H L M m N p j hM h f = le-of-mul-le-mul-right {k = 2 * M} (omega (arith, mul-le-mul-right L f)) (omega arith)
+    RatioRoom b (p * (2 * scale * M)) j N (j * (2 * scale * M)) → Near b H L m p j
+enter true H L M m N p j hM h f = below _ _ (j * L) (2 * M) (omega arith) (omega (arith, mul-le-mul-right L f))
+enter false H L M m N p j hM h f = below _ _ (j * L) (2 * M) (omega arith) (omega (arith, mul-le-mul-right L f))
 
 leave :
     (b : Bool) (H L M T r N p j : ℕ) → 0 < M →
     Within b (M * (2 * scale * T * L)) (r * (2 * scale * H * M) + N * L) (r * (2 * L * M)) →
-    Within (not b) (p * (2 * scale * M)) N (j * (2 * scale * M)) → LeavesInRange b H L r T p j
-leave true H L M T r N p j hM h f = le-of-mul-le-mul-right {k = 2 * M} (omega (arith, mul-le-mul-right L f)) (omega arith)
-leave false H L M T r N p j hM h f = le-of-mul-le-mul-right {k = 2 * M} (omega (arith, mul-le-mul-right L f)) (omega arith)
+    RatioRoom (not b) (p * (2 * scale * M)) j N (j * (2 * scale * M)) → LeavesInRange b H L r T p j
+leave true H L M T r N p j hM h f = below _ _ (j * L) (2 * M) (omega arith) (omega (arith, mul-le-mul-right L f))
+leave false H L M T r N p j hM h f = below _ _ (j * L) (2 * M) (omega arith) (omega (arith, mul-le-mul-right L f))
 
-floors-within : (b : Bool) (N₁ N₂ X : ℕ) → 0 < X → Within b ((N₁ / X + N₂ / X) * X) (N₁ + N₂) (2 * lost b * X)
+floors-within : (b : Bool) (N₁ N₂ X : ℕ) → 0 < X → RatioRoom b ((N₁ / X + N₂ / X) * X) (2 * lost b) (N₁ + N₂) (2 * lost b * X)
 floors-within true N₁ N₂ X h = omega (arith, floor-within true N₁ X h, floor-within true N₂ X h)
 floors-within false N₁ N₂ X h = omega (arith, floor-within false N₁ X h, floor-within false N₂ X h)
 
 -- a mismatch leans in each direction at one end
-room-ends : (b s : Bool) (H L M T d : ℕ) → CellRoom b H L M T (leaning b (not s) d) → CellRoom b H L M T (leaning b s d) → CellRoom b H L M T d
+pub room-ends : (b s : Bool) (H L M T d : ℕ) → CellRoom b H L M T (leaning b (not s) d) → CellRoom b H L M T (leaning b s d) → CellRoom b H L M T d
 room-ends true true H L M T d low high = high
 room-ends true false H L M T d low high = low
 room-ends false true H L M T d low high = low
@@ -239,7 +271,9 @@ level-numerator D M T m flat = rw flat (go (D .positive))
     go true = omega arith
     go false = omega arith
 
-level-floors : (b : Bool) (X B n : ℕ) (m : ℕ → ℕ) → 0 < X → Within b (sum n (λ i. m i * B / X) * X) (sum n m * B) (n * lost b * X)
+level-floors :
+    (b : Bool) (X B n : ℕ) (m : ℕ → ℕ) → 0 < X →
+    RatioRoom b (sum n (λ i. m i * B / X) * X) (n * lost b) (sum n m * B) (n * lost b * X)
 unfolding sum
 level-floors true X B zero m h = omega arith
 level-floors true X B (suc n) m h = omega (arith, level-floors true X B n m h, floor-within true (m n * B) X h)
@@ -252,35 +286,24 @@ level-within :
 level-within true H L M T m r e h = omega (arith, ap (λ (x : ℕ). x * (T * L)) e, mul-le-mul-right r h)
 level-within false H L M T m r e h = omega (arith, ap (λ (x : ℕ). x * (T * L)) e, mul-le-mul-right r h)
 
--- ---- the laws of a cell of air M and tracer T inside H/L
-module _ (b : Bool) (H L M T : ℕ) (hM : 0 < M) (inside : Inside b H L M T) where
-  -- a piece that it gives to a neighbour at its high end
+-- ---- the laws of a cell of air M and tracer T that has room
+module _ (b : Bool) (H L M T : ℕ) (hM : 0 < M) where
+  -- a piece that it gives at its high end
   pub piece-near :
-      (D : Mismatch) (M₂ T₂ m : ℕ) → 0 < M₂ → Inside b H L M₂ T₂ → Safe D M T → Towards D (ratio M T) (ratio M₂ T₂) → m ≤ M →
-      Near b H L m (highPiece D M T m) (lost b)
-  piece-near D M₂ T₂ m hM₂ inside₂ safe towards h =
+      (D : Mismatch) (m : ℕ) → Safe D M T → EndRoom b H L M T D → m ≤ M → Near b H L m (highPiece D M T m) (lost b)
+  piece-near D m safe leans h =
       rw (piece-is D M T m)
       (enter b H L M m (numerator D M T m) _ (lost b) hM
       (end-within b (D .positive) L M _ m (M - m) (D .size) _ _ _ (omega arith)
       (numerator-tilted D L M T m (M - m) safe (omega arith))
-      (room b H L M T M₂ T₂ _ hM hM₂ inside inside₂ (towards b)))
+      leans)
       (floor-within b _ _ (omega arith)))
 
-  -- between two neighbours it may lean at both ends
-  pub room-between :
-      (D : Mismatch) (M₁ T₁ M₂ T₂ : ℕ) → 0 < M₁ → 0 < M₂ → Inside b H L M₁ T₁ → Inside b H L M₂ T₂ →
-      Towards (opposite D) (ratio M T) (ratio M₁ T₁) → Towards D (ratio M T) (ratio M₂ T₂) → CellRoom b H L M T (D .size)
-  room-between D M₁ T₁ M₂ T₂ hM₁ hM₂ inside₁ inside₂ low high =
-      room-ends b (D .positive) H L M T (D .size)
-      (room b H L M T M₁ T₁ _ hM hM₁ inside inside₁ (low b))
-      (room b H L M T M₂ T₂ _ hM hM₂ inside inside₂ (high b))
-
-  -- what it keeps in r units of air, after a piece from each end, between two neighbours
+  -- what it keeps in r units of air, after a piece from each end
   pub ends-leave :
-      (D : Mismatch) (M₁ T₁ M₂ T₂ m₁ m₂ r : ℕ) → 0 < M₁ → 0 < M₂ → Inside b H L M₁ T₁ → Inside b H L M₂ T₂ → Safe D M T →
-      Towards (opposite D) (ratio M T) (ratio M₁ T₁) → Towards D (ratio M T) (ratio M₂ T₂) → m₁ + m₂ + r ≡ M →
+      (D : Mismatch) (m₁ m₂ r : ℕ) → Safe D M T → CellRoom b H L M T (D .size) → m₁ + m₂ + r ≡ M →
       LeavesInRange b H L r T (lowPiece D M T m₁ + highPiece D M T m₂) (2 * lost (not b))
-  ends-leave D M₁ T₁ M₂ T₂ m₁ m₂ r hM₁ hM₂ inside₁ inside₂ safe low high e =
+  ends-leave D m₁ m₂ r safe leans e =
       let N₁ = numerator (opposite D) M T m₁ in
       let N₂ = numerator D M T m₂ in
       rw (piece-is (opposite D) M T m₁, piece-is D M T m₂)
@@ -289,17 +312,17 @@ module _ (b : Bool) (H L M T : ℕ) (hM : 0 < M) (inside : Inside b H L M T) whe
       (middle-within b (D .positive) M _ m₁ m₂ r (D .size * L) _ _ _ _ e
       (numerator-tilted (opposite D) L M T m₁ (m₂ + r) safe (omega arith))
       (numerator-tilted D L M T m₂ (m₁ + r) safe (omega arith))
-      (room-between D M₁ T₁ M₂ T₂ hM₁ hM₂ inside₁ inside₂ low high)))
+      leans))
       (floors-within (not b) N₁ N₂ _ (omega arith)))
 
   -- and after n plain pieces
   pub plains-leave :
-      (D : Mismatch) (n r : ℕ) (m : ℕ → ℕ) → D .size ≡ 0 → sum n m + r ≡ M →
+      (D : Mismatch) (n r : ℕ) (m : ℕ → ℕ) → D .size ≡ 0 → CellRoom b H L M T 0 → sum n m + r ≡ M →
       LeavesInRange b H L r T (sum n (λ i. highPiece D M T (m i))) (n * lost (not b))
-  plains-leave D n r m flat e =
+  plains-leave D n r m flat leans e =
       rw (sum-ext n (λ i. highPiece D M T (m i)) (λ i. m i * (2 * scale * T) / (2 * scale * M)) (λ i h. piece-is D M T (m i) ∙ rw (level-numerator D M T (m i) flat)))
       (leave b H L M T r (sum n m * (2 * scale * T)) _ (n * lost (not b)) hM
-      (level-within b H L M T (sum n m) r e (room-level b H L M T inside))
+      (level-within b H L M T (sum n m) r e leans)
       (level-floors (not b) (2 * scale * M) (2 * scale * T) n m (omega arith)))
 
 -- ---- the part of a cell between two of its points: p₂ units of tracer up to the higher one, p₁ up to the lower one
@@ -325,14 +348,14 @@ leaves-near false H L r T p j h k = omega (arith, ap (λ (x : ℕ). x * (scale *
 part-leaves :
     (b : Bool) (H L M r N₁ N₂ p₁ p₂ j₁ j₂ : ℕ) → 0 < M →
     Within b (N₂ * L) (r * (2 * scale * H * M) + N₁ * L) (r * (2 * L * M)) →
-    Within b (p₂ * (2 * scale * M)) N₂ (j₂ * (2 * scale * M)) →
-    Within (not b) (p₁ * (2 * scale * M)) N₁ (j₁ * (2 * scale * M)) → LeavesInRange b H L r p₂ p₁ (j₂ + j₁)
+    RatioRoom b (p₂ * (2 * scale * M)) j₂ N₂ (j₂ * (2 * scale * M)) →
+    RatioRoom (not b) (p₁ * (2 * scale * M)) j₁ N₁ (j₁ * (2 * scale * M)) → LeavesInRange b H L r p₂ p₁ (j₂ + j₁)
 part-leaves true H L M r N₁ N₂ p₁ p₂ j₁ j₂ hM h f₂ f₁ =
-    le-of-mul-le-mul-right {k = 2 * M} (omega (arith, mul-le-mul-right L f₁, mul-le-mul-right L f₂)) (omega arith)
+    below _ _ ((j₂ + j₁) * L) (2 * M) (omega arith) (omega (arith, mul-le-mul-right L f₁, mul-le-mul-right L f₂))
 part-leaves false H L M r N₁ N₂ p₁ p₂ j₁ j₂ hM h f₂ f₁ =
-    le-of-mul-le-mul-right {k = 2 * M} (omega (arith, mul-le-mul-right L f₁, mul-le-mul-right L f₂)) (omega arith)
+    below _ _ ((j₂ + j₁) * L) (2 * M) (omega arith) (omega (arith, mul-le-mul-right L f₁, mul-le-mul-right L f₂))
 
-exact-within : (b : Bool) (x y : ℕ) → x ≡ y → Within b x y 0
+exact-within : (b : Bool) (x y : ℕ) → x ≡ y → RatioRoom b x 0 y 0
 exact-within true x y e = omega arith
 exact-within false x y e = omega arith
 
@@ -361,13 +384,13 @@ module _ (b : Bool) (H L M T : ℕ) (hM : 0 < M) (D : Mismatch) (safe : Safe D M
       (numerator-tilted D L M T (M - y) (x + (y - x)) safe (omega arith))
       leans)
 
-  floored : (b : Bool) (x : ℕ) → Within b (lowPiece D M T x * (2 * scale * M)) (numerator (opposite D) M T x) (lost b * (2 * scale * M))
+  floored : (b : Bool) (x : ℕ) → RatioRoom b (lowPiece D M T x * (2 * scale * M)) (lost b) (numerator (opposite D) M T x) (lost b * (2 * scale * M))
   floored b x = rw (piece-is (opposite D) M T x) (floor-within b _ _ (omega arith))
 
-  none : (b : Bool) → Within b (0 * (2 * scale * M)) (numerator (opposite D) M T 0) (0 * (2 * scale * M))
+  none : (b : Bool) → RatioRoom b (0 * (2 * scale * M)) 0 (numerator (opposite D) M T 0) (0 * (2 * scale * M))
   none b = rw (numerator-none (opposite D) M T 0 refl, zero-mul) (exact-within b 0 0 refl)
 
-  whole : (b : Bool) → Within b (T * (2 * scale * M)) (numerator (opposite D) M T M) (0 * (2 * scale * M))
+  whole : (b : Bool) → RatioRoom b (T * (2 * scale * M)) 0 (numerator (opposite D) M T M) (0 * (2 * scale * M))
   whole b = rw (numerator-whole (opposite D) M T safe, zero-mul) (exact-within b _ _ (omega arith))
 
   -- a part in the middle, at the low end, at the high end, and all of it: each point inside the cell costs a floor
@@ -395,10 +418,11 @@ replaced false H L r T m p p₂ f M' T' came stays eM eT =
     let e : T + p ≤ T' + p₂ = omega arith in
     omega (arith, mul-le-mul-right (scale * L) e, ap (λ (x : ℕ). x * (scale * H)) eM, ap (λ (x : ℕ). x * L) eM)
 
--- ---- the range at every scale: M' and T' pass no fraction that bounds the cells `there`, but for 1/scale and f units
-abbrev pub Bounded : ℕ → (ℕ → Bool) → List ℕ → List ℕ → ℕ → ℕ → ℕ → Type 0
-Bounded n there air gas f M' T' =
-    (b : Bool) (H L : ℕ) → ((d : ℕ) → d < n → there d ≡ true → Inside b H L (at air d) (at gas d)) → Near b H L M' T' f
+-- ---- the range at every scale: M' and T' pass no fraction that leaves room to the cells `there`, but for 1/scale and f units
+abbrev pub Bounded : Rule → ℕ → (ℕ → Bool) → List ℕ → List ℕ → ℕ → ℕ → ℕ → Type 1
+Bounded rule n there air gas f M' T' =
+    (b : Bool) (H L : ℕ) (Fits : ℕ → ℕ → Type 0) → Roomy rule b H L Fits →
+    ((d : ℕ) → d < n → there d ≡ true → Fits (at air d) (at gas d)) → Near b H L M' T' f
 
 -- ---- document 02's quarter, f + 1/4 in quarters: were it passed, (4·T' − e)/(4·M') or (4·T' + e)/(4·M') would bound the cells there, and 4·M' would be the scale or more
 four-limits-below-scale : (M : ℕ) → M ≤ airLimit → 4 * M < scale
@@ -420,19 +444,24 @@ fails-most : (M T M' T' e : ℕ) → 0 < M → ltb (4 * (T' * M)) (4 * (T * M') 
 fails-most M T M' T' e hM t =
     le-of-mul-le-mul-right (omega (arith, ltb-false (4 * (T' * M)) (4 * (T * M') + e * M) t)) hM
 
--- a cell c there, with air
-module _ (n : ℕ) (there : ℕ → Bool) (air gas : List ℕ) (c : ℕ) (hc : c < n) (isThere : there c ≡ true) (has : 1 ≤ at air c) where
+-- a cell c there, and air in every cell
+module _
+    (n : ℕ) (there : ℕ → Bool) (air gas : List ℕ) (c : ℕ) (hc : c < n) (isThere : there c ≡ true)
+    (has : (d : ℕ) → d < n → 1 ≤ at air d) where
   some-there : (test : ℕ → Bool) → (((d : ℕ) → d < n → there d ≡ true → test d ≡ false) → ⊥) → some n (λ d. there d && test d) ≡ true
   some-there test h =
       some-unless n (λ d. there d && test d) (λ none. h (λ d hd e. rw (e, true-and) at (none d hd)))
 
-  module _ (f M' T' : ℕ) (least : 1 ≤ M') (most : M' ≤ airLimit) (bounded : Bounded n there air gas f M' T') where
+  module _
+      {rule : Rule} (monotone : Monotone rule) (f M' T' : ℕ) (least : 1 ≤ M') (most : M' ≤ airLimit)
+      (bounded : Bounded rule n there air gas f M' T') where
     abbrev e : ℕ
     e = unitsAndQuarter f
 
     none-bounds : (b : Bool) (h : ℕ) → Apart b h (4 * T') e → ((d : ℕ) → d < n → there d ≡ true → Inside b h (4 * M') (at air d) (at gas d)) → ⊥
     none-bounds b h apart inside =
-        omega (arith, quarter-passed b M' T' f h least apart (bounded b h (4 * M') inside), four-limits-below-scale M' most)
+        let near = bounded b h (4 * M') _ (monotone-roomy monotone b h (4 * M')) (λ d hd t. (has d hd, inside d hd t)) in
+        omega (arith, quarter-passed b M' T' f h least apart near, four-limits-below-scale M' most)
 
     pub in-range : inRange n there air gas (unitsAndQuarter f) M' T' ≡ true
     unfolding inRange
@@ -448,7 +477,7 @@ module _ (n : ℕ) (there : ℕ → Bool) (air gas : List ℕ) (c : ℕ) (hc : c
         not-above =
             some-there _
             (λ none.
-            let le : e ≤ 4 * T' = fails-most (at air c) (at gas c) M' T' e has (none c hc isThere) in
+            let le : e ≤ 4 * T' = fails-most (at air c) (at gas c) M' T' e (has c hc) (none c hc isThere) in
             let apart : 4 * T' - e + e ≡ 4 * T' = omega arith in
             none-bounds true (4 * T' - e) apart
             (λ d hd there'. fails-above (at air d) (at gas d) M' T' e (4 * T' - e) apart (none d hd there')))

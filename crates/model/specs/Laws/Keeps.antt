@@ -10,7 +10,7 @@ use lib.Dec.{ltb}
 use Rattle.model.specs.Basic.{at, sum}
 use Rattle.model.specs.World.{Grid, World, worldCells, gas, block, gasTotal, airTotal}
 use Rattle.model.specs.Step.{Call, Place, firstOf, absent, Exchange, noExchange, Named, nobody, tracer, Meaning, meaning, reads, counts, lentFits, ownPlaces, accepted, refused, refusal, step}
-use Rattle.model.specs.Lists.{exchanged, added, HasRatio, CallInRange, Alike, namesOwn, namesNoOther, SameReply}
+use Rattle.model.specs.Lists.{exchanged, added, HasRatio, CallInRange, hasFirst, Alike, namesOwn, namesNoOther, SameReply}
 use Rattle.model.specs.Laws.Step.{Reached, firstOf-same, step-accepted, step-refused, answer-is, own-refusal, lent-refusal, accepted-passed}
 
 -- ---- what is kept from one world to a later one, where x t of gas t is exchanged
@@ -56,7 +56,7 @@ kept-trans {w} {v} {u} {x} {y} p q =
 
 -- ---- two worlds alike
 pub alike-same : (own : ℕ → Bool) (w : World) → Alike own w w
-alike-same own w = record { sameGrid = refl; sameAir = refl; sameGas = λ t h. refl; sameEmitters = λ t h. refl }
+alike-same own w = record { sameGrid = refl; sameAir = refl; sameGas = λ t h. refl; sameBlock = λ t h. refl }
 
 pub alike-sym : {own : ℕ → Bool} {w v : World} → Alike own w v → Alike own v w
 alike-sym a =
@@ -64,7 +64,7 @@ alike-sym a =
       sameGrid = sym (a .sameGrid);
       sameAir = sym (a .sameAir);
       sameGas = λ t h. sym (a .sameGas t h);
-      sameEmitters = λ t h. sym (a .sameEmitters t h);
+      sameBlock = λ t h. sym (a .sameBlock t h);
     }
 
 pub alike-trans : {own : ℕ → Bool} {w v u : World} → Alike own w v → Alike own v u → Alike own w u
@@ -73,7 +73,7 @@ alike-trans a b =
       sameGrid = a .sameGrid ∙ b .sameGrid;
       sameAir = a .sameAir ∙ b .sameAir;
       sameGas = λ t h. a .sameGas t h ∙ b .sameGas t h;
-      sameEmitters = λ t h. a .sameEmitters t h ∙ b .sameEmitters t h;
+      sameBlock = λ t h. a .sameBlock t h ∙ b .sameBlock t h;
     }
 
 -- a present tracer that a call names is an own one, or another
@@ -95,8 +95,8 @@ module _ (own : ℕ → Bool) (w v : World) (alike : Alike own w v) where
   pub named-alike : (t : ℕ) → namesOwn own w (tracer t) ≡ true → t < w .grid .N → gas w t ≡ gas v t
   named-alike t named present = alike .sameGas t (names-present own w t present ∙ named)
 
-  pub named-emitters-alike : (t : ℕ) → namesOwn own w (tracer t) ≡ true → t < w .grid .N → block w t ≡ block v t
-  named-emitters-alike t named present = alike .sameEmitters t (names-present own w t present ∙ named)
+  pub named-block-alike : (t : ℕ) → namesOwn own w (tracer t) ≡ true → t < w .grid .N → block w t ≡ block v t
+  named-block-alike t named present = alike .sameBlock t (names-present own w t present ∙ named)
 
   pub named-total-alike : (t : ℕ) → namesOwn own w (tracer t) ≡ true → t < w .grid .N → gasTotal w t ≡ gasTotal v t
   named-total-alike t named present =
@@ -127,7 +127,7 @@ module _ (own : ℕ → Bool) (w v : World) (alike : Alike own w v) where
 -- one whose own places are passed; `alike` is for a call that names no other gas than the own ones, `apart` for one that names another
 pub record AcceptedKeeps (w : World) (m : Meaning) : Type 0 where
   pub kept : Kept w (m .next w) (m .exchange w)
-  pub inRange : (t : ℕ) → t < w .grid .N → m .range w (m .next w) t
+  pub inRange : (t : ℕ) → t < w .grid .N → hasFirst w t ≡ true → m .range w (m .next w) t
   pub alike :
       (own : ℕ → Bool) (v : World) → Reached v → Alike own w v → namesOwn own w (m .names) ≡ true →
       Alike own (m .next w) (m .next v) × (m .count w ≡ m .count v)
@@ -153,7 +153,7 @@ reads-keep names ps count places counts =
           λ w reached e.
           record {
             kept = kept-same reached (λ t. refl);
-            inRange = λ t h. tt;
+            inRange = λ t h first. tt;
             alike = λ own v rv a named. (a, counts own w v a named e);
             apart = λ own other. alike-same own w;
           };
@@ -168,7 +168,7 @@ counts-keep keeps =
           λ w reached e.
           record {
             kept = kept-same reached (λ t. refl);
-            inRange = λ t h. tt;
+            inRange = λ t h first. tt;
             alike = λ own v rv a named. (a, keeps .accepts w reached e .alike own v rv a named .1);
             apart = λ own other. alike-same own w;
           };
@@ -177,7 +177,8 @@ counts-keep keeps =
 -- ---- what `step` keeps: a refused call changes nothing
 pub record StepKeeps (w : World) (call : Call) : Type 0 where
   pub kept : Kept w (step w call .next) (λ t. exchanged w t call)
-  pub inRange : (t : ℕ) → t < w .grid .N → step w call .answer ≡ 0 → CallInRange w (step w call .next) t call
+  pub inRange :
+      (t : ℕ) → t < w .grid .N → hasFirst w t ≡ true → step w call .answer ≡ 0 → CallInRange w (step w call .next) t call
   pub independent :
       (own : ℕ → Bool) (v : World) → Reached v → Alike own w v →
       Alike own (step w call .next) (step v call .next) × (namesNoOther own w call ≡ true → SameReply w v call)
@@ -210,8 +211,8 @@ module _ (call : Call) (keeps : MeaningKeeps (meaning call)) where
     where
       go : (b : Bool) → lentFits (w .grid) call ≡ b → refusal w call ≡ refusal v call
       go true e =
-          own-refusal w call (ww .fits) e ∙ keeps .samePlaces own w v ww vv alike named ∙
-          sym (own-refusal v call (vv .fits) (rw (alike .sameGrid) at e))
+          own-refusal w call ww e ∙ keeps .samePlaces own w v ww vv alike named ∙
+          sym (own-refusal v call vv (rw (alike .sameGrid) at e))
       go false e = lent-refusal w call (ww .fits) e ∙ sym (lent-refusal v call (vv .fits) (rw (alike .sameGrid) at e))
 
   -- a call that names another gas leaves the own ones alone
@@ -246,11 +247,13 @@ module _ (call : Call) (keeps : MeaningKeeps (meaning call)) where
         λ named. absurd (false≢true named),
       )
 
-  step-in-range : (w : World) → Reached w → (t : ℕ) → t < w .grid .N → step w call .answer ≡ 0 → CallInRange w (step w call .next) t call
+  step-in-range :
+      (w : World) → Reached w → (t : ℕ) → t < w .grid .N → hasFirst w t ≡ true → step w call .answer ≡ 0 →
+      CallInRange w (step w call .next) t call
   unfolding accepted
-  step-in-range w reached t h e =
+  step-in-range w reached t h first e =
       let go = sym (answer-is w call) ∙ e in
-      rw (step-accepted w call go) (accepts w reached go .inRange t h)
+      rw (step-accepted w call go) (accepts w reached go .inRange t h first)
 
   pub step-keeps : (w : World) → Reached w → StepKeeps w call
   step-keeps w reached =

@@ -226,29 +226,28 @@ module _ (W : ℕ) (fluxes : List ℤ) (air : List ℕ) (serves : LongServes W f
       unfolding isNearOverlap
       near-is i c d h shares near = some-true W _ c h (rw (shares, near))
 
-      long-bounded :
-          Monotone rule → (i : ℕ) → i < W →
-          Bounded W (isNearOverlap W (overlaps W fluxes air i)) air gas 1 (departure W fluxes air (suc i) - departure W fluxes air i) (mark rule W fluxes air gas (suc i) - mark rule W fluxes air gas i)
-      unfolding carried ring
-      long-bounded monotone i h b H L inside =
-          amount-between (lineCell rule W air gas) (turns * W) (line-has rule W air gas (serves .some) has) cells-safe b H L _ _ (departures-rise i h) (reaches (suc i) h)
+      pub long-bounded :
+          (i : ℕ) → i < W →
+          Bounded rule W (isNearOverlap W (overlaps W fluxes air i)) air gas 1 (at (longAir W fluxes air) i) (at (longGas rule W fluxes air gas) i)
+      unfolding carried ring longGas
+      long-bounded i h b H L Fits roomy allFit =
+          rw (air-between W fluxes air (serves .some) (serves .oneTurn) i h, at-tab W (λ i. mark rule W fluxes air gas (suc i) - mark rule W fluxes air gas i) i h)
+          (amount-between (lineCell rule W air gas) (turns * W) (line-has rule W air gas (serves .some) has) cells-safe b H L _ _ (departures-rise i h) (reaches (suc i) h)
           (λ k hk shares.
           let hc : k % W < W = mod-lt k (serves .some) in
-          cell-leans monotone (ring W) (ring-regular W) air gas has b H L (k % W) hc
-          (λ d hd near. inside d hd (near-is i (k % W) d hc (overlap-is i k hk shares) near)))
+          cell-leans roomy (ring W) (ring-regular W) air gas (k % W) hc
+          (λ d hd near. allFit d hd (near-is i (k % W) d hc (overlap-is i k hk shares) near))))
 
       pub long-in-range :
           Monotone rule → (i : ℕ) → i < W →
           longCellInRange W fluxes air gas (longAir W fluxes air) (longGas rule W fluxes air gas) i ≡ true
-      unfolding longCellInRange longGas
+      unfolding longCellInRange
       long-in-range monotone i h =
-          let new = air-between W fluxes air (serves .some) (serves .oneTurn) i h in
           let found = layer-between (lineCell rule W air gas) (turns * W) (line-has rule W air gas (serves .some) has) (turns * W) _ _ (omega arith) (departures-rise i h) (reaches (suc i) h) in
           let hc : found .0 % W < W = mod-lt (found .0) (serves .some) in
           let fit = air-bounds (at (longAir W fluxes air) i) (serves .airIn i h) in
-          rw (new, at-tab W (λ i. mark rule W fluxes air gas (suc i) - mark rule W fluxes air gas i) i h)
-          (in-range W _ air gas (found .0 % W) hc (near-is i _ _ hc (overlap-is i (found .0) (found .1) (found .2)) (near-self (ring W) _)) (has _ hc) 1 _ _
-          (rw new at (fit .0)) (rw new at (fit .1)) (long-bounded monotone i h))
+          in-range W _ air gas (found .0 % W) hc (near-is i _ _ hc (overlap-is i (found .0) (found .1) (found .2)) (near-self (ring W) _)) has monotone 1 _ _
+          (fit .0) (fit .1) (long-bounded i h)
 
     pub long-gas : KeepsGas W air (longAir W fluxes air) (longGas rule W fluxes air)
     long-gas =

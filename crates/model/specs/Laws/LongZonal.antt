@@ -12,17 +12,17 @@ use lib.IntN.{ℤ, pos, natAbs}
 use lib.ListN.{length, List·getD-eq-default}
 use Rattle.model.specs.Basic.{part}
 use Rattle.model.specs.World.{World, worldCells, rowStart, gas}
-use Rattle.model.specs.Scheme.{ruleOf}
+use Rattle.model.specs.Limiters.{ruleOf}
 use Rattle.model.specs.Sweep.{flux}
 use Rattle.model.specs.Long.{longAir, longGas, longAirFits, longSwept}
 use Rattle.model.specs.Step.{longZonal, firstOf, fluxesWithin, noExchange, meaning, ownPlaces, accepted, refusal, step}
 use Rattle.model.specs.Range.{LongInRange}
+use Rattle.model.specs.Lists.{hasFirst}
 use Rattle.model.specs.Laws.Basic.{le-or-lt, every-at}
 use Rattle.model.specs.Laws.Grid.{in-range, row-inside}
 use Rattle.model.specs.Laws.Step.{Fits, Reached, passed, found, accepted-passed}
-use Rattle.model.specs.Laws.Scheme.{rule-limited}
 use Rattle.model.specs.Laws.Substep.{AirIn}
-use Rattle.model.specs.Laws.Fractions.{rule-monotone}
+use Rattle.model.specs.Laws.Limiters.{rule-limited, rule-monotone}
 use Rattle.model.specs.Laws.Keeps.{Kept, air-alike, MeaningKeeps}
 use Rattle.model.specs.Laws.Part.{cells-in, part-kept, ChangesOnly, part-air-is, part-gas-is, part-only, step-changes-only, part-alike}
 use Rattle.model.specs.Laws.Long.{LongServes, length-long-air, length-long-gas, long-air, long-gas, long-in-range}
@@ -94,13 +94,13 @@ module _ (w : World) (fits : Fits w) (a : ℕ) (fluxes : List ℤ) (s : LongSwee
       (long-air (w .grid .W) fluxes old (s .serves))
       (λ t. long-gas (w .grid .W) fluxes old (s .serves) old-in (rule-limited w t))
 
-  swept-in-range : (t : ℕ) → t < w .grid .N → LongInRange w (longSwept w a fluxes) a fluxes t
+  swept-in-range : (t : ℕ) → t < w .grid .N → hasFirst w t ≡ true → LongInRange w (longSwept w a fluxes) a fluxes t
   unfolding longSwept
-  swept-in-range t h i hi =
+  swept-in-range t h first i hi =
       rw (
         part-air-is w fits a (w .grid .W) (s .inside) new change (length-long-air (w .grid .W) fluxes old) change-many,
         part-gas-is w fits a (w .grid .W) (s .inside) new change (length-long-air (w .grid .W) fluxes old) change-many t h,
-      ) (long-in-range (w .grid .W) fluxes old (s .serves) old-in (rule-limited w t) (part (gas w t) a (w .grid .W)) (rule-monotone w t) i hi)
+      ) (long-in-range (w .grid .W) fluxes old (s .serves) old-in (rule-limited w t) (part (gas w t) a (w .grid .W)) (rule-monotone w t first) i hi)
 
 pub long-keeps : (k r : ℕ) (fluxes : List ℤ) → MeaningKeeps (meaning (longZonal k r fluxes))
 unfolding ownPlaces longSwept firstOf

@@ -47,7 +47,7 @@ moved-kept w reached new change air gases =
               air = air .airIn;
               totals = λ t h. rw (total t h) (fits .totals t h);
             };
-            emitters = reached .emitters;
+            blocks = reached .blocks;
           };
       sameGrid = refl;
       gasKept = λ t h. ap (λ (x : ℕ). x + 0) (total t h);
@@ -74,12 +74,12 @@ pub moved-alike :
     ((t : ℕ) → t < v .grid .N → length (alter t (gas v t)) ≡ worldCells (v .grid)) → w .grid ≡ v .grid → new ≡ newer →
     ((t : ℕ) → t < w .grid .N → own t ≡ true → change t (gas w t) ≡ alter t (gas v t)) →
     ((t : ℕ) → own t ≡ true → block w t ≡ block v t) → Alike own (moved w new change) (moved v newer alter)
-moved-alike own w v new newer change alter many many-v sameGrid sameAir sameChange sameEmitters =
+moved-alike own w v new newer change alter many many-v sameGrid sameAir sameChange sameBlock =
     record {
       sameGrid = sameGrid;
       sameAir = sameAir;
       sameGas = λ t o. same t o (ltb t (w .grid .N)) refl;
-      sameEmitters = sameEmitters;
+      sameBlock = sameBlock;
     }
   where
     same : (t : ℕ) → own t ≡ true → (b : Bool) → ltb t (w .grid .N) ≡ b → gas (moved w new change) t ≡ gas (moved v newer alter) t

@@ -9,7 +9,8 @@ use native.Mathlib.Omega.{arith}
 use lib.ListN.{length}
 use Rattle.model.specs.Basic.{at, part, written, sum}
 use Rattle.model.specs.World.{Grid, World, worldCells, gas, airFits, movedPart}
-use Rattle.model.specs.Scheme.{Rule, ruleOf}
+use Rattle.model.specs.Scheme.{Rule}
+use Rattle.model.specs.Limiters.{Limiter, ruleFor, limiterIn, limiterOf, ruleOf}
 use Rattle.model.specs.Step.{Call, noExchange, accepted, refused, refusal, step}
 use Rattle.model.specs.Lists.{Alike}
 use Rattle.model.specs.Laws.Basic.{length-part, at-part, InPart, Outside, part-or-outside, Apart, part-apart, length-written, at-written-within, at-written-outside, part-written, sum-written}
@@ -150,11 +151,12 @@ step-changes-only w call a m when = go (refusal w call) refl
         rw (step-refused w call n e)
         (record { sameGrid = refl; airLength = refl; tracersLength = refl; sameLedger = refl; airOutside = λ c out. refl; gasOutside = λ t h c out. refl })
 
--- ---- two worlds of the same grid with the same air, and the same amounts of each tracer, in some of their cells
+-- ---- two worlds of the same grid with the same limiters, and with the same air and the same amounts of each tracer in some of their cells
 pub record SameCells (start many : Grid → ℕ) (w v : World) : Type 0 where
   pub sameGrid : w .grid ≡ v .grid
   pub sameAir : part (w .air) (start (w .grid)) (many (w .grid)) ≡ part (v .air) (start (v .grid)) (many (v .grid))
   pub sameGas : (t : ℕ) → t < w .grid .N → part (gas w t) (start (w .grid)) (many (w .grid)) ≡ part (gas v t) (start (v .grid)) (many (v .grid))
+  pub sameLimiters : (t : ℕ) → t < w .grid .N → limiterOf w t ≡ limiterOf v t
 
 -- ---- such a call in two worlds, where the cells come from the grid, their new air from their air, and a tracer's new amounts from their air and that tracer's amounts
 module _
@@ -200,8 +202,9 @@ module _
           (as-many v fv a m (rw (← (alike .sameGrid)) inside) (new (w .grid) row) (λ t. change (ruleOf v t) (w .grid) row) (newMany _ _ row-many) (λ t. changeMany _ _ row))
           (alike .sameGrid)
           (ap (λ (l : List ℕ). written l a (new (w .grid) row)) (alike .sameAir))
-          (λ t h o. ap (λ (l : List ℕ). written l a (change (ruleOf w t) (w .grid) row (part l a m))) (alike .sameGas t o))
-          (alike .sameEmitters)
+          (λ t h o.
+          ap₂ (λ (b l : List ℕ). written l a (change (ruleFor (limiterIn b)) (w .grid) row (part l a m))) (alike .sameBlock t o) (alike .sameGas t o))
+          (alike .sameBlock)
 
   -- the cells afterwards come from the cells before
   module _ (w : World) (fits : Fits w) (inside : start (w .grid) + many (w .grid) ≤ worldCells (w .grid)) where
@@ -231,8 +234,9 @@ module _
             λ t h.
             moved-gas w fw inside t h ∙
             ap₂ (λ (g : Grid) (row : List ℕ). change (ruleOf w t) g row (cellsOf (w .grid) (gas w t))) (s .sameGrid) (s .sameAir) ∙
-            ap (change (ruleOf w t) (v .grid) (cellsOf (v .grid) (v .air))) (s .sameGas t h) ∙
+            ap₂ (λ (l : Limiter) (had : List ℕ). change (ruleFor l) (v .grid) (cellsOf (v .grid) (v .air)) had) (s .sameLimiters t h) (s .sameGas t h) ∙
             sym (moved-gas v fv inside-v t (rw (← (s .sameGrid)) h));
+        sameLimiters = s .sameLimiters;
       }
     where
       inside-v : start (v .grid) + many (v .grid) ≤ worldCells (v .grid)

@@ -13,13 +13,13 @@ use Rattle.model.specs.Limits.{airLimit}
 use Rattle.model.specs.Basic.{at, sum, some}
 use Rattle.model.specs.World.{airFits}
 use Rattle.model.specs.Scheme.{Rule, opposite, highPiece, lowPiece}
-use Rattle.model.specs.Sweep.{Mesh, Sides, between, southCap, northCap, Flow, leaving, entering, afterFlow, allowed, parts, cellRatio, cellMismatch, pieces, airAfter, gasAfter, serves}
+use Rattle.model.specs.Sweep.{Mesh, Sides, between, southCap, northCap, Flow, leaving, entering, afterFlow, allowed, parts, cellMismatch, pieces, airAfter, gasAfter, serves}
 use Rattle.model.specs.Range.{inRange, unitsAndQuarter, isNear, faceCount, substepInRange}
 use Rattle.model.specs.Laws.Basic.{sum-ext, both, every-at, some-true, at-tab, term-le-sum}
 use Rattle.model.specs.Laws.Scheme.{Limited}
 use Rattle.model.specs.Laws.Substep.{cell-safe}
 use Rattle.model.specs.Laws.Mesh.{Regular, Meets, OnHighSide, OnLowSide}
-use Rattle.model.specs.Laws.Fractions.{lost, Towards, Monotone, level-towards, Inside, CellRoom, room-level, room-between, Near, near-add, near-sum, LeavesInRange, piece-near, ends-leave, plains-leave, replaced, Bounded, in-range}
+use Rattle.model.specs.Laws.Fractions.{lost, CellRoom, EndRoom, room-ends, level-leaning, Monotone, Roomy, Near, near-add, near-sum, LeavesInRange, piece-near, ends-leave, plains-leave, replaced, Bounded, in-range}
 
 -- face f is one of the n faces from face k on
 among : (cell : ℕ → ℕ) (k n f : ℕ) → k ≤ f → f < k + n → some n (λ i. eqb (cell f) (cell (k + i))) ≡ true
@@ -32,33 +32,37 @@ Cap (between l h) = ⊥
 Cap (southCap k n) = Unit {0}
 Cap (northCap k n) = Unit {0}
 
--- ---- the mismatch of a cell leans towards the cells across its faces
-module _ {rule : Rule} (monotone : Monotone rule) (mesh : Mesh) (air gas : List ℕ) where
+-- ---- a cell that fits has room towards a cell across a face, if that fits too
+module _
+    {rule : Rule} {b : Bool} {H L : ℕ} {Fits : ℕ → ℕ → Type 0} (roomy : Roomy rule b H L Fits) (mesh : Mesh)
+    (air gas : List ℕ) where
   towards-high :
-      (c f : ℕ) → OnHighSide f (mesh .sides c) →
-      Towards (cellMismatch rule mesh air gas c) (cellRatio air gas c) (cellRatio air gas (mesh .highCell f))
+      (c f : ℕ) → OnHighSide f (mesh .sides c) → Fits (at air c) (at gas c) →
+      Fits (at air (mesh .highCell f)) (at gas (mesh .highCell f)) →
+      EndRoom b H L (at air c) (at gas c) (cellMismatch rule mesh air gas c)
   unfolding cellMismatch
-  towards-high c f = go (mesh .sides c) refl
+  towards-high c f on here there = go (mesh .sides c) refl on
     where
       go :
           (s : Sides) → mesh .sides c ≡ s → OnHighSide f s →
-          Towards (cellMismatch rule mesh air gas c) (cellRatio air gas c) (cellRatio air gas (mesh .highCell f))
-      go (between l h) e on = rw (e, cellMismatch, ← on) (monotone .towardsHigh _ _ _)
-      go (southCap k n) e on = rw (e, cellMismatch) (level-towards true _ _)
+          EndRoom b H L (at air c) (at gas c) (cellMismatch rule mesh air gas c)
+      go (between l h) e on = rw (e, cellMismatch, on) (roomy .high _ _ _ _ _ here there)
+      go (southCap k n) e on = rw (e, cellMismatch, level-leaning b true) (roomy .level _ _ here)
       go (northCap k n) e on = absurd on
 
   towards-low :
-      (c f : ℕ) → OnLowSide f (mesh .sides c) →
-      Towards (opposite (cellMismatch rule mesh air gas c)) (cellRatio air gas c) (cellRatio air gas (mesh .lowCell f))
+      (c f : ℕ) → OnLowSide f (mesh .sides c) → Fits (at air c) (at gas c) →
+      Fits (at air (mesh .lowCell f)) (at gas (mesh .lowCell f)) →
+      EndRoom b H L (at air c) (at gas c) (opposite (cellMismatch rule mesh air gas c))
   unfolding cellMismatch
-  towards-low c f = go (mesh .sides c) refl
+  towards-low c f on here there = go (mesh .sides c) refl on
     where
       go :
           (s : Sides) → mesh .sides c ≡ s → OnLowSide f s →
-          Towards (opposite (cellMismatch rule mesh air gas c)) (cellRatio air gas c) (cellRatio air gas (mesh .lowCell f))
-      go (between l h) e on = rw (e, cellMismatch, ← on) (monotone .towardsLow _ _ _)
+          EndRoom b H L (at air c) (at gas c) (opposite (cellMismatch rule mesh air gas c))
+      go (between l h) e on = rw (e, cellMismatch, on) (roomy .low _ _ _ _ _ there here)
       go (southCap k n) e on = absurd on
-      go (northCap k n) e on = rw (e, cellMismatch) (level-towards false _ _)
+      go (northCap k n) e on = rw (e, cellMismatch, level-leaning b false) (roomy .level _ _ here)
 
   cap-level : (c : ℕ) → Cap (mesh .sides c) → cellMismatch rule mesh air gas c .size ≡ 0
   unfolding cellMismatch
@@ -115,40 +119,37 @@ module _ (mesh : Mesh) (c : ℕ) where
           let i : k + (f - k) ≡ f = omega arith in
           rw (e, leaving) (rw i at (term-le-sum n (λ i. flow .toLow (k + i)) (f - k) (omega arith)))
 
--- ---- a cell near which none passes a fraction may lean by its slope
+-- ---- a cell near which all cells fit may lean by its slope
 pub cell-leans :
-    {rule : Rule} → Monotone rule → (mesh : Mesh) → Regular mesh → (air gas : List ℕ) →
-    ((c : ℕ) → c < mesh .cells → 1 ≤ at air c) → (b : Bool) (H L c : ℕ) → c < mesh .cells →
-    ((d : ℕ) → d < mesh .cells → isNear mesh c d ≡ true → Inside b H L (at air d) (at gas d)) →
+    {rule : Rule} {b : Bool} {H L : ℕ} {Fits : ℕ → ℕ → Type 0} → Roomy rule b H L Fits → (mesh : Mesh) → Regular mesh →
+    (air gas : List ℕ) (c : ℕ) → c < mesh .cells →
+    ((d : ℕ) → d < mesh .cells → isNear mesh c d ≡ true → Fits (at air d) (at gas d)) →
     CellRoom b H L (at air c) (at gas c) (cellMismatch rule mesh air gas c .size)
-cell-leans {rule} monotone mesh regular air gas has b H L c hc inside = go (mesh .sides c) refl (regular .meets c hc)
+cell-leans {rule} {b} {H} {L} {Fits} roomy mesh regular air gas c hc fits = go (mesh .sides c) refl (regular .meets c hc)
   where
-    here : Inside b H L (at air c) (at gas c)
-    here = inside c hc (near-self mesh c)
+    here : Fits (at air c) (at gas c)
+    here = fits c hc (near-self mesh c)
 
     go : (s : Sides) → mesh .sides c ≡ s → Meets mesh c s → CellRoom b H L (at air c) (at gas c) (cellMismatch rule mesh air gas c .size)
     go (between l h) e m =
         let hl : mesh .lowCell l < mesh .cells = regular .lowIn l (m .0) in
         let hh : mesh .highCell h < mesh .cells = regular .highIn h (m .1) in
-        room-between b H L (at air c) (at gas c) (has c hc) here (cellMismatch rule mesh air gas c) _ _ _ _ (has _ hl) (has _ hh)
-        (inside _ hl (near-low mesh c l (rw e refl)))
-        (inside _ hh (near-high mesh c h (rw e refl)))
-        (towards-low monotone mesh air gas c l (rw e refl))
-        (towards-high monotone mesh air gas c h (rw e refl))
-    go (southCap k n) e m = rw (cap-level monotone mesh air gas c (rw e tt)) (room-level b H L _ _ here)
-    go (northCap k n) e m = rw (cap-level monotone mesh air gas c (rw e tt)) (room-level b H L _ _ here)
+        room-ends b (cellMismatch rule mesh air gas c .positive) H L _ _ _
+        (towards-low roomy mesh air gas c l (rw e refl) here (fits _ hl (near-low mesh c l (rw e refl))))
+        (towards-high roomy mesh air gas c h (rw e refl) here (fits _ hh (near-high mesh c h (rw e refl))))
+    go (southCap k n) e m = rw (cap-level roomy mesh air gas c (rw e tt)) (roomy .level _ _ here)
+    go (northCap k n) e m = rw (cap-level roomy mesh air gas c (rw e tt)) (roomy .level _ _ here)
 
 -- ---- a substep: air in every cell, and no cell gives more than it has
 module _
-    {rule : Rule} (limited : Limited rule) (monotone : Monotone rule) (mesh : Mesh) (regular : Regular mesh) (flow : Flow)
-    (air gas : List ℕ) (has : (c : ℕ) → c < mesh .cells → 1 ≤ at air c)
-    (gives : (c : ℕ) → c < mesh .cells → leaving mesh flow c ≤ at air c) where
-  -- a fraction H/L that no cell near c passes
+    {rule : Rule} (limited : Limited rule) (mesh : Mesh) (regular : Regular mesh) (flow : Flow) (air gas : List ℕ)
+    (has : (c : ℕ) → c < mesh .cells → 1 ≤ at air c) (gives : (c : ℕ) → c < mesh .cells → leaving mesh flow c ≤ at air c) where
+  -- a fraction H/L that leaves room to the cells near c
   module _
-      (b : Bool) (H L c : ℕ) (hc : c < mesh .cells)
-      (inside : (d : ℕ) → d < mesh .cells → isNear mesh c d ≡ true → Inside b H L (at air d) (at gas d)) where
-    self-inside : Inside b H L (at air c) (at gas c)
-    self-inside = inside c hc (near-self mesh c)
+      {b : Bool} {H L : ℕ} {Fits : ℕ → ℕ → Type 0} (roomy : Roomy rule b H L Fits) (c : ℕ) (hc : c < mesh .cells)
+      (fits : (d : ℕ) → d < mesh .cells → isNear mesh c d ≡ true → Fits (at air d) (at gas d)) where
+    self-fits : Fits (at air c) (at gas c)
+    self-fits = fits c hc (near-self mesh c)
 
     -- what comes in through a face on its low side, and on its high side
     from-low :
@@ -158,7 +159,10 @@ module _
     from-low f hf e on =
         let d = mesh .lowCell f in
         let hd : d < mesh .cells = regular .lowIn f hf in
-        piece-near b H L (at air d) (at gas d) (has d hd) (inside d hd (near-low mesh c f on)) (cellMismatch rule mesh air gas d) (at air c) (at gas c) (flow .toHigh f) (has c hc) self-inside (cell-safe rule mesh air gas d limited) (rw e at (towards-high monotone mesh air gas d f (regular .lowHas f hf))) (omega (arith, gives d hd, high-leaves mesh d flow f (regular .lowHas f hf)))
+        piece-near b H L (at air d) (at gas d) (has d hd) (cellMismatch rule mesh air gas d) (flow .toHigh f)
+        (cell-safe rule mesh air gas d limited)
+        (towards-high roomy mesh air gas d f (regular .lowHas f hf) (fits d hd (near-low mesh c f on)) (rw e self-fits))
+        (omega (arith, gives d hd, high-leaves mesh d flow f (regular .lowHas f hf)))
 
     from-high :
         (f : ℕ) → f < mesh .faces → mesh .lowCell f ≡ c → OnHighSide f (mesh .sides c) →
@@ -167,7 +171,10 @@ module _
     from-high f hf e on =
         let d = mesh .highCell f in
         let hd : d < mesh .cells = regular .highIn f hf in
-        piece-near b H L (at air d) (at gas d) (has d hd) (inside d hd (near-high mesh c f on)) (opposite (cellMismatch rule mesh air gas d)) (at air c) (at gas c) (flow .toLow f) (has c hc) self-inside (cell-safe rule mesh air gas d limited) (rw e at (towards-low monotone mesh air gas d f (regular .highHas f hf))) (omega (arith, gives d hd, low-leaves mesh d flow f (regular .highHas f hf)))
+        piece-near b H L (at air d) (at gas d) (has d hd) (opposite (cellMismatch rule mesh air gas d)) (flow .toLow f)
+        (cell-safe rule mesh air gas d limited)
+        (towards-low roomy mesh air gas d f (regular .highHas f hf) (fits d hd (near-high mesh c f on)) (rw e self-fits))
+        (omega (arith, gives d hd, low-leaves mesh d flow f (regular .highHas f hf)))
 
     comes-in :
         (s : Sides) → mesh .sides c ≡ s → Meets mesh c s →
@@ -200,25 +207,26 @@ module _
         LeavesInRange b H L (at air c - leaving mesh flow c) (at gas c) (leaving mesh (pieces rule mesh flow air gas) c) (faceCount s * lost (not b))
     unfolding leaving
     stays (between l h) e m =
-        let hl : mesh .lowCell l < mesh .cells = regular .lowIn l (m .0) in
-        let hh : mesh .highCell h < mesh .cells = regular .highIn h (m .1) in
         let g : flow .toLow l + flow .toHigh h ≤ at air c = rw (e, leaving) at (gives c hc) in
         rw (e, leaving, given-low l (m .2), given-high h (m .3))
-        (ends-leave b H L (at air c) (at gas c) (has c hc) self-inside (cellMismatch rule mesh air gas c) _ _ _ _ (flow .toLow l) (flow .toHigh h) _ (has _ hl) (has _ hh)
-        (inside _ hl (near-low mesh c l (rw e refl)))
-        (inside _ hh (near-high mesh c h (rw e refl)))
+        (ends-leave b H L (at air c) (at gas c) (has c hc) (cellMismatch rule mesh air gas c) (flow .toLow l) (flow .toHigh h) _
         (cell-safe rule mesh air gas c limited)
-        (towards-low monotone mesh air gas c l (rw e refl))
-        (towards-high monotone mesh air gas c h (rw e refl))
+        (cell-leans roomy mesh regular air gas c hc fits)
         (omega arith))
     stays (southCap k n) e m =
         let g : sum n (λ i. flow .toHigh (k + i)) ≤ at air c = rw (e, leaving) at (gives c hc) in
         rw (e, leaving, sum-ext n _ _ (λ i h. given-high (k + i) (m i h .1)))
-        (plains-leave b H L (at air c) (at gas c) (has c hc) self-inside (cellMismatch rule mesh air gas c) n _ (λ i. flow .toHigh (k + i)) (cap-level monotone mesh air gas c (rw e tt)) (omega arith))
+        (plains-leave b H L (at air c) (at gas c) (has c hc) (cellMismatch rule mesh air gas c) n _ (λ i. flow .toHigh (k + i))
+        (cap-level roomy mesh air gas c (rw e tt))
+        (roomy .level _ _ self-fits)
+        (omega arith))
     stays (northCap k n) e m =
         let g : sum n (λ i. flow .toLow (k + i)) ≤ at air c = rw (e, leaving) at (gives c hc) in
         rw (e, leaving, sum-ext n _ _ (λ i h. given-low (k + i) (m i h .1)))
-        (plains-leave b H L (at air c) (at gas c) (has c hc) self-inside (opposite (cellMismatch rule mesh air gas c)) n _ (λ i. flow .toLow (k + i)) (cap-level monotone mesh air gas c (rw e tt)) (omega arith))
+        (plains-leave b H L (at air c) (at gas c) (has c hc) (opposite (cellMismatch rule mesh air gas c)) n _ (λ i. flow .toLow (k + i))
+        (cap-level roomy mesh air gas c (rw e tt))
+        (roomy .level _ _ self-fits)
+        (omega arith))
 
     near-after : Near b H L (at (afterFlow mesh flow air) c) (at (afterFlow mesh (pieces rule mesh flow air gas) gas) c) (faceCount (mesh .sides c))
     unfolding afterFlow
@@ -232,8 +240,8 @@ module _
   -- the range at every scale
   pub substep-bounded :
       (c : ℕ) → c < mesh .cells →
-      Bounded (mesh .cells) (isNear mesh c) air gas (faceCount (mesh .sides c)) (at (afterFlow mesh flow air) c) (at (afterFlow mesh (pieces rule mesh flow air gas) gas) c)
-  substep-bounded c hc b H L inside = near-after b H L c hc inside
+      Bounded rule (mesh .cells) (isNear mesh c) air gas (faceCount (mesh .sides c)) (at (afterFlow mesh flow air) c) (at (afterFlow mesh (pieces rule mesh flow air gas) gas) c)
+  substep-bounded c hc b H L Fits roomy fits = near-after roomy c hc fits
 
 -- what `allowed` tests
 module _ (mesh : Mesh) (flow : Flow) (air : List ℕ) (ok : allowed mesh flow air ≡ true) (c : ℕ) (hc : c < mesh .cells) where
@@ -257,8 +265,8 @@ module _
   pub substep-in-range : inRange (mesh .cells) (isNear mesh c) air gas (unitsAndQuarter (faceCount (mesh .sides c))) (at (afterFlow mesh flow air) c) (at (afterFlow mesh (pieces rule mesh flow air gas) gas) c) ≡ true
   substep-in-range =
       let fits = allowed-fits mesh flow air ok c hc in
-      in-range (mesh .cells) (isNear mesh c) air gas c hc (near-self mesh c) (has c hc) (faceCount (mesh .sides c)) _ _ (fits .0) (fits .1)
-      (substep-bounded limited monotone mesh regular flow air gas has (allowed-gives mesh flow air ok) c hc)
+      in-range (mesh .cells) (isNear mesh c) air gas c hc (near-self mesh c) has monotone (faceCount (mesh .sides c)) _ _ (fits .0) (fits .1)
+      (substep-bounded limited mesh regular flow air gas has (allowed-gives mesh flow air ok) c hc)
 
 -- ---- and so after every substep of a sweep in which all are allowed
 module _

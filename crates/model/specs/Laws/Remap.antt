@@ -13,7 +13,8 @@ use Rattle.model.specs.Limits.{airLimit}
 use Rattle.model.specs.Basic.{at, sum}
 use Rattle.model.specs.World.{Grid, World, layerCells, worldCells, layerStart, gas}
 use Rattle.model.specs.Remap.{column, columnAir, columnCount, isCap, layers, newAir, newTracer, overCells, remappedAir, remappedGas, remapServes, remapCount, remapped}
-use Rattle.model.specs.Scheme.{Rule, ruleOf}
+use Rattle.model.specs.Scheme.{Rule}
+use Rattle.model.specs.Limiters.{ruleFor, limiterIn, ruleOf}
 use Rattle.model.specs.Range.{layerInRange}
 use Rattle.model.specs.Step.{remap, firstOf, meaning, ownPlaces, refusal}
 use Rattle.model.specs.Lists.{Alike}
@@ -21,8 +22,9 @@ use Rattle.model.specs.Laws.Basic.{every-at, sum-ext, sum-columns, lengt
 use Rattle.model.specs.Laws.Substep.{AirIn, air-bounds}
 use Rattle.model.specs.Laws.World.{gas-moved}
 use Rattle.model.specs.Laws.Step.{passed, accepted-passed}
-use Rattle.model.specs.Laws.Scheme.{Limited, rule-limited}
-use Rattle.model.specs.Laws.Fractions.{Monotone, rule-monotone}
+use Rattle.model.specs.Laws.Scheme.{Limited}
+use Rattle.model.specs.Laws.Fractions.{Monotone}
+use Rattle.model.specs.Laws.Limiters.{rule-limited, rule-monotone}
 use Rattle.model.specs.Laws.Keeps.{air-alike, MeaningKeeps}
 use Rattle.model.specs.Laws.Moved.{Even, KeepsAir, KeepsGas, moved-kept, moved-alike}
 use Rattle.model.specs.Laws.Column.{Edges, edges-serve, new-air-least, new-air-sum, new-tracer-sum, new-tracer-even, new-layer-in-range}
@@ -79,7 +81,7 @@ module _ (g : Grid) (table air : List ℕ) (k c : ℕ) (hk : k < g .K) (hc : c <
   remapped-gas-at rule had = at-over g (gasAt rule g table air had) k c hk hc
 
 -- ---- a remap that serves
-length-remapped : (rule : Rule) (g : Grid) (table air had : List ℕ) → length (remappedGas rule g table air had) ≡ worldCells g
+pub length-remapped : (rule : Rule) (g : Grid) (table air had : List ℕ) → length (remappedGas rule g table air had) ≡ worldCells g
 unfolding remappedGas
 length-remapped rule g table air had = length-tab (worldCells g) _
 
@@ -172,9 +174,10 @@ remap-alike table own w v a = (
   moved-alike own w v _ _ (λ t. gases w t) (λ t. gases v t) (λ t h. length-remapped _ _ _ _ _) (λ t h. length-remapped _ _ _ _ _) (a .sameGrid)
       (ap₂ (λ (g : Grid) (air : List ℕ). remappedAir g table air) (a .sameGrid) (a .sameAir))
       (λ t h o.
-      ap₂ (λ (g : Grid) (air : List ℕ). remappedGas (ruleOf w t) g table air (gas w t)) (a .sameGrid) (a .sameAir) ∙
+      ap (λ (b : List ℕ). remappedGas (ruleFor (limiterIn b)) (w .grid) table (w .air) (gas w t)) (a .sameBlock t o) ∙
+      ap₂ (λ (g : Grid) (air : List ℕ). remappedGas (ruleOf v t) g table air (gas w t)) (a .sameGrid) (a .sameAir) ∙
       ap (gases v t) (a .sameGas t o))
-      (a .sameEmitters),
+      (a .sameBlock),
   ap₂ (λ (g : Grid) (air : List ℕ). sum (layerCells g) (λ c. columnCount (g .K) table (column g air c))) (a .sameGrid) (a .sameAir),
 )
   where
@@ -194,9 +197,9 @@ remap-keeps table =
           record {
             kept = moved-kept w reached _ _ (remap-air g table (w .air) airIn edges) (λ t. remap-gas g table (w .air) airIn edges (rule-limited w t));
             inRange =
-                λ t h.
+                λ t h first.
                 rw (gas-moved w (remappedAir g table (w .air)) (λ t. remappedGas (ruleOf w t) g table (w .air)) (λ t h. length-remapped _ _ _ _ _) t h)
-                (remap-in-range g table (w .air) airIn edges (rule-limited w t) (rule-monotone w t) (gas w t));
+                (remap-in-range g table (w .air) airIn edges (rule-limited w t) (rule-monotone w t first) (gas w t));
             alike = λ own v vv a named. remap-alike table own w v a;
             apart = λ own other. absurd (true≢false other);
           };

@@ -7,8 +7,7 @@ use native.Mathlib.Nat.{mul-zero, le-refl, le-trans, lt-of-le-of-lt, le-div-iff-
 use native.Mathlib.Omega.{arith}
 use Rattle.model.specs.Limits.{scale, airLimit, totalLimit}
 use Rattle.model.specs.Basic.{sum, distance}
-use Rattle.model.specs.World.{World}
-use Rattle.model.specs.Scheme.{ratio, Mismatch, Rule, mismatch, ruleOf, plain, opposite, highPiece, lowPiece}
+use Rattle.model.specs.Scheme.{ratio, Mismatch, Rule, bounded, mismatch, plain, opposite, highPiece, lowPiece}
 use Rattle.model.specs.Sweep.{fluxPart}
 use Rattle.model.specs.Laws.Basic.{sum-times, sum-le}
 
@@ -21,33 +20,29 @@ quotients-le : (a b t : ℕ) {n : ℕ} → 0 < n → a + b ≤ n * t → a / n +
 quotients-le a b t {n} hn h =
     le-trans (le-div-iff-mul-le hn .1 (omega (arith, div-mul-le-self a n, div-mul-le-self b n))) (div-le-of-le-mul n h)
 
--- ---- the mismatch
+-- ---- the rule that two ratios bound
+module _ (least greatest qa q qb : ℕ) where
+  bounded-half : bounded least greatest qa q qb .size ≤ distance qa qb / 2
+  unfolding bounded
+  bounded-half = min-le-left _ _
+
+  pub bounded-below : bounded least greatest qa q qb .size ≤ 2 * (q - least)
+  unfolding bounded
+  bounded-below = le-trans (min-le-right _ _) (min-le-left _ _)
+
+  pub bounded-above : bounded least greatest qa q qb .size ≤ 2 * (greatest - q)
+  unfolding bounded
+  bounded-above = le-trans (min-le-right _ _) (min-le-right _ _)
+
+-- by the least and the greatest of the three ratios: at most twice what the lesser neighbour is below the cell, and what the greater is above it: 0 at an extremum
 module _ (qa q qb : ℕ) where
-  mismatch-half : mismatch qa q qb .size ≤ distance qa qb / 2
-  unfolding mismatch
-  mismatch-half = min-le-left _ _
-
-  mismatch-below : mismatch qa q qb .size ≤ 2 * (q - min qa (min q qb))
-  unfolding mismatch
-  mismatch-below = le-trans (min-le-right _ _) (min-le-left _ _)
-
-  mismatch-above : mismatch qa q qb .size ≤ 2 * (max qa (max q qb) - q)
-  unfolding mismatch
-  mismatch-above = le-trans (min-le-right _ _) (min-le-right _ _)
-
-  -- at most twice what the lesser neighbour is below the cell, and what the greater is above it: 0 at an extremum
   pub mismatch-low : mismatch qa q qb .size ≤ 2 * (q - min qa qb)
-  mismatch-low = omega (arith, mismatch-below)
+  unfolding mismatch
+  mismatch-low = omega (arith, bounded-below (min qa (min q qb)) (max qa (max q qb)) qa q qb)
 
   pub mismatch-high : mismatch qa q qb .size ≤ 2 * (max qa qb - q)
-  mismatch-high = omega (arith, mismatch-above)
-
-  pub mismatch-twice : mismatch qa q qb .size ≤ 2 * q
-  mismatch-twice = omega (arith, mismatch-low)
-
--- no mismatch between neighbours of equal ratio
-pub mismatch-equal : (q p : ℕ) → mismatch q p q .size ≡ 0
-mismatch-equal q p = omega (arith, mismatch-half q p q)
+  unfolding mismatch
+  mismatch-high = omega (arith, bounded-above (min qa (min q qb)) (max qa (max q qb)) qa q qb)
 
 -- ---- what totals, whole-number ratios and the independence of tracers ask of a rule
 pub record Limited (rule : Rule) : Type 0 where
@@ -56,11 +51,20 @@ pub record Limited (rule : Rule) : Type 0 where
   -- so that a constant ratio stays
   pub noneBetweenEqual : (r q : ℕ) → rule r q r .size ≡ 0
 
-pub mismatch-limited : Limited mismatch
-mismatch-limited = record { atMostTwice = mismatch-twice; noneBetweenEqual = mismatch-equal }
+pub bounded-limited : (least greatest : ℕ) → Limited (bounded least greatest)
+bounded-limited least greatest =
+    record {
+      atMostTwice = λ qa q qb. omega (arith, bounded-below least greatest qa q qb);
+      noneBetweenEqual = λ r q. omega (arith, bounded-half least greatest r q r);
+    }
 
-pub rule-limited : (w : World) (t : ℕ) → Limited (ruleOf w t)
-rule-limited w t = mismatch-limited
+pub mismatch-limited : Limited mismatch
+unfolding mismatch
+mismatch-limited =
+    record {
+      atMostTwice = λ qa q qb. bounded-limited _ _ .atMostTwice qa q qb;
+      noneBetweenEqual = λ r q. bounded-limited _ _ .noneBetweenEqual r q;
+    }
 
 -- ---- a safe mismatch: |D|·M ≤ 2·scale·T
 abbrev pub Safe : Mismatch → ℕ → ℕ → Type 0
@@ -70,9 +74,6 @@ Safe D M T = D .size * M ≤ 2 * scale * T
 pub ratio-safe : (D : Mismatch) (M T : ℕ) → D .size ≤ 2 * ratio M T → Safe D M T
 unfolding ratio
 ratio-safe D M T h = omega (arith, mul-le-mul-right M h, div-mul-le-self (scale * T) M)
-
-pub mismatch-safe : (qa qb M T : ℕ) → Safe (mismatch qa (ratio M T) qb) M T
-mismatch-safe qa qb M T = ratio-safe (mismatch qa (ratio M T) qb) M T (mismatch-twice qa (ratio M T) qb)
 
 pub plain-safe : (M T : ℕ) → Safe plain M T
 plain-safe M T = omega arith

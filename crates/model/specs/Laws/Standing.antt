@@ -1,4 +1,4 @@
--- What adding and removing an emitter, a tick and the reading of the units a tick keep when they are accepted, and what each does.
+-- What adding and removing an emitter, setting the limiter, a tick and the reading of the units a tick keep when they are accepted, and what each does.
 -- Assumes a world that calls reach; what a tick adds to each cell, and what the reading gives, holds in every world in which it is accepted.
 use Prim.Native.Nat.{ℕ, zero, suc, _+_, _*_, _≤_, _<_}
 use mathlib.Core.List.{List, [], _∷_}
@@ -19,13 +19,15 @@ use Rattle.model.specs.Sweep.{swept}
 use Rattle.model.specs.Remap.{remapped}
 use Rattle.model.specs.Long.{longSwept}
 use Rattle.model.specs.Emitters.{standing, keptUnits, presentUnits, hasId, recordFits, emitterAdded, emitterRemoved, ticked}
-use Rattle.model.specs.Step.{Call, load, emission, withdrawal, zonal, longZonal, meridional, remap, total, cell, Result, Place, firstOf, absent, brokenRecord, addEmitter, removeEmitter, tick, unitsATick, countZonal, zonalWithCount, Exchange, noExchange, Named, nobody, tracer, meaning, enters, ownPlaces, accepted, refused, refusal, step}
+use Rattle.model.specs.Limiters.{limiterFits, limiterIn, withLimiter, limiterOf}
+use Rattle.model.specs.Step.{Call, load, emission, withdrawal, zonal, longZonal, meridional, remap, total, cell, Result, Place, firstOf, absent, brokenRecord, addEmitter, removeEmitter, tick, unitsATick, countZonal, zonalWithCount, setLimiter, Exchange, noExchange, Named, nobody, tracer, meaning, enters, ownPlaces, accepted, refused, refusal, step}
 use Rattle.model.specs.Lists.{exchanged, Alike, namesOwn}
 use Rattle.model.specs.Laws.Basic.{every-at, every-true, length-part, at-part, InPart, Outside, part-or-outside, length-written, at-written-within, at-written-outside, length-rewritten, part-rewritten, part-not-rewritten}
-use Rattle.model.specs.Laws.Emitters.{Sound, kept-is, record-fitting, sound-fits, added-sound, removed-sound, length-added, added-has, add-remove, length-ticked, ticked-sum, ticked-none, unitsIn, ticked-at}
+use Rattle.model.specs.Laws.Emitters.{Sound, kept-is, record-fitting, sound-fits, limiter-sound, added-sound, added-keeps-limiter, removed-sound, removed-keeps-limiter, length-added, added-has, add-remove, length-ticked, ticked-sum, ticked-none, unitsIn, ticked-at}
+use Rattle.model.specs.Laws.Limiters.{length-limiter, limiter-read}
 use Rattle.model.specs.Laws.World.{length-gas}
 use Rattle.model.specs.Laws.Step.{Fits, Reached, passes, passed, found, step-accepted, step-refused, answer-is, own-refusal, accepted-passed}
-use Rattle.model.specs.Laws.Keeps.{Kept, names-present, named-alike, named-total-alike, named-emitters-alike, absent-alike, none-alike, last-alike, MeaningKeeps, reads-keep}
+use Rattle.model.specs.Laws.Keeps.{Kept, names-present, named-alike, named-total-alike, named-block-alike, absent-alike, none-alike, last-alike, MeaningKeeps, reads-keep}
 
 neither : (x y : Bool) → x || y ≡ false → (x ≡ false) × (y ≡ false)
 neither true y e = absurd (true≢false e)
@@ -34,7 +36,7 @@ neither false y e = (refl, e)
 -- ---- the record's place
 -- in a world that calls reach no record is broken
 pub record-sound : {w : World} → Reached w → brokenRecord .applies w ≡ false
-record-sound reached = ap not (every-true _ _ (λ t h. sound-fits (reached .emitters t h)))
+record-sound reached = ap not (every-true _ _ (λ t h. sound-fits (reached .blocks t h)))
 
 -- so the place does not tell two such worlds apart
 record-alike :
@@ -88,7 +90,7 @@ module _ (w : World) (reached : Reached w) (t : ℕ) (there : t < w .grid .N) (n
                 air = fits .air;
                 totals = fits .totals;
               };
-              emitters = λ u h. each u h (ℕ-discrete u t);
+              blocks = λ u h. each u h (ℕ-discrete u t);
             };
         sameGrid = refl;
         gasKept = λ u h. refl;
@@ -101,7 +103,7 @@ module _ (w : World) (reached : Reached w) (t : ℕ) (there : t < w .grid .N) (n
 
       each : (u : ℕ) → u < w .grid .N → Dec (u ≡ t) → Sound (worldCells (w .grid)) (block next u)
       each u h (yes e) = rw (e, block-changed) sound
-      each u h (no e) = rw (block-unchanged u e) (reached .emitters u h)
+      each u h (no e) = rw (block-unchanged u e) (reached .blocks u h)
 
   block-apart : (own : ℕ → Bool) → own t ≡ false → Alike own w next
   block-apart own other =
@@ -109,7 +111,7 @@ module _ (w : World) (reached : Reached w) (t : ℕ) (there : t < w .grid .N) (n
         sameGrid = refl;
         sameAir = refl;
         sameGas = λ u o. refl;
-        sameEmitters = λ u o. sym (block-unchanged u (λ q. true≢false (sym o ∙ ap own q ∙ other)));
+        sameBlock = λ u o. sym (block-unchanged u (λ q. true≢false (sym o ∙ ap own q ∙ other)));
       }
 
 -- in two worlds alike
@@ -121,7 +123,7 @@ block-alike own w v ww vv a t there new many =
       sameGrid = a .sameGrid;
       sameAir = a .sameAir;
       sameGas = a .sameGas;
-      sameEmitters = λ u o. same u o (ℕ-discrete u t);
+      sameBlock = λ u o. same u o (ℕ-discrete u t);
     }
   where
     there-v : t < v .grid .N
@@ -130,9 +132,9 @@ block-alike own w v ww vv a t there new many =
     same : (u : ℕ) → own u ≡ true → Dec (u ≡ t) → block (withBlock w t new) u ≡ block (withBlock v t new) u
     same u o (yes e) = rw (e, block-changed w ww t there new many, block-changed v vv t there-v new many)
     same u o (no e) =
-        block-unchanged w ww t there new many u e ∙ a .sameEmitters u o ∙ sym (block-unchanged v vv t there-v new many u e)
+        block-unchanged w ww t there new many u e ∙ a .sameBlock u o ∙ sym (block-unchanged v vv t there-v new many u e)
 
--- a call that changes the emitters of a tracer, where its places read no other gas's, and leave a sound block
+-- a call that changes the block of a tracer, where its places read no other gas's, and leave a sound block
 enters-keep :
     (t : ℕ) (ps : List Place) (new : List ℕ → List ℕ) →
     ((own : ℕ → Bool) (w v : World) → Reached w → Reached v → Alike own w v → namesOwn own w (tracer t) ≡ true → firstOf ps w ≡ firstOf ps v) →
@@ -147,10 +149,10 @@ enters-keep t ps new places sound =
           let so = sound w reached e .1 in
           record {
             kept = block-kept w reached t there (new (block w t)) (so .many) so;
-            inRange = λ u h. tt;
+            inRange = λ u h first. tt;
             alike =
                 λ own v vv a named.
-                let same : new (block w t) ≡ new (block v t) = ap new (named-emitters-alike own w v a t named there) in
+                let same : new (block w t) ≡ new (block v t) = ap new (named-block-alike own w v a t named there) in
                 (rw (← same) (block-alike own w v reached vv a t there (new (block w t)) (so .many)), refl);
             apart = λ own other. block-apart w reached t there (new (block w t)) (so .many) own (names-present own w t there ∙ other);
           };
@@ -178,10 +180,10 @@ add-keeps t c id units =
     absent-alike own w v a t (λ g. g .N) _
     (λ there. absent-alike own w v a c worldCells _
     (λ inside. record-alike w v ww vv _
-    (last-alike own w v a _ (ap (λ (b : List ℕ). leb mostEmitters (standing b) || hasId b id) (named-emitters-alike own w v a t named there))))))
+    (last-alike own w v a _ (ap (λ (b : List ℕ). leb mostEmitters (standing b) || hasId b id) (named-block-alike own w v a t named there))))))
     (λ w reached e.
     let can = can-add w t c id units e in
-    (can .there, added-sound (reached .emitters t (can .there)) id c units (can .room) (can .inside) (can .new)))
+    (can .there, added-sound (reached .blocks t (can .there)) id c units (can .room) (can .inside) (can .new)))
 
 pub remove-keeps : (t id : ℕ) → MeaningKeeps (meaning (removeEmitter t id))
 remove-keeps t id =
@@ -189,17 +191,33 @@ remove-keeps t id =
     (λ own w v ww vv a named.
     absent-alike own w v a t (λ g. g .N) _
     (λ there. record-alike w v ww vv _
-    (last-alike own w v a _ (ap (λ (b : List ℕ). not (hasId b id)) (named-emitters-alike own w v a t named there)))))
+    (last-alike own w v a _ (ap (λ (b : List ℕ). not (hasId b id)) (named-block-alike own w v a t named there)))))
     (λ w reached e.
     let p = record-passed t _ w e in
-    (p .there, removed-sound (reached .emitters t (p .there)) id (not-false _ (passed _ [] w (lit< tt) (p .left) .0))))
+    (p .there, removed-sound (reached .blocks t (p .there)) id (not-false _ (passed _ [] w (lit< tt) (p .left) .0))))
+
+-- what its places tell of a limiter that can be set
+limiter-set :
+    (t number lo hi : ℕ) (w : World) → firstOf (meaning (setLimiter t number lo hi) .places) w ≡ 0 →
+    (t < w .grid .N) × (limiterFits (record { number = number; lo = lo; hi = hi }) ≡ true)
+limiter-set t number lo hi w e =
+    let p = found t (λ g. g .N) _ w e in
+    (p .0, not-false _ (passed _ [] w (lit< tt) (p .1) .0))
+
+pub limiter-keeps : (t number lo hi : ℕ) → MeaningKeeps (meaning (setLimiter t number lo hi))
+limiter-keeps t number lo hi =
+    enters-keep t _ (λ b. withLimiter b (record { number = number; lo = lo; hi = hi }))
+    (λ own w v ww vv a named. absent-alike own w v a t (λ g. g .N) _ (λ there. last-alike own w v a _ refl))
+    (λ w reached e.
+    let p = limiter-set t number lo hi w e in
+    (p .0, limiter-sound (reached .blocks t (p .0)) _ (p .1)))
 
 pub units-keeps : (t : ℕ) → MeaningKeeps (meaning (unitsATick t))
 units-keeps t =
     reads-keep (tracer t) _ _
     (λ own w v ww vv a named.
     absent-alike own w v a t (λ g. g .N) _ (λ there. record-alike w v ww vv [] (none-alike own w v a)))
-    (λ own w v a named e. ap keptUnits (named-emitters-alike own w v a t named (found t (λ g. g .N) _ w e .0)))
+    (λ own w v a named e. ap keptUnits (named-block-alike own w v a t named (found t (λ g. g .N) _ w e .0)))
 
 -- ---- the world with other amounts of tracer t, of which x is exchanged
 module _ (w : World) (reached : Reached w) (t : ℕ) (there : t < w .grid .N) (new : List ℕ) (many : length new ≡ worldCells (w .grid)) where
@@ -228,7 +246,7 @@ module _ (w : World) (reached : Reached w) (t : ℕ) (there : t < w .grid .N) (n
                 air = fits .air;
                 totals = λ u h. totals u h (ℕ-discrete u t);
               };
-              emitters = reached .emitters;
+              blocks = reached .blocks;
             };
         sameGrid = refl;
         gasKept = λ u h. kept u h (ℕ-discrete u t);
@@ -266,7 +284,7 @@ module _ (w : World) (reached : Reached w) (t : ℕ) (there : t < w .grid .N) (n
         sameGrid = refl;
         sameAir = refl;
         sameGas = λ u o. sym (gas-unchanged u (λ q. true≢false (sym o ∙ ap own q ∙ other)));
-        sameEmitters = λ u o. refl;
+        sameBlock = λ u o. refl;
       }
 
 gas-alike :
@@ -277,7 +295,7 @@ gas-alike own w v ww vv a t there new many =
       sameGrid = a .sameGrid;
       sameAir = a .sameAir;
       sameGas = λ u o. same u o (ℕ-discrete u t);
-      sameEmitters = a .sameEmitters;
+      sameBlock = a .sameBlock;
     }
   where
     there-v : t < v .grid .N
@@ -308,8 +326,8 @@ module _ (w : World) (reached : Reached w) (t : ℕ) (there : t < w .grid .N) wh
 
   ticked-total : sum (worldCells (w .grid)) (at (tickedAll b (gas w t))) ≡ gasTotal w t + keptUnits b
   ticked-total =
-      ticked-sum b (worldCells (w .grid)) (gas w t) gas-many (standing b) (reached .emitters t there .there) ∙
-      ap (λ (x : ℕ). gasTotal w t + x) (sym (kept-is (reached .emitters t there)))
+      ticked-sum b (worldCells (w .grid)) (gas w t) gas-many (standing b) (reached .blocks t there .there) ∙
+      ap (λ (x : ℕ). gasTotal w t + x) (sym (kept-is (reached .blocks t there)))
 
 pub tick-keeps : (t : ℕ) → MeaningKeeps (meaning (tick t))
 tick-keeps t =
@@ -319,7 +337,7 @@ tick-keeps t =
           absent-alike own w v a t (λ g. g .N) _
           (λ there. record-alike w v ww vv _
           (last-alike own w v a _
-          (ap₂ (λ (x : ℕ) (b : List ℕ). ltb totalLimit (x + keptUnits b)) (named-total-alike own w v a t named there) (named-emitters-alike own w v a t named there))));
+          (ap₂ (λ (x : ℕ) (b : List ℕ). ltb totalLimit (x + keptUnits b)) (named-total-alike own w v a t named there) (named-block-alike own w v a t named there))));
       accepts =
           λ w reached e.
           let p = record-passed t _ w e in
@@ -331,11 +349,11 @@ tick-keeps t =
           record {
             kept =
                 gas-kept w reached t (p .there) new many (record { emitted = keptUnits b; withdrawn = 0 }) (omega (arith, total)) (omega (arith, total, room))
-                (λ no-in no-out. ticked-none b (gas w t) (standing b) (sym (kept-is (reached .emitters t (p .there))) ∙ no-in));
-            inRange = λ u h. tt;
+                (λ no-in no-out. ticked-none b (gas w t) (standing b) (sym (kept-is (reached .blocks t (p .there))) ∙ no-in));
+            inRange = λ u h first. tt;
             alike =
                 λ own v vv a named.
-                let same : new ≡ tickedAll (block v t) (gas v t) = ap₂ tickedAll (named-emitters-alike own w v a t named (p .there)) (named-alike own w v a t named (p .there)) in
+                let same : new ≡ tickedAll (block v t) (gas v t) = ap₂ tickedAll (named-block-alike own w v a t named (p .there)) (named-alike own w v a t named (p .there)) in
                 (rw (← same) (gas-alike own w v reached vv a t (p .there) new many), refl);
             apart = λ own other. gas-apart w reached t (p .there) new many own (names-present own w t (p .there) ∙ other);
           };
@@ -413,7 +431,7 @@ written-back l new a m fits size =
 pub can-remove : (w : World) → Reached w → (t id : ℕ) → t < w .grid .N → hasId (block w t) id ≡ true → refusal w (removeEmitter t id) ≡ 0
 unfolding ownPlaces
 can-remove w reached t id there has =
-    own-refusal w (removeEmitter t id) (reached .fits) refl ∙ record-left w reached t there _ ∙ passes _ [] w (ap not has) ∙ no-place w
+    own-refusal w (removeEmitter t id) reached refl ∙ record-left w reached t there _ ∙ passes _ [] w (ap not has) ∙ no-place w
 
 -- .. and one can be added
 pub can-be-added :
@@ -421,7 +439,7 @@ pub can-be-added :
     hasId (block w t) id ≡ false → refusal w (addEmitter t c id units) ≡ 0
 unfolding ownPlaces
 can-be-added w reached t c id units there inside room new =
-    own-refusal w (addEmitter t c id units) (reached .fits) refl ∙
+    own-refusal w (addEmitter t c id units) reached refl ∙
     passes (absent t (λ g. g .N)) _ w (ap not (lt-ltb _ _ there)) ∙
     passes (absent c worldCells) _ w (ap not (lt-ltb _ _ inside)) ∙
     passes brokenRecord _ w (record-sound reached) ∙
@@ -449,7 +467,7 @@ added-then-removed w reached t c id units e =
     v = withBlock w t new
 
     sound : Sound (worldCells (w .grid)) b
-    sound = reached .emitters t (can .there)
+    sound = reached .blocks t (can .there)
 
     still : Sound (worldCells (w .grid)) new
     still = added-sound sound id c units (can .room) (can .inside) (can .new)
@@ -499,15 +517,18 @@ beside t (total u) held other w reached e = (refl, refl)
 beside t (cell u c) held other w reached e = (refl, refl)
 beside t (addEmitter u c id units) held other w reached e =
     let can = can-add w u c id units e in
-    (block-unchanged w reached u (can .there) _ (length-added (reached .emitters u (can .there)) id c units) t (differs u t other), refl)
+    (block-unchanged w reached u (can .there) _ (length-added (reached .blocks u (can .there)) id c units) t (differs u t other), refl)
 beside t (removeEmitter u id) held other w reached e =
     let p = record-passed u _ w e in
     let has = not-false _ (passed _ [] w (lit< tt) (p .left) .0) in
-    (block-unchanged w reached u (p .there) _ (removed-sound (reached .emitters u (p .there)) id has .many) t (differs u t other), refl)
+    (block-unchanged w reached u (p .there) _ (removed-sound (reached .blocks u (p .there)) id has .many) t (differs u t other), refl)
 beside t (tick u) held other w reached e = (refl, not-exchanged u t _ other)
 beside t (unitsATick u) held other w reached e = (refl, refl)
 beside t (countZonal k r fluxes) held other w reached e = (refl, refl)
 beside t (zonalWithCount k r n fluxes) held other w reached e = (refl, refl)
+beside t (setLimiter u number lo hi) held other w reached e =
+    let p = limiter-set u number lo hi w e in
+    (block-unchanged w reached u (p .0) _ (limiter-sound (reached .blocks u (p .0)) _ (p .1) .many) t (differs u t other), refl)
 
 -- .. whether it is accepted or not
 pub step-beside :
@@ -523,3 +544,39 @@ step-beside t call held other w reached = go (refusal w call) refl
         (ap (λ (v : World). block v t) (step-next w call zero-answer .0) ∙ p .0, rw (zero-answer, exchanged) (p .1))
     go (suc n) e =
         (ap (λ (r : Result). block (r .next) t) (step-refused w call n e), rw (answer-is w call ∙ e, exchanged))
+
+-- ---- limiters: adding and removing an emitter leave every tracer's, and the setting call gives its tracer's
+module _ (w : World) (reached : Reached w) (u : ℕ) (there : u < w .grid .N) (new : List ℕ) (many : length new ≡ blockNumbers) where
+  block-limiter : (t : ℕ) → limiterIn new ≡ limiterOf w u → limiterOf (withBlock w u new) t ≡ limiterOf w t
+  block-limiter t same = go (ℕ-discrete t u)
+    where
+      go : Dec (t ≡ u) → limiterOf (withBlock w u new) t ≡ limiterOf w t
+      go (yes e) = rw e (ap limiterIn (block-changed w reached u there new many) ∙ same)
+      go (no e) = ap limiterIn (block-unchanged w reached u there new many t e)
+
+pub added-limiter :
+    (w : World) → Reached w → (t u c id units : ℕ) → firstOf (meaning (addEmitter u c id units) .places) w ≡ 0 →
+    limiterOf (meaning (addEmitter u c id units) .next w) t ≡ limiterOf w t
+added-limiter w reached t u c id units e =
+    let can = can-add w u c id units e in
+    let sound = reached .blocks u (can .there) in
+    block-limiter w reached u (can .there) _ (length-added sound id c units) t (added-keeps-limiter sound id c units (can .room))
+
+pub removed-limiter :
+    (w : World) → Reached w → (t u id : ℕ) → firstOf (meaning (removeEmitter u id) .places) w ≡ 0 →
+    limiterOf (meaning (removeEmitter u id) .next w) t ≡ limiterOf w t
+removed-limiter w reached t u id e =
+    let p = record-passed u _ w e in
+    let has = not-false _ (passed _ [] w (lit< tt) (p .left) .0) in
+    let sound = reached .blocks u (p .there) in
+    block-limiter w reached u (p .there) _ (removed-sound sound id has .many) t (removed-keeps-limiter sound id has)
+
+pub limiter-given :
+    (w : World) → Reached w → (t number lo hi : ℕ) → step w (setLimiter t number lo hi) .answer ≡ 0 →
+    limiterOf (step w (setLimiter t number lo hi) .next) t ≡ record { number = number; lo = lo; hi = hi }
+unfolding ownPlaces
+limiter-given w reached t number lo hi e =
+    let p = limiter-set t number lo hi w (own-passed w (setLimiter t number lo hi) e .1) in
+    let many = reached .blocks t (p .0) .many in
+    ap (λ (v : World). limiterOf v t) (step-next w (setLimiter t number lo hi) e .0) ∙
+    ap limiterIn (block-changed w reached t (p .0) _ (length-limiter (block w t) _ many)) ∙ limiter-read (block w t) _ many

@@ -1,21 +1,22 @@
 -- Laws of `step`: the first place that applies, an accepted and a refused call, and what an accepted load tells of a world: none of the refusals 1 to 4 is met there but for a call's own lent list.
 use Prim.Native.Nat.{ℕ, zero, suc, _*_, _≤_, _<_}
 use mathlib.Core.List.{List, [], _∷_, _++_}
-use mathlib.Core.Bool.{Bool, true, false, not, _&&_, and-eq-true-iff}
+use mathlib.Core.Bool.{Bool, true, false, not, _&&_, and-eq-true-iff, false≢true}
 use mathlib.Core.Path.{_≡_, refl, sym, _∙_, ap}
 use mathlib.Core.Logic.{_≢_}
-use native.Mathlib.Nat.{mul-le-mul-right}
 use native.Mathlib.Omega.{arith}
 use borrow.Author.Tests.{ltb-true, leb-true, le-leb, eqb-true, eq-eqb, not-false}
 use lib.Dec.{ltb, lit<}
 use lib.ListN.{length}
 use Rattle.model.specs.Limits.{totalLimit, blockNumbers}
-use Rattle.model.specs.Basic.{at, part, zeros}
+use Rattle.model.specs.Basic.{at, part, tab, joined}
 use Rattle.model.specs.World.{Grid, World, worldCells, block, gasTotal, airFits}
-use Rattle.model.specs.Step.{Call, load, Result, cleared, Place, firstOf, absent, gridFits, lentFits, lengthsFit, commonPlaces, ownPlaces, accepted, refused, refusal, step}
+use Rattle.model.specs.Limiters.{freshBlock}
+use Rattle.model.specs.Step.{Call, load, Result, cleared, Place, firstOf, absent, brokenLimiter, gridFits, meaning, lentFits, lengthsFit, commonPlaces, limiterPlaces, ownPlaces, accepted, refused, refusal, step}
 use Rattle.model.specs.Lists.{Loaded, loadedWorld, LoadedAlike, Alike}
-use Rattle.model.specs.Laws.Basic.{every-at, every-true, length-zeros}
-use Rattle.model.specs.Laws.Emitters.{Sound, noEmitters, part-none, none-sound}
+use Rattle.model.specs.Laws.Basic.{every-at, every-true}
+use Rattle.model.specs.Laws.World.{length-blocks, part-blocks}
+use Rattle.model.specs.Laws.Emitters.{Sound, none-sound}
 
 -- ---- the first place that applies
 pub passes : (p : Place) (ps : List Place) (w : World) → p .applies w ≡ false → firstOf (p ∷ ps) w ≡ firstOf ps w
@@ -115,14 +116,24 @@ fitting-lengths : (w : World) (call : Call) → Fits w → lengthsFit w call ≡
 fitting-lengths w call fits =
     rw (eq-eqb _ _ (fits .airLength), eq-eqb _ _ (fits .tracersLength), eq-eqb _ _ (fits .ledgerLength), lengthsFit)
 
--- in such a world a call's refusal is that of its own places alone, if the list that it lends fits
-pub own-refusal : (w : World) (call : Call) → Fits w → lentFits (w .grid) call ≡ true → refusal w call ≡ firstOf (ownPlaces call) w
+-- in such a world a call's refusal is that of its places behind these alone, if the list that it lends fits
+pub behind-common :
+    (w : World) (call : Call) → Fits w → lentFits (w .grid) call ≡ true → refusal w call ≡ firstOf (limiterPlaces call ++ ownPlaces call) w
 unfolding refusal commonPlaces
-own-refusal w call fits lent =
+behind-common w call fits lent =
     passes _ _ w (ap not (fits .grid)) ∙
     passes _ _ w (ap not (fitting-lengths w call fits ∙ lent)) ∙
     passes _ _ w (ap not (every-true _ _ (λ c h. fits .air c (rw (fits .airLength) at h)))) ∙
     passes _ _ w (ap not (every-true _ _ (λ t h. le-leb _ _ (fits .totals t h))))
+
+-- where no limiter is broken, or the call tests none, its own places are left
+pub behind-limiters : (w : World) (call : Call) (ps : List Place) → brokenLimiter .applies w ≡ false → firstOf (limiterPlaces call ++ ps) w ≡ firstOf ps w
+unfolding limiterPlaces
+behind-limiters w call ps sound = go (meaning call .limiters)
+  where
+    go : (tests : Bool) → firstOf ((elim tests [ true ↦ brokenLimiter ∷ [] | false ↦ [] ]) ++ ps) w ≡ firstOf ps w
+    go true = passes brokenLimiter ps w sound
+    go false = refl
 
 pub lent-refusal : (w : World) (call : Call) → Fits w → lentFits (w .grid) call ≡ false → refusal w call ≡ 2
 unfolding refusal commonPlaces
@@ -155,9 +166,27 @@ common-passed w call ps e =
       s .1,
     )
 
+-- and where the limiters' place does not apply either, the limiters that a call tests are sound
+limiters-passed :
+    (w : World) (call : Call) (ps : List Place) → firstOf (limiterPlaces call ++ ps) w ≡ 0 →
+    (meaning call .limiters ≡ true → brokenLimiter .applies w ≡ false) × (firstOf ps w ≡ 0)
+unfolding limiterPlaces
+limiters-passed w call ps = go (meaning call .limiters)
+  where
+    go : (tests : Bool) → firstOf ((elim tests [ true ↦ brokenLimiter ∷ [] | false ↦ [] ]) ++ ps) w ≡ 0 → (tests ≡ true → brokenLimiter .applies w ≡ false) × (firstOf ps w ≡ 0)
+    go true e = let p = passed brokenLimiter ps w (lit< tt) e in (λ tests. p .0, p .1)
+    go false e = (λ tests. absurd (false≢true tests), e)
+
 pub accepted-passed : (w : World) (call : Call) → refusal w call ≡ 0 → Fits w × (lentFits (w .grid) call ≡ true) × (firstOf (ownPlaces call) w ≡ 0)
 unfolding refusal
-accepted-passed w call e = common-passed w call (ownPlaces call) e
+accepted-passed w call e =
+    let p = common-passed w call (limiterPlaces call ++ ownPlaces call) e in
+    (p .0, p .1, limiters-passed w call (ownPlaces call) (p .2) .1)
+
+pub accepted-limiters : (w : World) (call : Call) → meaning call .limiters ≡ true → refusal w call ≡ 0 → brokenLimiter .applies w ≡ false
+unfolding refusal
+accepted-limiters w call tests e =
+    limiters-passed w call (ownPlaces call) (common-passed w call (limiterPlaces call ++ ownPlaces call) e .2) .0 tests
 
 pub loaded-fits : (w : World) → Loaded w → Fits w
 loaded-fits w start = accepted-passed w load (sym (answer-is w load) ∙ start) .0
@@ -165,34 +194,44 @@ loaded-fits w start = accepted-passed w load (sym (answer-is w load) ∙ start) 
 -- ---- what holds of every world that calls reach from an accepted load
 pub record Reached (w : World) : Type 0 where
   pub fits : Fits w
-  pub emitters : (t : ℕ) → t < w .grid .N → Sound (worldCells (w .grid)) (block w t)
+  pub blocks : (t : ℕ) → t < w .grid .N → Sound (worldCells (w .grid)) (block w t)
 
--- an accepted load leaves the world as it was lent, but for its emitters, of which none stands
+-- no limiter is broken there, so that a call's refusal is that of its own places alone, if the list that it lends fits
+pub limiters-sound : {w : World} → Reached w → brokenLimiter .applies w ≡ false
+limiters-sound reached = ap not (every-true _ _ (λ t h. reached .blocks t h .limiter))
+
+pub own-refusal : (w : World) (call : Call) → Reached w → lentFits (w .grid) call ≡ true → refusal w call ≡ firstOf (ownPlaces call) w
+own-refusal w call reached lent = behind-common w call (reached .fits) lent ∙ behind-limiters w call (ownPlaces call) (limiters-sound reached)
+
+-- an accepted load leaves the world as it was lent, but for its ledger, in which no emitter stands and every tracer has the first limiter
 pub loaded-is : (w : World) → Loaded w → loadedWorld w ≡ cleared w
 unfolding accepted
 loaded-is w start = ap (λ (r : Result). r .next) (step-accepted w load (sym (answer-is w load) ∙ start))
 
-pub loaded-block : (w : World) → Loaded w → (t : ℕ) → t < w .grid .N → block (loadedWorld w) t ≡ noEmitters
-loaded-block w start t h =
-    rw (loaded-is w start)
-    (part-none (length (w .ledger)) (t * blockNumbers) blockNumbers (omega (arith, loaded-fits w start .ledgerLength, mul-le-mul-right blockNumbers h)))
+-- its ledger is made of blocks of one length
+length-cleared : (n : ℕ) → length (joined (tab n (λ t. freshBlock))) ≡ n * blockNumbers
+length-cleared n = length-blocks n blockNumbers (λ t. freshBlock) (λ t h. none-sound 0 .many)
 
--- so two loads leave the same emitters of each tracer: none
+pub loaded-block : (w : World) → Loaded w → (t : ℕ) → t < w .grid .N → block (loadedWorld w) t ≡ freshBlock
+loaded-block w start t h =
+    rw (loaded-is w start) (part-blocks (w .grid .N) blockNumbers (λ t. freshBlock) (λ t h. none-sound 0 .many) t h)
+
+-- so two loads leave the same block of each tracer
 pub loaded-alike : (w v : World) → Loaded w → Loaded v → (own : ℕ → Bool) → LoadedAlike own (loadedWorld w) (loadedWorld v) → Alike own (loadedWorld w) (loadedWorld v)
 loaded-alike w v lw lv own a =
     record {
       sameGrid = a .sameGrid;
       sameAir = a .sameAir;
       sameGas = a .sameGas;
-      sameEmitters = λ t o. ap (λ (l : List ℕ). part l (t * blockNumbers) blockNumbers) same-ledger;
+      sameBlock = λ t o. ap (λ (l : List ℕ). part l (t * blockNumbers) blockNumbers) same-ledger;
     }
   where
-    cleared-length : (u : World) → Loaded u → loadedWorld u .ledger ≡ zeros (loadedWorld u .grid .N * blockNumbers)
-    cleared-length u l = rw (loaded-is u l) (ap zeros (loaded-fits u l .ledgerLength))
+    ledger-is : (u : World) → Loaded u → loadedWorld u .ledger ≡ joined (tab (loadedWorld u .grid .N) (λ t. freshBlock))
+    ledger-is u l = rw (loaded-is u l)
 
     same-ledger : loadedWorld w .ledger ≡ loadedWorld v .ledger
     same-ledger =
-        cleared-length w lw ∙ ap (λ (g : Grid). zeros (g .N * blockNumbers)) (a .sameGrid) ∙ sym (cleared-length v lv)
+        ledger-is w lw ∙ ap (λ (g : Grid). joined (tab (g .N) (λ t. freshBlock))) (a .sameGrid) ∙ sym (ledger-is v lv)
 
 pub loaded-reached : (w : World) → Loaded w → Reached (loadedWorld w)
 loaded-reached w start =
@@ -202,9 +241,9 @@ loaded-reached w start =
         grid = fits .grid;
         airLength = fits .airLength;
         tracersLength = fits .tracersLength;
-        ledgerLength = length-zeros _ ∙ fits .ledgerLength;
+        ledgerLength = length-cleared (w .grid .N);
         air = fits .air;
         totals = fits .totals;
       });
-      emitters = λ t h. rw (loaded-block w start t (rw (loaded-is w start) at h)) (none-sound _);
+      blocks = λ t h. rw (loaded-block w start t (rw (loaded-is w start) at h)) (none-sound _);
     }

@@ -11,18 +11,19 @@ use lib.IntN.{ℤ}
 use Rattle.model.specs.Limits.{mostSubsteps}
 use Rattle.model.specs.Basic.{at, part}
 use Rattle.model.specs.World.{Grid, World, worldCells, gas}
-use Rattle.model.specs.Scheme.{Rule, ruleOf}
+use Rattle.model.specs.Scheme.{Rule}
+use Rattle.model.specs.Limiters.{ruleOf}
 use Rattle.model.specs.Sweep.{Mesh, airAfter, gasAfter, serves, swept}
 use Rattle.model.specs.Range.{SweepInRange}
 use Rattle.model.specs.Step.{Place, firstOf, noExchange, sweeps}
-use Rattle.model.specs.Lists.{Alike}
+use Rattle.model.specs.Lists.{hasFirst, Alike}
 use Rattle.model.specs.Laws.Basic.{length-part}
-use Rattle.model.specs.Laws.Scheme.{Limited, rule-limited}
+use Rattle.model.specs.Laws.Scheme.{Limited}
 use Rattle.model.specs.Laws.Mesh.{Regular}
 use Rattle.model.specs.Laws.Substep.{AirIn, air-bounds}
 use Rattle.model.specs.Laws.Chain.{length-air-after, length-gas-after, air-after-in, air-after-total, gas-after-total, even-chain}
 use Rattle.model.specs.Laws.Step.{Fits, Reached}
-use Rattle.model.specs.Laws.Fractions.{rule-monotone}
+use Rattle.model.specs.Laws.Limiters.{rule-limited, rule-monotone}
 use Rattle.model.specs.Laws.Range.{sweep-in-range}
 use Rattle.model.specs.Laws.Keeps.{Kept, MeaningKeeps}
 use Rattle.model.specs.Laws.Moved.{KeepsAir, KeepsGas}
@@ -143,15 +144,15 @@ module _ (meshOf : Grid → Mesh) (startOf : Grid → ℕ) (countOf : Grid → L
 -- ---- its range, from the amounts before it to those in the world after it
 swept-in-range :
     (w : World) → Fits w → (mesh : Mesh) (a : ℕ) (fluxes : List ℤ) (n : ℕ) → Sweeps w mesh a fluxes n →
-    (t : ℕ) → t < w .grid .N →
+    (t : ℕ) → t < w .grid .N → hasFirst w t ≡ true →
     let air : List ℕ = part (w .air) a (mesh .cells) in
     SweepInRange w (swept w mesh a fluxes n) mesh a n t (airAfter mesh fluxes n air) (gasAfter (ruleOf w t) mesh fluxes n air (part (gas w t) a (mesh .cells)))
 unfolding airAfter gasAfter
-swept-in-range w fits mesh a fluxes n s t h =
+swept-in-range w fits mesh a fluxes n s t h first =
     record {
       airStart = refl;
       gasStart = refl;
-      each = sweep-in-range (rule-limited w t) (rule-monotone w t) mesh (s .regular) fluxes n _ _ (swept-cells-air w fits mesh a fluxes n s) (s .serving);
+      each = sweep-in-range (rule-limited w t) (rule-monotone w t first) mesh (s .regular) fluxes n _ _ (swept-cells-air w fits mesh a fluxes n s) (s .serving);
       airEnd = sym (swept-air w fits mesh a fluxes n s);
       gasEnd = sym (swept-gas w fits mesh a fluxes n s t h);
     }
@@ -174,7 +175,7 @@ module _ (meshOf : Grid → Mesh) (startOf : Grid → ℕ) (countOf : Grid → L
             let s = passed w e in
             record {
               kept = swept-kept w (reached .fits) _ _ fluxes _ s reached;
-              inRange = λ t h. swept-in-range w (reached .fits) _ _ fluxes _ s t h;
+              inRange = swept-in-range w (reached .fits) _ _ fluxes _ s;
               alike = λ own v vv a named. swept-alike meshOf startOf countOf fluxes own w v (reached .fits) (vv .fits) a (s .inside);
               apart = λ own other. absurd (true≢false other);
             };

@@ -11,7 +11,7 @@ use borrow.Author.Tests.{ltb-true, ltb-false}
 use lib.Dec.{ltb}
 use lib.ListN.{length, set, getD, take, drop-of-length-le}
 use lib.Seq.{take-nil}
-use Rattle.model.specs.Basic.{part, tab}
+use Rattle.model.specs.Basic.{part, tab, joined}
 use Rattle.model.specs.World.{World, worldCells, tracerStart, gas, gasTotal, moved}
 use Rattle.model.specs.Step.{withAmount, amountAt}
 use Rattle.model.specs.Laws.Basic.{sum-set, length-tab, getD-tab, Each, length-joined, part-joined, length-part, part-set-within, part-set-behind, part-set-before}
@@ -50,28 +50,36 @@ gas-absent w t fits h =
     ap (take (worldCells (w .grid))) (drop-of-length-le (w .tracers) {i = tracerStart (w .grid) t} (omega (arith, mul-le-mul-right (worldCells (w .grid)) h))) ∙
     take-nil (worldCells (w .grid))
 
+-- blocks of n numbers, one after the other
+module _ (count n : ℕ) (f : ℕ → List ℕ) (as-many : (t : ℕ) → t < count → length (f t) ≡ n) where
+  blocks : List (List ℕ)
+  blocks = tab count f
+
+  many : length blocks ≡ count
+  unfolding blocks
+  many = length-tab count f
+
+  block-at : (t : ℕ) → t < count → getD blocks t [] ≡ f t
+  unfolding blocks
+  block-at t h = getD-tab count f t [] h
+
+  each : Each n blocks
+  each t h = let p : t < count = rw many at h in rw (block-at t p) (as-many t p)
+
+  pub length-blocks : length (joined (tab count f)) ≡ count * n
+  unfolding blocks
+  length-blocks = length-joined n blocks each ∙ ap (λ (m : ℕ). m * n) many
+
+  pub part-blocks : (t : ℕ) → t < count → part (joined (tab count f)) (t * n) n ≡ f t
+  unfolding blocks
+  part-blocks t h = part-joined n blocks each t (rw many h) ∙ block-at t h
+
 -- the world after a call that moves air: each tracer's amounts are the changed ones, if these are as many
 module _
     (w : World) (air : List ℕ) (change : ℕ → List ℕ → List ℕ)
     (as-many : (t : ℕ) → t < w .grid .N → length (change t (gas w t)) ≡ worldCells (w .grid)) where
-  changed : List (List ℕ)
-  changed = tab (w .grid .N) (λ t. change t (gas w t))
-
-  many : length changed ≡ w .grid .N
-  unfolding changed
-  many = length-tab (w .grid .N) (λ t. change t (gas w t))
-
-  changed-at : (t : ℕ) → t < w .grid .N → getD changed t [] ≡ change t (gas w t)
-  unfolding changed
-  changed-at t h = getD-tab (w .grid .N) (λ t. change t (gas w t)) t [] h
-
-  each : Each (worldCells (w .grid)) changed
-  each t h = let p : t < w .grid .N = rw many at h in rw (changed-at t p) (as-many t p)
-
   pub length-moved : length (moved w air change .tracers) ≡ w .grid .N * worldCells (w .grid)
-  unfolding changed
-  length-moved = length-joined (worldCells (w .grid)) changed each ∙ ap (λ (n : ℕ). n * worldCells (w .grid)) many
+  length-moved = length-blocks (w .grid .N) (worldCells (w .grid)) (λ t. change t (gas w t)) as-many
 
   pub gas-moved : (t : ℕ) → t < w .grid .N → gas (moved w air change) t ≡ change t (gas w t)
-  unfolding changed
-  gas-moved t h = part-joined (worldCells (w .grid)) changed each t (rw many h) ∙ changed-at t h
+  gas-moved = part-blocks (w .grid .N) (worldCells (w .grid)) (λ t. change t (gas w t)) as-many

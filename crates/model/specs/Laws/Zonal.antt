@@ -1,21 +1,24 @@
 -- What an accepted zonal sweep keeps, the count before it and the sweep with a given count; and the frame of any zonal sweep: what it changes, and on what its answer, count and new row depend.
 -- Assumes for what is kept a world that fits, and takes the range as given; for the frame nothing, or that places 1 to 4 are passed.
 use Prim.Native.Nat.{ℕ, zero, suc}
-use mathlib.Core.List.{List, []}
+use mathlib.Core.List.{List, [], _++_}
 use mathlib.Core.Bool.{Bool, true, false, not}
 use mathlib.Core.Path.{_≡_, refl, sym, _∙_, ap, ap₂}
 use borrow.Author.Tests.{eqb-true, eqb-false, not-false}
 use lib.Dec.{ltb, eqb, lit<}
 use lib.IntN.{ℤ}
 use Rattle.model.specs.Limits.{zonalLimit}
+use Rattle.model.specs.Basic.{every}
 use Rattle.model.specs.World.{Grid, World, rowStart}
 use Rattle.model.specs.Sweep.{ring, substepCount}
-use Rattle.model.specs.Step.{zonal, countZonal, zonalWithCount, Place, firstOf, fluxTooLarge, sweepsRow, meaning, lentFits, commonPlaces, ownPlaces, accepted, refused, refusal, step, rowAir, zonalCount}
+use Rattle.model.specs.Limiters.{limiterFits, limiterOf}
+use Rattle.model.specs.Step.{zonal, countZonal, zonalWithCount, Place, firstOf, brokenLimiter, fluxTooLarge, sweepsRow, meaning, lentFits, commonPlaces, limiterPlaces, ownPlaces, accepted, refused, refusal, step, rowAir, zonalCount}
 use Rattle.model.specs.Lists.{SameReply}
+use Rattle.model.specs.Laws.Basic.{every-ext}
 use Rattle.model.specs.Laws.Grid.{row-inside}
 use Rattle.model.specs.Laws.Ring.{ring-regular}
 use Rattle.model.specs.Laws.Chain.{count-smallest}
-use Rattle.model.specs.Laws.Step.{Fits, firstOf-same, passed, found, step-accepted, step-refused, answer-is, own-refusal, lent-refusal, common-passed, accepted-passed}
+use Rattle.model.specs.Laws.Step.{Fits, firstOf-same, passed, found, step-accepted, step-refused, answer-is, behind-common, lent-refusal, common-passed, accepted-passed}
 use Rattle.model.specs.Laws.Keeps.{air-alike, MeaningKeeps, counts-keep}
 use Rattle.model.specs.Laws.Part.{ChangesOnly, step-changes-only, SameCells}
 use Rattle.model.specs.Laws.Sweep.{Sweeps, sweeps-keep, swept-same, swept-changes-only}
@@ -88,12 +91,14 @@ unfolding accepted ring
 zonal-changes-only k r fluxes w =
     step-changes-only w (zonal k r fluxes) _ _ (λ e. swept-changes-only w (accepted-passed w (zonal k r fluxes) e .0) _ _ fluxes _ (zonal-sweeps k r fluxes w e))
 
--- two worlds of the same grid with the same air and the same amounts of each tracer in row r of layer k
+-- two worlds of the same grid with the same limiters, and with the same air and the same amounts of each tracer in row r of layer k
 abbrev pub SameRow : ℕ → ℕ → World → World → Type 0
 SameRow k r w v = SameCells (λ g. rowStart g k r) (λ g. g .W) w v
 
--- once places 1 to 4 are passed, answer and count depend on that row's air alone
-module _ (k r : ℕ) (fluxes : List ℤ) (w v : World) (sameGrid : w .grid ≡ v .grid) (sameAir : rowAir w k r ≡ rowAir v k r) where
+-- once places 1 to 4 are passed, answer and count depend on that row's air, and on whether a limiter is broken, alone
+module _
+    (k r : ℕ) (fluxes : List ℤ) (w v : World) (sameGrid : w .grid ≡ v .grid) (sameAir : rowAir w k r ≡ rowAir v k r)
+    (sameLimiters : brokenLimiter .applies w ≡ brokenLimiter .applies v) where
   pub count-row : zonalCount w k r fluxes ≡ zonalCount v k r fluxes
   count-row = ap₂ (λ (g : Grid) (air : List ℕ). substepCount (ring (g .W)) fluxes air) sameGrid sameAir
 
@@ -106,11 +111,15 @@ module _ (k r : ℕ) (fluxes : List ℤ) (w v : World) (sameGrid : w .grid ≡ v
       (λ small. firstOf-same _ [] w v (ap (λ (n : ℕ). eqb n 0) count-row)
       (λ some. unfold firstOf in refl))))
 
+  places-row : firstOf (limiterPlaces (zonal k r fluxes) ++ ownPlaces (zonal k r fluxes)) w ≡ firstOf (limiterPlaces (zonal k r fluxes) ++ ownPlaces (zonal k r fluxes)) v
+  unfolding limiterPlaces
+  places-row = firstOf-same brokenLimiter _ w v sameLimiters (λ sound. own-places-row)
+
   pub refusal-row : Fits w → Fits v → refusal w (zonal k r fluxes) ≡ refusal v (zonal k r fluxes)
   refusal-row fw fv = go (lentFits (w .grid) (zonal k r fluxes)) refl
     where
       go : (b : Bool) → lentFits (w .grid) (zonal k r fluxes) ≡ b → refusal w (zonal k r fluxes) ≡ refusal v (zonal k r fluxes)
-      go true e = own-refusal w (zonal k r fluxes) fw e ∙ own-places-row ∙ sym (own-refusal v (zonal k r fluxes) fv (rw sameGrid at e))
+      go true e = behind-common w (zonal k r fluxes) fw e ∙ places-row ∙ sym (behind-common v (zonal k r fluxes) fv (rw sameGrid at e))
       go false e = lent-refusal w (zonal k r fluxes) fw e ∙ sym (lent-refusal v (zonal k r fluxes) fv (rw sameGrid at e))
 
   -- so it gives the same answer and count in both
@@ -124,8 +133,14 @@ module _ (k r : ℕ) (fluxes : List ℤ) (w v : World) (sameGrid : w .grid ≡ v
       go zero e f = rw (step-accepted w (zonal k r fluxes) e, step-accepted v (zonal k r fluxes) f) count-row
       go (suc n) e f = rw (step-refused w (zonal k r fluxes) n e, step-refused v (zonal k r fluxes) n f)
 
--- once places 1 to 4 are passed, answer, count and new row depend on that row alone
+-- once places 1 to 4 are passed, answer, count and new row depend on that row and the limiters alone
 module _ (k r : ℕ) (fluxes : List ℤ) (w v : World) (row : SameRow k r w v) where
+  same-limiters : brokenLimiter .applies w ≡ brokenLimiter .applies v
+  same-limiters =
+      ap not
+      (every-ext (w .grid .N) _ _ (λ t h. ap limiterFits (row .sameLimiters t h)) ∙
+      ap (λ (g : Grid). every (g .N) (λ t. limiterFits (limiterOf v t))) (row .sameGrid))
+
   same-step :
       Fits w → Fits v → (n : ℕ) → refusal w (zonal k r fluxes) ≡ n → refusal v (zonal k r fluxes) ≡ n →
       SameRow k r (step w (zonal k r fluxes) .next) (step v (zonal k r fluxes) .next)
@@ -143,5 +158,5 @@ module _ (k r : ℕ) (fluxes : List ℤ) (w v : World) (row : SameRow k r w v) w
   row-alone cw cv =
       let pw = common-passed w (zonal k r fluxes) [] cw in
       let pv = common-passed v (zonal k r fluxes) [] cv in
-      let same = refusal-row k r fluxes w v (row .sameGrid) (row .sameAir) (pw .0) (pv .0) in
-      (reply-row k r fluxes w v (row .sameGrid) (row .sameAir) (pw .0) (pv .0), same-step (pw .0) (pv .0) (refusal w (zonal k r fluxes)) refl (sym same))
+      let same = refusal-row k r fluxes w v (row .sameGrid) (row .sameAir) same-limiters (pw .0) (pv .0) in
+      (reply-row k r fluxes w v (row .sameGrid) (row .sameAir) same-limiters (pw .0) (pv .0), same-step (pw .0) (pv .0) (refusal w (zonal k r fluxes)) refl (sym same))
