@@ -10,8 +10,9 @@ use mir.Syntax.{w32}
 use mir.Val.{Fits as Fits32}
 use lib.ListN.{length, set}
 use Rattle.model.specs.Limits.{totalLimit, mostAmounts}
-use Rattle.model.specs.Basic.{at, zeros}
+use Rattle.model.specs.Basic.{at, joined, tab}
 use Rattle.model.specs.World.{World, worldCells, withAmounts, withLedger, tracerStart, gas, gasTotal}
+use Rattle.model.specs.Limiters.{freshBlock}
 use Rattle.model.specs.Step.{Place, place, amountAt, load, emission, withdrawal, cell}
 use Rattle.model.specs.Laws.Basic.{at-part, term-le-sum}
 use Rattle.model.specs.Laws.Grid.{in-range, amounts-most}
@@ -72,10 +73,10 @@ total-fits {w} passed {t} h =
 
 -- ---- load
 pub load-agrees : {w : World} {tested : Tested} {ledger : List ℕ} → IsTested w Nothing tested → numberOf (tested .answer) ≡ 0 →
-    ledger ≡ zeros (length (w .ledger)) → Agrees w load (tested .answer) (withLedger w ledger)
+    ledger ≡ joined (tab (w .grid .N) (λ t. freshBlock)) → Agrees w load (tested .answer) (withLedger w ledger)
 load-agrees {w} is e none-left =
     let passed = is .found e in
-    accepted-agrees (none (own-left passed refl)) e (passed .count) (ap (withLedger w) none-left)
+    accepted-agrees (none (own-left passed refl refl)) e (passed .count) (ap (withLedger w) none-left)
 
 -- ---- emission and withdrawal, each with its last place
 abbrev over-limit : ℕ → ℕ → Place
@@ -85,10 +86,10 @@ abbrev too-little : ℕ → ℕ → ℕ → Place
 too-little t c amount = place 7 (λ w. ltb (amountAt w t c) amount)
 
 pub emission-like : {w : World} {t c amount : ℕ} → Like w (cell t c) (emission t c amount) (over-limit t amount ∷ [])
-emission-like = record { lent = refl; places = refl }
+emission-like = record { lent = refl; limiters = refl; places = refl }
 
 pub withdrawal-like : {w : World} {t c amount : ℕ} → Like w (cell t c) (withdrawal t c amount) (too-little t c amount ∷ [])
-withdrawal-like = record { lent = refl; places = refl }
+withdrawal-like = record { lent = refl; limiters = refl; places = refl }
 
 module _ {w : World} {t c : ℕ} {p : Placed} (found : CellFound w t c p) {amount : ℕ} where
   pub emission-refused : totalLimit < p .found + amount → Agrees w (emission t c amount) (Refused Emission) w

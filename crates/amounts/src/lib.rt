@@ -3,7 +3,7 @@ ghost use Rattle.model.specs.Step.{load as load-call, emission as emission-call
 ghost use Rattle.units.specs.Grid.{worldOf};
 ghost use Rattle.units.specs.Answer.{Agrees};
 ghost use Rattle.amounts.specs.Amount.{IsCellPlace};
-use ledger::clear;
+use ledger::renew;
 use places::Lent;
 use places::Placed;
 use places::common_places;
@@ -15,7 +15,7 @@ use units::TOTAL_LIMIT;
 use units::number;
 use units::world_cells;
 
-// Tests lent air and tracers, and leaves no emitter standing.
+// Tests lent air and tracers, and leaves no emitter standing and the first limiter for every tracer.
 pub fn load(g: Grid, air: &[u32], tracers: &[u32], ledger: &mut [u32]) -> Answer
     ensures { λ r. ⌜ Agrees (worldOf g (now (air .entry)) (now (tracers .entry)) (now (ledger .entry))) load-call r (worldOf g (now (air .entry)) (now (tracers .entry)) (now (ledger .exit))) ⌝ }
 {
@@ -24,7 +24,7 @@ pub fn load(g: Grid, air: &[u32], tracers: &[u32], ledger: &mut [u32]) -> Answer
     if number(answer) == 0 {} else {
         return answer;
     }
-    clear(ledger);
+    renew(ledger, g.n as usize);
     answer
 }
 

@@ -1,7 +1,7 @@
 // The public calls for C and Rust. Each takes the grid's four numbers and the lent buffers, and returns one number: answer · 2^32 + count.
 // The reading of the units a tick has a count of 64 bits, so it has two exports: one for the answer, one for the count.
 ghost use mathlib.Core.Path.{_≡_};
-ghost use Rattle.model.specs.Step.{load, emission, withdrawal, zonal, longZonal, meridional, remap, total, cell as cell-call, addEmitter, removeEmitter, tick, unitsATick, countZonal, zonalWithCount};
+ghost use Rattle.model.specs.Step.{load, emission, withdrawal, zonal, longZonal, meridional, remap, total, cell as cell-call, addEmitter, removeEmitter, tick, unitsATick, countZonal, zonalWithCount, setLimiter};
 ghost use Rattle.boundary.specs.Returned.{packedOf, Returns, Answers, Counts, lentWorld};
 use units::Answer;
 use units::Grid;
@@ -305,4 +305,24 @@ pub extern "C" fn puldeho_raw_zonal_with_count(
 {
     let g = Grid { w, r, k, n };
     packed(zonal::zonal_with_count(g, air, tracers, ledger, layer, row, given, fluxes))
+}
+
+#[no_mangle]
+pub extern "C" fn puldeho_raw_set_limiter(
+    w: u32,
+    r: u32,
+    k: u32,
+    n: u32,
+    air: &[u32],
+    tracers: &[u32],
+    ledger: &mut [u32],
+    tracer: u32,
+    limiter: u32,
+    lo: u64,
+    hi: u64,
+) -> u64
+    ensures { λ x. ⌜ Returns (lentWorld w r k n (now (air .entry)) (now (tracers .entry)) (now (ledger .entry))) (setLimiter tracer limiter lo hi) x (lentWorld w r k n (now (air .entry)) (now (tracers .entry)) (now (ledger .exit))) ⌝ }
+{
+    let g = Grid { w, r, k, n };
+    packed(choice::set_limiter(g, air, tracers, ledger, tracer, limiter, lo, hi))
 }

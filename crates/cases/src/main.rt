@@ -1,7 +1,9 @@
-// Marked cases m1 to m10, further cases x1 to x5, a thin gas and the largest numerator of a piece (y6-1, y6-12), and cases y1-1 to y1-7 of the long sweep, run through the sweeps and the remap: name, answer, count, all air, all tracers.
-// In grids of one row of four columns; the first and the last amount of a layer are the caps'. No emitter stands.
+// Marked cases m1 to m10, further cases x1 to x5, a thin gas and the largest numerator of a piece (y6-1, y6-12), cases y1-1 to y1-7 of the long sweep, and
+// y7-2 and y7-4 of the limiters, run through the sweeps and the remap: name, answer, count, all air, all tracers.
+// In grids of one row of four columns; the first and the last amount of a layer are the caps'. No emitter stands; the first limiter, where no other is named.
 use libc::STDOUT_FILENO;
 use units::LEDGER_BLOCK;
+use units::LIMITER_PLACE;
 
 fn number(n: u32) {
     io::write_all(STDOUT_FILENO, b" ");
@@ -36,8 +38,25 @@ fn layers(k: u32) -> units::Grid {
     }
 }
 
+// A ledger of one tracer with this limiter.
+fn chosen(limiter: u32, hi: u32) -> [u32; LEDGER_BLOCK] {
+    let mut ledger = [0u32; LEDGER_BLOCK];
+    ledger[LIMITER_PLACE] = limiter;
+    ledger[LIMITER_PLACE + 3] = hi;
+    ledger
+}
+
+// Row tracer 0, 300, 200, 50 by a limiter whose lower bound is 0.
+fn limited(name: &[u8], limiter: u32, hi: u32) {
+    let ledger = chosen(limiter, hi);
+    let mut air = [100u32; 6];
+    let mut gas = [0, 0, 300, 200, 50, 0];
+    let answer = zonal::zonal(layers(1), &mut air, &mut gas, &ledger, 0, 0, &[0, 50, 0, 0]);
+    report(name, answer, &air, &gas);
+}
+
 fn case(name: &[u8], from: [u32; 6], had: [u32; 6], fluxes: [i32; 4]) {
-    let ledger = [0u32; LEDGER_BLOCK];
+    let ledger = chosen(1, 0);
     let mut air = from;
     let mut gas = had;
     let answer = zonal::zonal(layers(1), &mut air, &mut gas, &ledger, 0, 0, &fluxes);
@@ -45,7 +64,7 @@ fn case(name: &[u8], from: [u32; 6], had: [u32; 6], fluxes: [i32; 4]) {
 }
 
 fn long_case(name: &[u8], fluxes: [i32; 4]) {
-    let ledger = [0u32; LEDGER_BLOCK];
+    let ledger = chosen(1, 0);
     let mut air = [100u32; 6];
     let mut gas = [0, 0, 100, 200, 100, 0];
     let answer = long_zonal::long_zonal(layers(1), &mut air, &mut gas, &ledger, 0, 0, &fluxes);
@@ -54,7 +73,7 @@ fn long_case(name: &[u8], fluxes: [i32; 4]) {
 
 // A meridional sweep with fluxes out of the south cap, and none into the north cap.
 fn from_south(name: &[u8], south: u32) {
-    let ledger = [0u32; LEDGER_BLOCK];
+    let ledger = chosen(1, 0);
     let mut air = [south, 200, 200, 200, 200, 200];
     let mut gas = [50, 10, 20, 30, 40, 5];
     let fluxes = [60, 60, 0 - 50, 0, 0, 0, 0, 0];
@@ -63,7 +82,7 @@ fn from_south(name: &[u8], south: u32) {
 }
 
 fn columns() {
-    let ledger = [0u32; LEDGER_BLOCK];
+    let ledger = chosen(1, 0);
     let mut air = [100u32; 18];
     let mut gas = [
         0,
@@ -159,6 +178,8 @@ fn main() {
     long_case(b"y1-5", [401, 400, 400, 400]);
     long_case(b"y1-6", [100, 0, 0, 0]);
     long_case(b"y1-7", [401, 0, 0, 0]);
+    limited(b"y7-2", 2, 0);
+    limited(b"y7-4", 3, 851968);
     from_south(b"x3", 100);
     from_south(b"x4", 170);
     columns();

@@ -9,10 +9,11 @@ use native.Mathlib.Omega.{arith}
 use borrow.Author.Tests.{eqb-false, eq-eqb, ne-eqb}
 use lib.Dec.{eqb}
 use Rattle.model.specs.Basic.{at, tab}
-use Rattle.model.specs.Scheme.{ratio, mismatch, plain}
+use Rattle.model.specs.Scheme.{ratio, plain}
+use Rattle.model.specs.Limiters.{Limiter, ruleFor}
 use Rattle.model.specs.Remap.{layerMismatch, layers}
 use Rattle.model.specs.Laws.Basic.{at-tab, tab-ext}
-use Rattle.model.specs.Laws.Scheme.{mismatch-twice}
+use Rattle.model.specs.Laws.Limiters.{limiter-limited}
 use Rattle.model.specs.Walk.{layerOf}
 use Rattle.substep.specs.Pieces.{AreRatios}
 use Rattle.line.specs.Line.{slopeIn, cellAt}
@@ -25,34 +26,34 @@ second true b e = absurd (true≢false e)
 second false b e = e
 
 -- ---- the mismatches, as the code fills them
-module _ (cap : Bool) (k : ℕ) (q : List ℕ) (i : ℕ) where
-  pub slope-above : i + 1 < k → mismatchUnless (cap || eqb i 0) (at q (i - 1)) (at q i) (at q (i + 1)) ≡ slopeAt cap k q i
+module _ (l : Limiter) (cap : Bool) (k : ℕ) (q : List ℕ) (i : ℕ) where
+  pub slope-above : i + 1 < k → mismatchUnless l (cap || eqb i 0) (at q (i - 1)) (at q i) (at q (i + 1)) ≡ slopeAt l cap k q i
   unfolding slopeAt
   slope-above h = rw (add-one i, ne-eqb (suc i) k (λ (z : suc i ≡ k). omega arith), or-false (cap || eqb i 0))
 
-  pub slope-last : suc i ≡ k → plain ≡ slopeAt cap k q i
+  pub slope-last : suc i ≡ k → plain ≡ slopeAt l cap k q i
   unfolding slopeAt mismatchUnless
   slope-last e = rw (eq-eqb (suc i) k e, or-true (cap || eqb i 0))
 
 -- ---- the model's layers
 module _
-    {cap : Bool} {k : ℕ} {air gas q size : List ℕ} {rising : List Bool} (ratios : AreRatios k air gas q)
-    (slopes : AreSlopes cap k q size rising) where
+    {l : Limiter} {cap : Bool} {k : ℕ} {air gas q size : List ℕ} {rising : List Bool} (ratios : AreRatios k air gas q)
+    (slopes : AreSlopes l cap k q size rising) where
   own : (i : ℕ) → i < k → at q i ≡ ratio (at (firsts k air) i) (at (firsts k gas) i)
   own i h = ratios .is i h ∙ sym (ap₂ ratio (at-tab k (at air) i h) (at-tab k (at gas) i h))
 
-  slope-model : (i : ℕ) → i < k → slopeAt cap k q i ≡ layerMismatch mismatch cap k (firsts k air) (firsts k gas) i
+  slope-model : (i : ℕ) → i < k → slopeAt l cap k q i ≡ layerMismatch (ruleFor l) cap k (firsts k air) (firsts k gas) i
   unfolding slopeAt mismatchUnless layerMismatch
   slope-model i h = go (cap || eqb i 0 || eqb (suc i) k) refl
     where
-      go : (b : Bool) → cap || eqb i 0 || eqb (suc i) k ≡ b → slopeAt cap k q i ≡ layerMismatch mismatch cap k (firsts k air) (firsts k gas) i
+      go : (b : Bool) → cap || eqb i 0 || eqb (suc i) k ≡ b → slopeAt l cap k q i ≡ layerMismatch (ruleFor l) cap k (firsts k air) (firsts k gas) i
       go true e = rw (e, mismatchUnless, layerMismatch)
       go false e =
           let other = eqb-false (suc i) k (second (cap || eqb i 0) (eqb (suc i) k) e) in
           rw (e, mismatchUnless, layerMismatch)
-          (λ n. mismatch (own (i - 1) (omega arith) n) (own i h n) (own (suc i) (omega arith) n))
+          (λ n. ruleFor l (own (i - 1) (omega arith) n) (own i h n) (own (suc i) (omega arith) n))
 
-  pub layer-is : (t : ℕ) → t < k → cellAt k air gas size rising t ≡ layerOf mismatch cap k (firsts k air) (firsts k gas) t
+  pub layer-is : (t : ℕ) → t < k → cellAt k air gas size rising t ≡ layerOf (ruleFor l) cap k (firsts k air) (firsts k gas) t
   layer-is t p =
       let own : t % k ≡ t = mod-eq-of-lt p in
       λ n.
@@ -62,15 +63,15 @@ module _
         slope = (ap (slopeIn size rising) own ∙ slope-is (slopes .all) t p ∙ slope-model t p) n;
       }
 
-  pub layers-are : tab k (cellAt k air gas size rising) ≡ layers mismatch cap k (firsts k air) (firsts k gas)
+  pub layers-are : tab k (cellAt k air gas size rising) ≡ layers (ruleFor l) cap k (firsts k air) (firsts k gas)
   unfolding layers
-  layers-are = tab-ext k (cellAt k air gas size rising) (layerOf mismatch cap k (firsts k air) (firsts k gas)) layer-is
+  layers-are = tab-ext k (cellAt k air gas size rising) (layerOf (ruleFor l) cap k (firsts k air) (firsts k gas)) layer-is
 
   -- at most twice the layer's ratio
   pub slope-small : (i : ℕ) → i < k → at size i ≤ 2 * ratio (at air i) (at gas i)
   unfolding slopeAt mismatchUnless
   slope-small i h = rw (slopes .all .sizes i h, ← ratios .is i h) (go (cap || eqb i 0 || eqb (suc i) k) refl)
     where
-      go : (b : Bool) → cap || eqb i 0 || eqb (suc i) k ≡ b → slopeAt cap k q i .size ≤ 2 * at q i
+      go : (b : Bool) → cap || eqb i 0 || eqb (suc i) k ≡ b → slopeAt l cap k q i .size ≤ 2 * at q i
       go true e = rw (e, mismatchUnless) (omega arith)
-      go false e = rw (e, mismatchUnless) (mismatch-twice _ (at q i) _)
+      go false e = rw (e, mismatchUnless) (limiter-limited l .atMostTwice _ (at q i) _)

@@ -8,7 +8,7 @@ use mathlib.Core.Path.{_≡_, sym, ap, ap₂, _∙_}
 use native.Mathlib.Nat.{mod-eq-of-lt}
 use native.Mathlib.Omega.{arith}
 use Rattle.model.specs.Basic.{at, sum}
-use Rattle.model.specs.Scheme.{mismatch}
+use Rattle.model.specs.Limiters.{Limiter, ruleFor}
 use Rattle.model.specs.Remap.{airAbove, edge, amountAbove, columnCount}
 use Rattle.model.specs.Walk.{endsPassed, layerOf, columnWalk, budget}
 use Rattle.model.specs.Laws.Basic.{le-or-lt, sum-ext, sum-tab, at-tab}
@@ -27,8 +27,8 @@ module _ {k : ℕ} {air e : List ℕ} (spans : Spans k air e) where
 
 -- ---- a tracer's walk
 module _
-    {cap : Bool} {k : ℕ} {air gas q size₀ size : List ℕ} {rising₀ rising : List Bool} {e newgas : List ℕ}
-    (need : ColumnGasNeed k air gas q size₀ rising₀ e newgas) (slopes : AreSlopes cap k q size rising) where
+    {l : Limiter} {cap : Bool} {k : ℕ} {air gas q size₀ size : List ℕ} {rising₀ rising : List Bool} {e newgas : List ℕ}
+    (need : ColumnGasNeed k air gas q size₀ rising₀ e newgas) (slopes : AreSlopes l cap k q size rising) where
   pub line-need : LineNeed k air gas size rising e k newgas
   line-need =
       let spans = need .spans in
@@ -60,12 +60,12 @@ module _
 
   walk-is :
       (table : List ℕ) → AreEdges table (airAbove (firsts k air) k) k e →
-      lineWalk k air gas size rising e k ≡ columnWalk mismatch cap k table (firsts k air) (firsts k gas)
+      lineWalk k air gas size rising e k ≡ columnWalk (ruleFor l) cap k table (firsts k air) (firsts k gas)
   walk-is table are =
       let line = line-need in
       let same =
       walk-same (cellAt k air gas size rising) k (line .some) (λ i h. rw (mod-eq-of-lt h) (line .least i h)) (at e) k (line .first) (line .rises) reach
-      (layerOf mismatch cap k (firsts k air) (firsts k gas)) (edge table (airAbove (firsts k air) k)) (layer-is (need .ratios) slopes) (are .is) in
+      (layerOf (ruleFor l) cap k (firsts k air) (firsts k gas)) (edge table (airAbove (firsts k air) k)) (layer-is (need .ratios) slopes) (are .is) in
       λ z s. same s z
 
   -- no fewer steps reach the last edge, at which the last layer ends
@@ -78,11 +78,11 @@ module _
   -- the ends passed are the column's, and by them its pairs
   ends-are :
       (table : List ℕ) → AreEdges table (airAbove (firsts k air) k) k e → (s : ℕ) →
-      lineEnds k air gas size rising e k s ≡ endsPassed (layerOf mismatch cap k (firsts k air) (firsts k gas)) (edge table (airAbove (firsts k air) k)) k s
+      lineEnds k air gas size rising e k s ≡ endsPassed (layerOf (ruleFor l) cap k (firsts k air) (firsts k gas)) (edge table (airAbove (firsts k air) k)) k s
   ends-are table are =
       let line = line-need in
       ends-alike (cellAt k air gas size rising) k (line .some) (λ i h. rw (mod-eq-of-lt h) (line .least i h)) (at e) k (line .first) (line .rises) reach
-      (layerOf mismatch cap k (firsts k air) (firsts k gas)) (edge table (airAbove (firsts k air) k)) (layer-is (need .ratios) slopes) (are .is)
+      (layerOf (ruleFor l) cap k (firsts k air) (firsts k gas)) (edge table (airAbove (firsts k air) k)) (layer-is (need .ratios) slopes) (are .is)
 
   pairs-are :
       (table : List ℕ) → AreEdges table (airAbove (firsts k air) k) k e → (s : ℕ) → lineWalk k air gas size rising e k s .edges ≡ k →
@@ -90,7 +90,7 @@ module _
   pairs-are table are s done =
       let spans = need .spans in
       ap (λ (n : ℕ). columnCount k table (firsts k air) + n) (ends-are table are s) ∙
-      column-pairs-by-walk mismatch cap k table (firsts k air) (firsts k gas) (spans .some)
+      column-pairs-by-walk (ruleFor l) cap k table (firsts k air) (firsts k gas) (spans .some)
       (λ i h. rw (at-tab k (at air) i h) (spans .least i h))
       (sym (are .is 0 (omega arith)) ∙ spans .first)
       (sym (are .is k (omega arith)) ∙ spans .last)
@@ -98,7 +98,7 @@ module _
       s
       (rw (walk-is table are) at done)
 
-  pub remapped-is : {r : List ℕ} {steps ends : ℕ} → IsWalk k air gas size rising e k r steps ends → IsRemapped cap k air gas e r steps ends
+  pub remapped-is : {r : List ℕ} {steps ends : ℕ} → IsWalk k air gas size rising e k r steps ends → IsRemapped l cap k air gas e r steps ends
   remapped-is {r} {steps} {ends} made =
       let same = layers-are (need .ratios) slopes in
       record {

@@ -7,6 +7,7 @@ ghost use lib.ListN.{length};
 ghost use lib.Dec.{leb};
 ghost use Rattle.model.specs.Limits.{tableLimit, tableScale, mostLayers};
 ghost use Rattle.model.specs.Step.{tableFits};
+ghost use Rattle.units.specs.Limiter.{limiterOf};
 ghost use Rattle.scheme.specs.Leaves.{mismatchOf};
 ghost use Rattle.column.specs.Column.{EdgesNeed, AreEdges};
 ghost use Rattle.column.specs.Gas.{mismatchUnless, SlopesNeed, AreSlopes, ColumnGasNeed, IsRemapped};
@@ -14,6 +15,7 @@ use line::Walked;
 use line::tracer_between;
 use scheme::mismatch;
 use units::AirSum;
+use units::Limiter;
 use units::Mismatch;
 use units::TABLE_LIMIT;
 use units::TABLE_SCALE;
@@ -61,9 +63,9 @@ pub fn fill_edges(table: &[u32], p: AirSum, k: usize, e: &mut [u64])
     }
 }
 
-// The mismatch of a layer by the ratios above, in and below it, or none.
-fn layer_mismatch(none: bool, above: u64, own: u64, below: u64) -> Mismatch
-    ensures { λ r. ⌜ mismatchOf r ≡ mismatchUnless none above own below ⌝ }
+// The mismatch of a layer by the tracer's limiter and the ratios above, in and below it, or none.
+fn layer_mismatch(l: Limiter, none: bool, above: u64, own: u64, below: u64) -> Mismatch
+    ensures { λ r. ⌜ mismatchOf r ≡ mismatchUnless (limiterOf l) none above own below ⌝ }
 {
     if none {
         return Mismatch {
@@ -71,13 +73,13 @@ fn layer_mismatch(none: bool, above: u64, own: u64, below: u64) -> Mismatch
             positive: true,
         };
     }
-    mismatch(above, own, below)
+    mismatch(l, above, own, below)
 }
 
-// The mismatch of each of k layers: none in a cap's column, and none in the top and bottom layers. A ratio is read once, from the top down.
-fn fill_slopes(q: &[u64], cap: bool, k: usize, size: &mut [u64], rising: &mut [bool])
+// The mismatch of each of k layers: none in a cap's column, and none in the top and bottom layers, whatever the limiter. A ratio is read once, from the top down.
+fn fill_slopes(l: Limiter, q: &[u64], cap: bool, k: usize, size: &mut [u64], rising: &mut [bool])
     requires { ⌜ SlopesNeed k (now q) (now size) (now rising) ⌝ }
-    ensures { λ r. ⌜ AreSlopes cap k (now (q .entry)) (now (size .exit)) (now (rising .exit)) ⌝ }
+    ensures { λ r. ⌜ AreSlopes (limiterOf l) cap k (now (q .entry)) (now (size .exit)) (now (rising .exit)) ⌝ }
 {
     let last = k - 1;
     let mut own = q[0];
@@ -85,7 +87,7 @@ fn fill_slopes(q: &[u64], cap: bool, k: usize, size: &mut [u64], rising: &mut [b
     let mut i = 0;
     while i < last {
         let below = q[i + 1];
-        let d = layer_mismatch(cap | (i == 0), above, own, below);
+        let d = layer_mismatch(l, cap | (i == 0), above, own, below);
         size[i] = d.size;
         rising[i] = d.positive;
         above = own;
@@ -96,9 +98,10 @@ fn fill_slopes(q: &[u64], cap: bool, k: usize, size: &mut [u64], rising: &mut [b
     rising[last] = true;
 }
 
-// A tracer's amounts in a column's k new layers, from the old ones and their ratios: the mismatches, and one walk. It gives back the walk's steps, at most 2k, and how many edges lie where an old layer ends; 2k less these are exactly the pairs of an old and a new layer that share air.
+// A tracer's amounts in a column's k new layers, from the old ones and their ratios: the mismatches by its limiter, and one walk. It gives back the walk's steps, at most 2k, and how many edges lie where an old layer ends; 2k less these are exactly the pairs of an old and a new layer that share air.
 // `cap` says whether the column is a cap's; size and rising are filled on the way.
 pub fn remap_gas(
+    l: Limiter,
     air: &[u32],
     gas: &[u32],
     cap: bool,
@@ -110,8 +113,8 @@ pub fn remap_gas(
     newgas: &mut [u32],
 ) -> Walked
     requires { ⌜ ColumnGasNeed k (now air) (now gas) (now q) (now size) (now rising) (now e) (now newgas) ⌝ }
-    ensures { λ r. ⌜ IsRemapped cap k (now (air .entry)) (now (gas .entry)) (now (e .entry)) (now (newgas .exit)) (r .steps) (r .ends) ⌝ }
+    ensures { λ r. ⌜ IsRemapped (limiterOf l) cap k (now (air .entry)) (now (gas .entry)) (now (e .entry)) (now (newgas .exit)) (r .steps) (r .ends) ⌝ }
 {
-    fill_slopes(q, cap, k, size, rising);
+    fill_slopes(l, q, cap, k, size, rising);
     tracer_between(air, gas, size, rising, k, e, k, newgas)
 }

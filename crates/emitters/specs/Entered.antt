@@ -18,7 +18,7 @@ use Rattle.units.specs.declared.Refusal.the-variants.{Index, EmitterAdded, Emit
 use Rattle.units.specs.Answer.{Agrees}
 use Rattle.units.specs.Agrees.{accepted-agrees, refused-agrees}
 use Rattle.ledger.specs.Block.{Kept, Searched, removed-is}
-use Rattle.substep.specs.Lent.{put-back}
+use Rattle.units.specs.Lent.{put-back}
 use Rattle.places.specs.declared.Placed.{Placed}
 use Rattle.places.specs.Walk.{there, missing}
 use Rattle.emitters.specs.Place.{EmittersFound, noRoom, noSuch, add-names, remove-names, places-left, block-lent, block-long, block-kept}

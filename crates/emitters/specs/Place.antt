@@ -8,18 +8,18 @@ use native.Mathlib.Nat.{mul-le-mul-right}
 use native.Mathlib.Omega.{arith}
 use lib.Dec.{ltb, leb}
 use lib.ListN.{length}
-use Rattle.model.specs.Limits.{totalLimit, mostEmitters, blockNumbers}
+use Rattle.model.specs.Limits.{totalLimit, mostEmitters, blockNumbers, mostTracers}
 use Rattle.model.specs.Basic.{at, part, every}
 use Rattle.model.specs.World.{World, worldCells, block, gasTotal}
 use Rattle.model.specs.Emitters.{standing, emitterCell, keptUnits, hasId, recordFits}
-use Rattle.model.specs.Step.{Call, Place, place, absent, brokenRecord, firstOf, ownPlaces, lentFits, refusal, addEmitter, removeEmitter, tick, unitsATick}
+use Rattle.model.specs.Step.{Call, Place, place, absent, brokenRecord, meaning, firstOf, ownPlaces, lentFits, refusal, addEmitter, removeEmitter, tick, unitsATick}
 use Rattle.model.specs.Laws.Basic.{every-at, length-part}
 use Rattle.model.specs.Laws.Grid.{in-range}
 use Rattle.model.specs.Laws.Step.{Fits, passes, stops}
 use Rattle.units.specs.declared.Answer.{Answer}
 use Rattle.units.specs.Answer.{numberOf, Agrees}
 use Rattle.ledger.specs.Block.{Kept, record-kept}
-use Rattle.substep.specs.Lent.{part-lent}
+use Rattle.units.specs.Lent.{part-lent}
 use Rattle.places.specs.declared.Lent.the-variants.{Nothing}
 use Rattle.places.specs.declared.Tested.{Tested}
 use Rattle.places.specs.declared.Placed.{Placed}
@@ -29,6 +29,7 @@ use Rattle.places.specs.Tested.{Passed, IsTested}
 -- ---- the calls that are refused first where tracer t is absent or a record broken, and then by the places `rest`
 pub record Names (w : World) (t : ℕ) (call : Call) (rest : List Place) : Type 0 where
   pub lent : lentFits (w .grid) call ≡ true
+  pub limiters : meaning call .limiters ≡ false
   pub places : firstOf (ownPlaces call) w ≡ firstOf (absent t (λ g. g .N) ∷ brokenRecord ∷ rest) w
 
 abbrev pub named : ℕ → List Place
@@ -37,14 +38,14 @@ named t = absent t (λ g. g .N) ∷ brokenRecord ∷ []
 module _ {w : World} {t : ℕ} {tested : Tested} where
   pub names-left : Passed w Nothing tested → Left w (Names w t) (named t)
   names-left passed =
-      record { is = λ call rest names. passed .left .is call (ownPlaces call) (record { fit = names .lent; own = refl }) ∙ names .places }
+      record { is = λ call rest names. passed .left .is call (ownPlaces call) (record { fit = names .lent; limiters = names .limiters; own = refl }) ∙ names .places }
 
   -- refused by places 1 to 4
   pub names-refused : {answer : Answer} {Found : Type 0} → IsTested w Nothing tested → (numberOf (tested .answer) ≡ 0 → ⊥) →
       answer ≡ tested .answer → IsPlaced w (Names w t) answer Found
   names-refused is refused same =
       record {
-        refused = λ _ call rest names. rw same (is .refused refused call (ownPlaces call) (record { fit = names .lent; own = refl }));
+        refused = λ _ call rest names. rw same (is .refused refused call (ownPlaces call) (record { fit = names .lent; limiters = names .limiters; own = refl }));
         found = λ z. absurd (refused (rw same at z));
       }
 
@@ -101,20 +102,21 @@ module _ {w : World} {t : ℕ} where
   add-names {c} {id} =
       record {
         lent = refl;
+        limiters = refl;
         places = behind (absent t (λ g. g .N)) _ _ w (swapped (absent c worldCells) brokenRecord (noRoom t id ∷ []) w refl);
       }
 
   pub remove-names : {id : ℕ} → Names w t (removeEmitter t id) (noSuch t id ∷ [])
   unfolding ownPlaces
-  remove-names = record { lent = refl; places = refl }
+  remove-names = record { lent = refl; limiters = refl; places = refl }
 
   pub tick-names : Names w t (tick t) (overLimit t ∷ [])
   unfolding ownPlaces
-  tick-names = record { lent = refl; places = refl }
+  tick-names = record { lent = refl; limiters = refl; places = refl }
 
   pub units-names : Names w t (unitsATick t) []
   unfolding ownPlaces
-  units-names = record { lent = refl; places = refl }
+  units-names = record { lent = refl; limiters = refl; places = refl }
 
 -- refused by what all of them test
 pub place-refuses : {w : World} {t : ℕ} {call : Call} {rest : List Place} {p : Placed} → IsEmitterPlace w t p → (numberOf (p .answer) ≡ 0 → ⊥) →
@@ -126,7 +128,7 @@ module _ {w : World} {t : ℕ} {p : Placed} (found : EmittersFound w t p) where
   pub places-left : {call : Call} {rest : List Place} → Names w t call rest → refusal w call ≡ firstOf rest w
   places-left {call} {rest} names = found .left .is call rest names
 
-  pub block-inside : (p .first + blockNumbers ≤ length (w .ledger)) × (p .first + blockNumbers ≤ 408)
+  pub block-inside : (p .first + blockNumbers ≤ length (w .ledger)) × (p .first + blockNumbers ≤ mostTracers * blockNumbers)
   block-inside =
       let below : suc t * blockNumbers ≤ w .grid .N * blockNumbers = mul-le-mul-right blockNumbers (found .there) in (
         omega (arith, found .start, found .fits .ledgerLength),

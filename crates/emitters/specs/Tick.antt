@@ -24,7 +24,7 @@ use Rattle.units.specs.declared.Answer.the-variants.{Accepted, Refused}
 use Rattle.units.specs.declared.Refusal.the-variants.{Emission}
 use Rattle.units.specs.Answer.{Agrees}
 use Rattle.units.specs.Agrees.{accepted-agrees, refused-agrees}
-use Rattle.substep.specs.Lent.{part-lent, put-back}
+use Rattle.units.specs.Lent.{part-lent, put-back}
 use Rattle.places.specs.declared.Placed.{Placed}
 use Rattle.emitters.specs.Place.{EmittersFound, overLimit, tick-names, places-left, block-lent, block-long, block-kept}
 

@@ -1,28 +1,21 @@
 -- A tracer's pieces in a layer: each cell with the two neighbours that its mismatch is taken from.
 use Prim.Native.Nat.{ℕ, suc, _+_, _*_, _-_, _≤_, _<_}
 use mathlib.Core.List.{List}
-use mathlib.Core.Bool.{Bool}
-use mathlib.Core.Path.{_≡_, refl, sym, ap₂, _∙_}
+use mathlib.Core.Path.{_≡_, refl, sym, _∙_}
 use native.Mathlib.Omega.{arith}
-use borrow.Author.Tests.{le-leb}
 use lib.ListN.{length}
 use Rattle.model.specs.Basic.{at}
-use Rattle.model.specs.Scheme.{plain, mismatch, highPiece, lowPiece}
+use Rattle.model.specs.Scheme.{highPiece, lowPiece}
+use Rattle.model.specs.Limiters.{Limiter, ruleFor}
 use Rattle.model.specs.Sweep.{Flow, southOf, northOf, layer, cellMismatch, pieces}
-use Rattle.model.specs.Laws.Scheme.{mismatch-equal}
+use Rattle.model.specs.Laws.Limiters.{limiter-plain}
 use Rattle.model.specs.Laws.Layer.{sides-inner, sides-north, south-cap, south-inner, north-inner, north-cap, layer-regular}
 use Rattle.model.specs.Laws.Substep.{mismatch-between, mismatch-south, mismatch-north, piece-up, piece-down}
 use Rattle.substep.specs.Faces.{flowOf}
 use Rattle.substep.specs.Pieces.{GasNeed, AreRatios, Neighbours, PieceNeed, high-need, low-need}
 use Rattle.layer.specs.Cells.{Size, Faces}
 
--- ---- neighbours
--- a cell that is its own neighbour on both sides has no mismatch
-mismatch-own : (q : ℕ) → mismatch q q q ≡ plain
-unfolding mismatch
-mismatch-own q =
-    ap₂ (λ (s : ℕ) (p : Bool). record { size = s; positive = p }) (mismatch-equal q q) (le-leb q q (omega arith))
-
+-- ---- neighbours; a cap is its own on both sides, which gives D = 0 by every limiter
 module _ (w rows : ℕ) where
   row-near : (j : ℕ) → j < rows * w → Neighbours (layer w rows) (southOf w j) (suc j) (northOf (rows * w) (w + j))
   unfolding layer
@@ -31,7 +24,7 @@ module _ (w rows : ℕ) where
         low = layer-regular w rows .lowIn j (omega arith);
         own = omega arith;
         high = layer-regular w rows .highIn (w + j) (omega arith);
-        is = λ air gas. mismatch-between mismatch (layer w rows) air gas (suc j) j (w + j) (sides-inner w (rows * w) j h);
+        is = λ l air gas. mismatch-between (ruleFor l) (layer w rows) air gas (suc j) j (w + j) (sides-inner w (rows * w) j h);
       }
 
   -- those of the cell south of face i
@@ -43,7 +36,7 @@ module _ (w rows : ℕ) where
         low = omega arith;
         own = omega arith;
         high = omega arith;
-        is = λ air gas. mismatch-south mismatch (layer w rows) air gas 0 0 w refl ∙ sym (mismatch-own _);
+        is = λ l air gas. mismatch-south (ruleFor l) (layer w rows) air gas 0 0 w refl ∙ sym (limiter-plain l _);
       })
 
   pub south-near : (i : ℕ) → w ≤ i → i < w + rows * w → Neighbours (layer w rows) (southOf w (i - w)) (southOf w i) (northOf (rows * w) i)
@@ -64,7 +57,7 @@ module _ (w rows : ℕ) where
         low = omega arith;
         own = omega arith;
         high = omega arith;
-        is = λ air gas. mismatch-north mismatch (layer w rows) air gas (suc (rows * w)) (rows * w) w sides ∙ sym (mismatch-own _);
+        is = λ l air gas. mismatch-north (ruleFor l) (layer w rows) air gas (suc (rows * w)) (rows * w) w sides ∙ sym (limiter-plain l _);
       })
 
 -- ---- a piece through face i
@@ -83,7 +76,7 @@ pub record Step (w rows : ℕ) (air gas airup airdown q gasup gasdown : List ℕ
   pub pieces : Faces w rows gasup gasdown
   pub need : GasNeed (layer w rows) (flowOf airup airdown) air gas
 
-module _ {w rows : ℕ} {air gas airup airdown q gasup gasdown : List ℕ} (step : Step w rows air gas airup airdown q gasup gasdown)
+module _ (l : Limiter) {w rows : ℕ} {air gas airup airdown q gasup gasdown : List ℕ} (step : Step w rows air gas airup airdown q gasup gasdown)
     (ratios : AreRatios (layer w rows .cells) air gas q) (i : ℕ) (h : i < w + rows * w) where
   -- the cells on its two sides, and the pieces of the model
   abbrev south : ℕ
@@ -93,7 +86,7 @@ module _ {w rows : ℕ} {air gas airup airdown q gasup gasdown : List ℕ} (step
   north = northOf (rows * w) i
 
   abbrev given : Flow
-  given = pieces mismatch (layer w rows) (flowOf airup airdown) air gas
+  given = pieces (ruleFor l) (layer w rows) (flowOf airup airdown) air gas
 
   room : layer w rows .cells ≤ length q
   unfolding layer
@@ -111,7 +104,7 @@ module _ {w rows : ℕ} {air gas airup airdown q gasup gasdown : List ℕ} (step
         size = step .size;
         face = h;
         ratios = ratios;
-        need = λ a b near. high-need (layer-regular w rows) (step .need) q ratios room near i inside refl;
+        need = λ a b near. high-need l (layer-regular w rows) (step .need) q ratios room near i inside refl;
       }
 
   pub gives-south : GivesPiece w rows air gas q i north (at airdown i)
@@ -121,14 +114,14 @@ module _ {w rows : ℕ} {air gas airup airdown q gasup gasdown : List ℕ} (step
         size = step .size;
         face = h;
         ratios = ratios;
-        need = λ a b near. low-need (layer-regular w rows) (step .need) q ratios room near i inside refl;
+        need = λ a b near. low-need l (layer-regular w rows) (step .need) q ratios room near i inside refl;
       }
 
   -- and so the model's pieces are
-  pub piece-north : highPiece (cellMismatch mismatch (layer w rows) air gas south) (at air south) (at gas south) (at airup i) ≡ given .toHigh i
+  pub piece-north : highPiece (cellMismatch (ruleFor l) (layer w rows) air gas south) (at air south) (at gas south) (at airup i) ≡ given .toHigh i
   unfolding layer
-  piece-north = sym (piece-up mismatch (layer w rows) (flowOf airup airdown) air gas i south refl)
+  piece-north = sym (piece-up (ruleFor l) (layer w rows) (flowOf airup airdown) air gas i south refl)
 
-  pub piece-south : lowPiece (cellMismatch mismatch (layer w rows) air gas north) (at air north) (at gas north) (at airdown i) ≡ given .toLow i
+  pub piece-south : lowPiece (cellMismatch (ruleFor l) (layer w rows) air gas north) (at air north) (at gas north) (at airdown i) ≡ given .toLow i
   unfolding layer
-  piece-south = sym (piece-down mismatch (layer w rows) (flowOf airup airdown) air gas i north refl)
+  piece-south = sym (piece-down (ruleFor l) (layer w rows) (flowOf airup airdown) air gas i north refl)

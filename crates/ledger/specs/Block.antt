@@ -1,19 +1,24 @@
 -- What the functions over a tracer's block need and give: the entries that a loop reads, the search for an id, the block after a removal, and a block whose sum is kept.
 -- Assumes nothing of the block but what each says.
 use Prim.Native.Nat.{ℕ, zero, suc, _+_, _*_, _-_, _≤_, _<_}
-use mathlib.Core.List.{List}
+use mathlib.Core.List.{List, _++_, append-nil}
 use mathlib.Core.Bool.{Bool, true, false, not, _&&_, _||_, or-true, or-false}
 use mathlib.Core.Path.{_≡_, refl, sym, ap, ap₂, _∙_}
+use native.Mathlib.Nat.{add-zero}
 use native.Mathlib.Numerals.{add-one}
 use native.Mathlib.Omega.{arith}
+use borrow.Rule.Slice.PartMut.{putMid}
 use borrow.Author.Tests.{lt-ltb, lt-leb, le-leb, ltb-true, ltb-false, eq-eqb, ne-eqb}
 use lib.Dec.{leb, ltb, eqb}
-use lib.ListN.{length}
+use lib.ListN.{length, drop-of-length-le}
 use Rattle.model.specs.Limits.{mostEmitters, blockNumbers}
-use Rattle.model.specs.Basic.{at, sum, every, some}
+use Rattle.model.specs.Basic.{at, part, written, sum, every, some}
 use Rattle.model.specs.Laws.Basic.{sum-le, sum-same, term-le-sum}
-use Rattle.model.specs.Laws.Emitters.{record-fitting}
+use Rattle.model.specs.Laws.Emitters.{record-fitting, none-sound}
 use Rattle.model.specs.Emitters.{standing, emitterId, emitterCell, emitterUnits, half, keptUnits, presentUnits, hasId, recordFits, withHead, withEmitter, emitterAdded, placeOf, removedAt, emitterRemoved}
+use Rattle.model.specs.Limiters.{freshBlock}
+use Rattle.units.specs.EachTracer.{Changes, changedUpTo, length-gas, part-more}
+use Rattle.units.specs.Lent.{put-back}
 
 -- a whole block, of which the first n emitters are read
 pub record Entries (b : List ℕ) (n : ℕ) : Type 0 where
@@ -126,6 +131,28 @@ pub removed-leaves : (b : List ℕ) (i : ℕ) {n kept gone : ℕ} {head moved la
     moved ≡ withEmitter head i (emitterId b (n - 1)) (emitterCell b (n - 1)) (emitterUnits b (n - 1)) →
     last ≡ withEmitter moved (n - 1) 0 0 0 → last ≡ removedAt b i
 removed-leaves b i e k g h m l = rw (l, m, h, g, k, e)
+
+-- ---- the ledger that a load leaves, block after block
+pub length-fresh : length freshBlock ≡ blockNumbers
+length-fresh = none-sound 0 .many
+
+written-all : (l new : List ℕ) → length new ≡ length l → written l 0 new ≡ new
+written-all l new e = ap (λ (r : List ℕ). new ++ r) (drop-of-length-le l {i = 0 + length new} (omega arith)) ∙ append-nil new
+
+module _ (ledger : List ℕ) {n : ℕ} (long : length ledger ≡ n * blockNumbers) where
+  pub renews : Changes ledger n blockNumbers (λ t. freshBlock)
+  renews = record { long = long; sized = λ t h. length-fresh }
+
+  -- one more
+  pub renewed-more : {t : ℕ} → t < n → {now new : List ℕ} → now ≡ changedUpTo ledger blockNumbers (λ k. freshBlock) t → new ≡ freshBlock →
+      putMid (t * blockNumbers) (t * blockNumbers + blockNumbers - t * blockNumbers) now new ≡ changedUpTo ledger blockNumbers (λ k. freshBlock) (t + 1)
+  renewed-more {t} h {now} {new} e f =
+      let size : length new ≡ blockNumbers = ap length f ∙ length-fresh in
+      let whole : written (part ledger (t * blockNumbers) blockNumbers) 0 new ≡ freshBlock =
+      written-all (part ledger (t * blockNumbers) blockNumbers) new (size ∙ sym (length-gas ledger n blockNumbers long h)) ∙ f in
+      put-back now new (t * blockNumbers) blockNumbers size ∙
+      ap (λ (a : ℕ). written now a new) (sym (add-zero (t * blockNumbers))) ∙
+      part-more renews h e new 0 (omega arith) whole
 
 -- ---- what a record that passed its test tells
 pub record-kept : (cells : ℕ) (b : List ℕ) → length b ≡ blockNumbers → recordFits cells b ≡ true →

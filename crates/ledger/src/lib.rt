@@ -1,15 +1,18 @@
-// The ledger: a block of 51 numbers for each tracer, with its standing emitters. Number 0 is how many stand, 1 and 2 are the halves of the sum of
-// their units a tick; emitter i has its id at 3 + 3·i, its cell and its units behind it.
+// The ledger: a block of 56 numbers for each tracer, with its standing emitters and, from number 51 on, its limiter (crate limiters). Number 0 is how
+// many stand, 1 and 2 are the halves of the sum of their units a tick; emitter i has its id at 3 + 3·i, its cell and its units behind it.
 ghost use mathlib.Core.Path.{_≡_};
 ghost use mathlib.Core.Bool.{not, _||_};
 ghost use Prim.Native.Nat.{_+_, _*_, _≤_, _<_};
 ghost use lib.ListN.{length};
 ghost use lib.Dec.{leb, ltb, eqb};
 ghost use Rattle.model.specs.Limits.{mostEmitters, blockNumbers};
-ghost use Rattle.model.specs.Basic.{zeros, part, sum, every};
+ghost use Rattle.model.specs.Basic.{zeros, part, tab, joined, sum, every};
 ghost use Rattle.model.specs.Emitters.{standing, emitterId, emitterCell, emitterUnits, keptUnits, hasId, recordFits, withHead, withEmitter, emitterAdded, removedAt};
+ghost use Rattle.model.specs.Limiters.{freshBlock};
 ghost use Rattle.ledger.specs.Block.{Entries, Searched, Kept};
+use limiters::write_limiter;
 use units::LEDGER_BLOCK;
+use units::Limiter;
 use units::MOST_EMITTERS;
 
 // Writes 0 over a whole list.
@@ -20,6 +23,36 @@ pub fn clear(list: &mut [u32])
     while i < list.len() {
         list[i] = 0;
         i += 1;
+    }
+}
+
+// A block as a load leaves it: no emitter stands, and the first limiter with both bounds 0.
+fn renew_block(block: &mut [u32])
+    requires { ⌜ length (now block) ≡ blockNumbers ⌝ }
+    ensures { λ r. ⌜ now (block .exit) ≡ freshBlock ⌝ }
+{
+    clear(block);
+    write_limiter(
+        block,
+        Limiter {
+            number: 1,
+            lo: 0,
+            hi: 0,
+        },
+    );
+}
+
+// The blocks of n tracers as a load leaves them; what stood there is not read.
+pub fn renew(ledger: &mut [u32], n: usize)
+    requires { ⌜ (length (now ledger) ≡ n * blockNumbers) × (n ≤ 8) ⌝ }
+    ensures { λ r. ⌜ now (ledger .exit) ≡ joined (tab n (λ t. freshBlock)) ⌝ }
+{
+    let mut t = 0;
+    while t < n {
+        let a = t * LEDGER_BLOCK;
+        let e = a + LEDGER_BLOCK;
+        renew_block(&mut ledger[a..e]);
+        t += 1;
     }
 }
 

@@ -5,6 +5,7 @@ ghost use Prim.Native.Nat.{_+_, _-_, _≤_, _<_};
 ghost use lib.ListN.{length};
 ghost use Rattle.model.specs.Sweep.{forward, backward};
 ghost use Rattle.model.specs.Long.{longAirFits};
+ghost use Rattle.units.specs.Limiter.{limiterOf};
 ghost use Rattle.long_row.specs.Air.{LongNeed, AreDepartures, DeparturesServe, airBy};
 ghost use Rattle.long_row.specs.Gas.{SlopesNeed, AreSlopes, LongGasNeed, gasBy};
 use line::air_sum;
@@ -19,6 +20,7 @@ use scheme::split;
 use substep::fill_ratios;
 use units::Air;
 use units::AirSum;
+use units::Limiter;
 use units::MOST_COLUMNS;
 use units::add_air;
 
@@ -80,10 +82,10 @@ pub fn move_air(e: &[u64], air: &mut [u32])
     new_air(&e[1..end], w, air);
 }
 
-// The mismatch of each column with its neighbours in the ring, by the ratios: its size, and whether its sign is positive.
-fn fill_slopes(q: &[u64], w: usize, size: &mut [u64], rising: &mut [bool])
+// The mismatch of each column with its neighbours in the ring, by the tracer's limiter and the ratios: its size, and whether its sign is positive.
+fn fill_slopes(l: Limiter, q: &[u64], w: usize, size: &mut [u64], rising: &mut [bool])
     requires { ⌜ SlopesNeed w (now q) (now size) (now rising) ⌝ }
-    ensures { λ r. ⌜ AreSlopes w (now (q .entry)) (now (size .exit)) (now (rising .exit)) ⌝ }
+    ensures { λ r. ⌜ AreSlopes (limiterOf l) w (now (q .entry)) (now (size .exit)) (now (rising .exit)) ⌝ }
 {
     let mut c = 0;
     while c < w {
@@ -92,7 +94,7 @@ fn fill_slopes(q: &[u64], w: usize, size: &mut [u64], rising: &mut [bool])
         let low = q[west];
         let own = q[c];
         let high = q[east];
-        let d = mismatch(low, own, high);
+        let d = mismatch(l, low, own, high);
         size[c] = d.size;
         rising[c] = d.positive;
         c += 1;
@@ -100,9 +102,9 @@ fn fill_slopes(q: &[u64], w: usize, size: &mut [u64], rising: &mut [bool])
 }
 
 // A tracer's amounts in the row afterwards: those on the line between the departures of each cell's two faces.
-pub fn move_gas(gas: &mut [u32], air: &[u32], e: &[u64])
+pub fn move_gas(l: Limiter, gas: &mut [u32], air: &[u32], e: &[u64])
     requires { ⌜ LongGasNeed (now gas) (now air) (now e) ⌝ }
-    ensures { λ r. ⌜ now (gas .exit) ≡ gasBy (now (e .entry)) (now (air .entry)) (now (gas .entry)) ⌝ }
+    ensures { λ r. ⌜ now (gas .exit) ≡ gasBy (limiterOf l) (now (e .entry)) (now (air .entry)) (now (gas .entry)) ⌝ }
 {
     let w = air.len();
     let end = w + 1;
@@ -111,7 +113,7 @@ pub fn move_gas(gas: &mut [u32], air: &[u32], e: &[u64])
     let mut rising = [false; MOST_COLUMNS];
     let mut between = [0u32; MOST_STRETCHES]; // the first is before the row
     fill_ratios(air, &gas[..], w, &mut q);
-    fill_slopes(&q, w, &mut size, &mut rising);
+    fill_slopes(l, &q, w, &mut size, &mut rising);
     tracer_between(air, &gas[..], &size, &rising, w, e, end, &mut between);
     copy(&between[1..end], gas);
 }

@@ -9,6 +9,7 @@ ghost use Rattle.line.specs.Line.{AirNeed};
 ghost use Rattle.long_zonal.specs.LongPlace.{IsLongPlace};
 ghost use Rattle.long_zonal.specs.LongTracers.{RowsNeed, rowsSwept};
 ghost use Rattle.long_zonal.specs.LongSwept.{RowReady, IsSwept};
+use limiters::limiter_at;
 use line::air_sum;
 use long_row::MOST_DEPARTURES;
 use long_row::air_serves;
@@ -35,7 +36,7 @@ fn row_air(air: &[u32]) -> Air
     Air(all.0 as u32)
 }
 
-// Places 1 to 5, 8, 16 and 17: where the row starts.
+// Places 1 to 4, 21, 5, 8, 16 and 17: where the row starts.
 fn long_place(
     g: Grid,
     air: &[u32],
@@ -64,31 +65,47 @@ fn long_place(
     place
 }
 
-// The row of each of the n tracers, one after the other, from the row's air before the sweep: tracer t's starts at `first` past t·K·C.
-fn sweep_rows(tracers: &mut [u32], air: &[u32], e: &[u64], first: usize, cells: usize, n: usize)
-    requires { ⌜ RowsNeed (now tracers) (now air) (now e) first cells n ⌝ }
-    ensures { λ r. ⌜ now (tracers .exit) ≡ rowsSwept n cells first (now (e .entry)) (now (air .entry)) (now (tracers .entry)) ⌝ }
+// The row of each of the n tracers, by its own limiter, one after the other, from the row's air before the sweep: tracer t's starts at `first` past t·K·C.
+fn sweep_rows(
+    tracers: &mut [u32],
+    ledger: &[u32],
+    air: &[u32],
+    e: &[u64],
+    first: usize,
+    cells: usize,
+    n: usize,
+)
+    requires { ⌜ RowsNeed (now tracers) (now ledger) (now air) (now e) first cells n ⌝ }
+    ensures { λ r. ⌜ now (tracers .exit) ≡ rowsSwept n cells first (now (ledger .entry)) (now (e .entry)) (now (air .entry)) (now (tracers .entry)) ⌝ }
 {
     let w = air.len();
     let mut t = 0;
     while t < n {
         let a = t * cells + first;
         let end = a + w;
-        move_gas(&mut tracers[a..end], air, e);
+        let l = limiter_at(ledger, t);
+        move_gas(l, &mut tracers[a..end], air, e);
         t += 1;
     }
 }
 
 // The row's lent air and the row of every tracer, swept: the tracers first.
-fn sweep_row(g: Grid, air: &mut [u32], tracers: &mut [u32], first: usize, fluxes: &[i32])
-    requires { ⌜ RowReady (gridOf g) (now tracers) (now air) first (now fluxes) ⌝ }
-    ensures { λ x. ⌜ IsSwept (gridOf g) (now (tracers .entry)) (now (air .entry)) first (now (fluxes .entry)) (now (air .exit)) (now (tracers .exit)) ⌝ }
+fn sweep_row(
+    g: Grid,
+    air: &mut [u32],
+    tracers: &mut [u32],
+    ledger: &[u32],
+    first: usize,
+    fluxes: &[i32],
+)
+    requires { ⌜ RowReady (gridOf g) (now tracers) (now ledger) (now air) first (now fluxes) ⌝ }
+    ensures { λ x. ⌜ IsSwept (gridOf g) (now (tracers .entry)) (now (ledger .entry)) (now (air .entry)) first (now (fluxes .entry)) (now (air .exit)) (now (tracers .exit)) ⌝ }
 {
     let n = g.n as usize;
     let cells = world_cells(g) as usize;
     let mut e = [0u64; MOST_DEPARTURES];
     fill_departures(&air[..], fluxes, &mut e);
-    sweep_rows(tracers, &air[..], &e, first, cells, n);
+    sweep_rows(tracers, ledger, &air[..], &e, first, cells, n);
     move_air(&e, air);
 }
 
@@ -111,6 +128,6 @@ pub fn long_zonal(
     }
     let first = place.first;
     let end = first + (g.w as usize);
-    sweep_row(g, &mut air[first..end], tracers, first, fluxes);
+    sweep_row(g, &mut air[first..end], tracers, ledger, first, fluxes);
     answer
 }

@@ -18,7 +18,7 @@ use Rattle.model.specs.Laws.Step.{Fits}
 use Rattle.places.specs.declared.Placed.{Placed}
 use Rattle.places.specs.Walk.{Left, IsPlaced, Like}
 use Rattle.substep.specs.Faces.{flowOf, Same, AreParts, same-allowed}
-use Rattle.substep.specs.Lent.{part-lent}
+use Rattle.units.specs.Lent.{part-lent}
 use Rattle.layer.specs.Cells.{Size, Faces, Fit}
 
 -- ---- sizes

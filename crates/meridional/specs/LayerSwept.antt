@@ -25,7 +25,7 @@ use Rattle.places.specs.declared.Placed.{Placed}
 use Rattle.places.specs.Walk.{none}
 use Rattle.substep.specs.Faces.{flowOf, Same, same-allowed, same-after}
 use Rattle.substep.specs.Cells.{air-moves}
-use Rattle.substep.specs.Lent.{put-back}
+use Rattle.units.specs.Lent.{put-back}
 use Rattle.layer.specs.Passing.{Passing}
 use Rattle.meridional.specs.LayerPlace.{Rooms, LayerFound, lentLayer, layer-lent, layer-long, layer-fit, same-faces, serves-one}
 use Rattle.meridional.specs.LayerTracers.{LayerTracersNeed, sweptTracers, swept-same}
@@ -82,7 +82,7 @@ module _
   after-length stored = ap length stored ∙ length-after-flow mesh (flowOf airup airdown) lent ∙ sym alike
 
   pub meridional-agrees : {new after : List ℕ} → new ≡ afterFlow mesh (flowOf airup airdown) lent →
-      after ≡ sweptTracers (w .grid) (w .tracers) lent (flowOf airup airdown) (p .first) →
+      after ≡ sweptTracers (w .grid) (w .tracers) (w .ledger) lent (flowOf airup airdown) (p .first) →
       Agrees w (meridional k fluxes) (Accepted 1) (withAmounts w (putMid (p .first) (p .first + wide - p .first) (w .air) new) after)
   unfolding swept layer airAfter gasAfter
   meridional-agrees {new} {after} stored done =
@@ -91,14 +91,15 @@ module _
       (put-back (w .air) new (p .first) wide (after-length stored) ∙
       ap₂ (λ (i : ℕ) (l : List ℕ). written (w .air) i l) (found .start)
       (stored ∙ same-after mesh (layer-regular (w .grid .W) (w .grid .R)) same lent ∙ ap (afterFlow mesh (parts fluxes 1 1)) lent-is))
-      (done ∙ swept-same (w .grid) (w .tracers) lent (p .first) same ∙
-      ap₂ (λ (l : List ℕ) (i : ℕ). sweptTracers (w .grid) (w .tracers) l (parts fluxes 1 1) i) lent-is (found .start)))
+      (done ∙ swept-same (w .grid) (w .tracers) (w .ledger) lent (p .first) same ∙
+      ap₂ (λ (l : List ℕ) (i : ℕ). sweptTracers (w .grid) (w .tracers) (w .ledger) l (parts fluxes 1 1) i) lent-is (found .start)))
 
-  pub tracers-need : LayerTracersNeed (w .grid) (w .tracers) lent (flowOf airup airdown) (p .first)
+  pub tracers-need : LayerTracersNeed (w .grid) (w .tracers) (w .ledger) lent (flowOf airup airdown) (p .first)
   tracers-need =
       record {
         range = range;
         tracersLong = found .fits .tracersLength;
+        ledgerLong = found .fits .ledgerLength;
         inside = layer-in-world;
         airLong = layer-long (w .grid) alike (w .air) (p .first) layer-in-air;
         airIn = lent-in;

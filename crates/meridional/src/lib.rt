@@ -9,6 +9,7 @@ ghost use Rattle.meridional.specs.LayerTracers.{LayerTracersNeed, sweptT
 use layer::layer_allowed;
 use layer::pass_layer_air;
 use layer_gas::step_layer_gas;
+use limiters::limiter_at;
 use places::Lent;
 use places::Placed;
 use places::common_places;
@@ -44,7 +45,7 @@ fn layer_permits(
     layer_allowed(&air[first..end], airup, airdown, g.w as usize, g.r as usize)
 }
 
-// Places 1 to 10: where the layer starts. Where the call is accepted, airup and airdown have the air that passes each face.
+// Places 1 to 4, 21, 5, 8 and 10: where the layer starts. Where the call is accepted, airup and airdown have the air that passes each face.
 fn layer_place(
     g: Grid,
     air: &[u32],
@@ -80,17 +81,18 @@ fn layer_place(
     }
 }
 
-// The layer of every tracer, swept where it is lent; `air` is the layer's.
+// The layer of every tracer, swept where it is lent, with the limiter of its block of the ledger; `air` is the layer's.
 fn sweep_tracers(
     g: Grid,
     tracers: &mut [u32],
+    ledger: &[u32],
     air: &[u32],
     airup: &[u32],
     airdown: &[u32],
     first: usize,
 )
-    requires { ⌜ Rooms (now airup) (now airdown) × LayerTracersNeed (gridOf g) (now tracers) (now air) (flowOf (now airup) (now airdown)) first ⌝ }
-    ensures { λ x. ⌜ now (tracers .exit) ≡ sweptTracers (gridOf g) (now (tracers .entry)) (now (air .entry)) (flowOf (now (airup .entry)) (now (airdown .entry))) first ⌝ }
+    requires { ⌜ Rooms (now airup) (now airdown) × LayerTracersNeed (gridOf g) (now tracers) (now ledger) (now air) (flowOf (now airup) (now airdown)) first ⌝ }
+    ensures { λ x. ⌜ now (tracers .exit) ≡ sweptTracers (gridOf g) (now (tracers .entry)) (now (ledger .entry)) (now (air .entry)) (flowOf (now (airup .entry)) (now (airdown .entry))) first ⌝ }
 {
     let n = g.n as usize;
     let wide = layer_cells(g) as usize;
@@ -102,7 +104,9 @@ fn sweep_tracers(
     while t < n {
         let a = t * cells + first;
         let e = a + wide;
+        let l = limiter_at(ledger, t);
         step_layer_gas(
+            l,
             &mut tracers[a..e],
             air,
             airup,
@@ -144,15 +148,9 @@ pub fn meridional(
     if number(answer) == 0 {} else {
         return answer;
     }
-    let first = place.first;
-    let end = first + (layer_cells(g) as usize);
-    sweep_tracers(g, tracers, &air[first..end], &airup, &airdown, first);
-    pass_layer_air(
-        &mut air[first..end],
-        &airup,
-        &airdown,
-        g.w as usize,
-        g.r as usize,
-    );
+    let a = place.first;
+    let e = a + (layer_cells(g) as usize);
+    sweep_tracers(g, tracers, ledger, &air[a..e], &airup, &airdown, a);
+    pass_layer_air(&mut air[a..e], &airup, &airdown, g.w as usize, g.r as usize);
     Answer::Accepted(1)
 }

@@ -1,8 +1,8 @@
--- What `common_places` gives: the first of places 1 to 4 that applies, and, where none does, what they tell of the world.
+-- What `common_places` gives: the first of places 1 to 4, and 21 where the call tests it, that applies, and, where none does, what they tell of the world.
 use Prim.Native.Nat.{ℕ, _+_, _*_, _≤_, _<_}
 use mathlib.Core.List.{List, [], _∷_, _++_}
-use mathlib.Core.Bool.{Bool, true, false, not, _&&_, and-eq-true-iff}
-use mathlib.Core.Path.{_≡_, refl, sym, ap, _∙_}
+use mathlib.Core.Bool.{Bool, true, false, not, _&&_, and-eq-true-iff, true≢false}
+use mathlib.Core.Path.{_≡_, refl, sym, ap, ap₂, _∙_}
 use native.Mathlib.Nat.{le-of-eq}
 use borrow.Author.Tests.{eqb-true, leb-true}
 use lib.Dec.{leb, eqb}
@@ -10,13 +10,17 @@ use lib.ListN.{length}
 use Rattle.model.specs.Limits.{totalLimit, mostCells, mostTracers, blockNumbers}
 use Rattle.model.specs.Basic.{at, every}
 use Rattle.model.specs.World.{Grid, World, worldCells, gasTotal, airFits}
-use Rattle.model.specs.Step.{Call, Place, place, meaning, firstOf, commonPlaces, ownPlaces, refusal, gridFits, lengthsFit, lentFits}
+use Rattle.model.specs.Limiters.{limiterFits}
+use Rattle.model.specs.Step.{Call, Place, place, brokenLimiter, meaning, firstOf, commonPlaces, limiterPlaces, ownPlaces, refusal, gridFits, lengthsFit, lentFits}
 use Rattle.model.specs.Laws.Basic.{every-at, every-ext}
 use Rattle.model.specs.Laws.Step.{Fits}
 use Rattle.units.specs.declared.Answer.{Answer}
+use Rattle.units.specs.declared.Answer.the-variants.{Refused}
+use Rattle.units.specs.declared.Refusal.the-variants.{Limiters}
+use Rattle.units.specs.Limiter.{limiterAt}
 use Rattle.units.specs.Answer.{numberOf, countOf, Agrees}
 use Rattle.places.specs.Totals.{TracersFit, AreTotals}
-use Rattle.places.specs.Walk.{Left, IsPlaced, Like}
+use Rattle.places.specs.Walk.{Left, IsPlaced, next, stop, Like}
 use Rattle.places.specs.declared.Tested as declared
 use Rattle.places.specs.declared.Lent.{Lent}
 use Rattle.places.specs.declared.Lent.the-variants.{Nothing, RowFluxes, LayerFluxes, Table}
@@ -27,6 +31,25 @@ lentServes g Nothing = true
 lentServes g (RowFluxes n) = eqb n (g .W)
 lentServes g (LayerFluxes n) = eqb n (g .W * (g .R + 1))
 lentServes g (Table n) = eqb n (2 * (g .K + 1))
+
+-- place 21, in the calls that lend fluxes or a table: those that move air, and the count before a sweep
+abbrev pub limitersTested : Lent → Bool
+limitersTested Nothing = false
+limitersTested (RowFluxes n) = true
+limitersTested (LayerFluxes n) = true
+limitersTested (Table n) = true
+
+abbrev pub ledgerFits : List ℕ → ℕ → Bool
+ledgerFits ledger n = every n (λ t. limiterFits (limiterAt ledger t))
+
+abbrev pub ledgerServes : List ℕ → ℕ → Lent → Bool
+ledgerServes ledger n lent = elim (limitersTested lent) [ true ↦ ledgerFits ledger n | false ↦ true ]
+
+abbrev pub limitersFit : World → Bool
+limitersFit w = ledgerFits (w .ledger) (w .grid .N)
+
+abbrev pub limitersServe : World → Lent → Bool
+limitersServe w lent = ledgerServes (w .ledger) (w .grid .N) lent
 
 -- .. and of the world's lists
 abbrev pub worldServes : World → Bool
@@ -45,19 +68,23 @@ airTest w = every (length (w .air)) (λ i. airFits (at (w .air) i))
 abbrev pub totalsTest : World → Bool
 totalsTest w = every (w .grid .N) (λ t. leb (gasTotal w t) totalLimit)
 
--- ---- the walk through places 1 to 4, of every call that is lent a list of the length `lent`
+-- ---- the walk through these places, of every call that is lent a list of the length `lent`
 pub record Lends (w : World) (lent : Lent) (call : Call) (rest : List Place) : Type 0 where
   pub fit : lentFits (w .grid) call ≡ lentServes (w .grid) lent
+  pub limiters : meaning call .limiters ≡ limitersTested lent
   pub own : rest ≡ ownPlaces call
 
-abbrev pub fromTotals : List Place
-fromTotals = place 4 (λ w. not (totalsTest w)) ∷ []
+abbrev pub fromLimiters : Lent → List Place
+fromLimiters lent = elim (limitersTested lent) [ true ↦ brokenLimiter ∷ [] | false ↦ [] ]
 
-abbrev pub fromAir : List Place
-fromAir = place 3 (λ w. not (airTest w)) ∷ fromTotals
+abbrev pub fromTotals : Lent → List Place
+fromTotals lent = place 4 (λ w. not (totalsTest w)) ∷ fromLimiters lent
+
+abbrev pub fromAir : Lent → List Place
+fromAir lent = place 3 (λ w. not (airTest w)) ∷ fromTotals lent
 
 abbrev pub fromLengths : Lent → List Place
-fromLengths lent = place 2 (λ w. not (lengthsServe w lent)) ∷ fromAir
+fromLengths lent = place 2 (λ w. not (lengthsServe w lent)) ∷ fromAir lent
 
 abbrev pub fromGrid : Lent → List Place
 fromGrid lent = place 1 (λ w. not (gridFits (w .grid))) ∷ fromLengths lent
@@ -68,22 +95,56 @@ lengths-same : (w : World) (lent : Lent) (call : Call) → lentFits (w .grid) ca
 lengths-same w lent call fit = ap (λ (b : Bool). worldServes w && b) fit
 
 pub all-left : (w : World) (lent : Lent) → Left w (Lends w lent) (fromGrid lent)
-unfolding refusal commonPlaces firstOf
+unfolding refusal commonPlaces limiterPlaces firstOf
 all-left w lent =
     record {
       is =
           λ call rest lends.
-          let behind = firstOf (fromAir ++ ownPlaces call) w in
-          ap (λ (b : Bool). elim (not (gridFits (w .grid))) [ true ↦ 1 | false ↦ elim (not b) [ true ↦ 2 | false ↦ behind ] ])
-          (lengths-same w lent call (lends .fit)) ∙
+          let tested : Bool → List Place = λ tests. elim tests [ true ↦ brokenLimiter ∷ [] | false ↦ [] ] in
+          ap₂
+          (λ (b tests : Bool).
+          elim (not (gridFits (w .grid))) [
+            | true ↦ 1
+            | false ↦
+                elim (not b) [
+                  | true ↦ 2
+                  | false ↦
+                      elim (not (airTest w)) [
+                        | true ↦ 3
+                        | false ↦ elim (not (totalsTest w)) [ true ↦ 4 | false ↦ firstOf (tested tests ++ ownPlaces call) w ]
+                      ]
+                ]
+          ])
+          (lengths-same w lent call (lends .fit))
+          (lends .limiters) ∙
           ap (λ (l : List Place). firstOf (fromGrid lent ++ l) w) (sym (lends .own));
     }
 
--- what places 1 to 4 tell of a world, with its totals
+-- the limiters, where they are tested: none is broken, or one is
+module _ {w : World} {Calls : Call → List Place → Type 0} where
+  pub past-limiters : (lent : Lent) → Left w Calls (fromLimiters lent) → limitersServe w lent ≡ true → Left w Calls []
+  past-limiters lent = go (limitersTested lent)
+    where
+      go : (tests : Bool) → Left w Calls (elim tests [ true ↦ brokenLimiter ∷ [] | false ↦ [] ]) →
+          elim tests [ true ↦ limitersFit w | false ↦ true ] ≡ true → Left w Calls []
+      go true left e = next left (ap not e)
+      go false left e = left
+
+  pub stop-limiters : {answer : Answer} {Found : Type 0} (lent : Lent) → Left w Calls (fromLimiters lent) →
+      limitersServe w lent ≡ false → answer ≡ Refused Limiters → IsPlaced w Calls answer Found
+  stop-limiters {answer} {Found} lent = go (limitersTested lent)
+    where
+      go : (tests : Bool) → Left w Calls (elim tests [ true ↦ brokenLimiter ∷ [] | false ↦ [] ]) →
+          elim tests [ true ↦ limitersFit w | false ↦ true ] ≡ false → answer ≡ Refused Limiters → IsPlaced w Calls answer Found
+      go true left e is = stop left (ap not e) is refl
+      go false left e is = absurd (true≢false e)
+
+-- what these places tell of a world, with its totals
 pub record Passed (w : World) (lent : Lent) (tested : declared.Tested) : Type 0 where
   pub left : Left w (Lends w lent) []
   pub fits : Fits w
   pub lentFit : lentServes (w .grid) lent ≡ true
+  pub limiters : limitersServe w lent ≡ true
   pub count : countOf (tested .answer) ≡ 0
   pub total : (t : ℕ) → t < w .grid .N → at (tested .totals) t ≡ gasTotal w t
 
@@ -140,28 +201,30 @@ module _ (w : World) (cells : ℕ) (e : cells ≡ worldCells (w .grid)) (sums : 
       every-ext (w .grid .N) (λ t. leb (at sums t) totalLimit) (λ t. leb (gasTotal w t) totalLimit)
       (λ t h. ap (λ (x : ℕ). leb x totalLimit) (gas-totals t h))
 
--- ---- a call that is lent such a list: its own places are left, or it is refused by places 1 to 4
+-- ---- a call that is lent such a list: its own places are left, or it is refused by those before them
 module _ {w : World} {lent : Lent} {tested : declared.Tested} {call : Call} where
-  pub own-left : Passed w lent tested → lentFits (w .grid) call ≡ lentServes (w .grid) lent → Left w (Like w call) (meaning call .places)
+  pub own-left : Passed w lent tested → lentFits (w .grid) call ≡ lentServes (w .grid) lent → meaning call .limiters ≡ limitersTested lent →
+      Left w (Like w call) (meaning call .places)
   unfolding ownPlaces
-  own-left passed e =
+  own-left passed e l =
       record {
         is =
             λ other rest like.
-            passed .left .is other (ownPlaces other) (record { fit = like .lent ∙ e; own = refl }) ∙
+            passed .left .is other (ownPlaces other) (record { fit = like .lent ∙ e; limiters = like .limiters ∙ l; own = refl }) ∙
             ap (λ (l : List Place). firstOf l w) (like .places);
       }
 
   pub common-refused : IsTested w lent tested → (numberOf (tested .answer) ≡ 0 → ⊥) →
-      lentFits (w .grid) call ≡ lentServes (w .grid) lent → Agrees w call (tested .answer) w
-  common-refused is refused e = is .refused refused call (ownPlaces call) (record { fit = e; own = refl })
+      lentFits (w .grid) call ≡ lentServes (w .grid) lent → meaning call .limiters ≡ limitersTested lent → Agrees w call (tested .answer) w
+  common-refused is refused e l = is .refused refused call (ownPlaces call) (record { fit = e; limiters = l; own = refl })
 
   pub common-placed : {answer : Answer} {Found : Type 0} → IsTested w lent tested → (numberOf (tested .answer) ≡ 0 → ⊥) →
-      lentFits (w .grid) call ≡ lentServes (w .grid) lent → answer ≡ tested .answer → IsPlaced w (Like w call) answer Found
-  common-placed is refused e same =
+      lentFits (w .grid) call ≡ lentServes (w .grid) lent → meaning call .limiters ≡ limitersTested lent → answer ≡ tested .answer →
+      IsPlaced w (Like w call) answer Found
+  common-placed is refused e l same =
       record {
         refused =
             λ _ other rest like.
-            rw same (is .refused refused other (ownPlaces other) (record { fit = like .lent ∙ e; own = refl }));
+            rw same (is .refused refused other (ownPlaces other) (record { fit = like .lent ∙ e; limiters = like .limiters ∙ l; own = refl }));
         found = λ z. absurd (refused (rw same at z));
       }

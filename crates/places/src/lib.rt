@@ -1,17 +1,18 @@
-// Places 1 to 4, which every call tests: the grid, the lent lengths, the air, the tracers' totals; and place 8, of both sweeps.
+// Places 1 to 4, which every call tests: the grid, the lent lengths, the air, the tracers' totals; 21, the limiters, of the calls that move air; and place 8, of both sweeps.
 // The tests of whole buffers have no early exit, so that the compiler can vectorise them, and each buffer is read once.
 ghost use mathlib.Core.Path.{_≡_};
 ghost use Prim.Native.Nat.{_+_, _*_, _≤_, _<_};
 ghost use lib.ListN.{length};
 ghost use lib.Dec.{leb};
 ghost use lib.IntN.{natAbs};
-ghost use Rattle.model.specs.Limits.{totalLimit, mostCells};
+ghost use Rattle.model.specs.Limits.{totalLimit, mostCells, blockNumbers};
 ghost use Rattle.model.specs.Basic.{at, sum, every};
 ghost use Rattle.model.specs.World.{airFits};
 ghost use Rattle.model.specs.Sweep.{flux};
 ghost use Rattle.units.specs.Grid.{gridOf, worldOf, InRange};
 ghost use Rattle.places.specs.Totals.{IsTotal, TracersFit, AreTotals};
-ghost use Rattle.places.specs.Tested.{lentServes, lengthsServe, IsTested};
+ghost use Rattle.places.specs.Tested.{lentServes, lengthsServe, ledgerServes, IsTested};
+use limiters::limiters_fit;
 use scheme::split;
 use std::num::wrapping_add_u32;
 use units::AIR_LIMIT;
@@ -166,7 +167,7 @@ pub fn lent_fits(g: Grid, lent: Lent) -> bool
     }
 }
 
-// The answer of places 1 to 4, and every tracer's total where all four are passed.
+// The answer of these places, and every tracer's total where all are passed.
 pub struct Tested {
     pub answer: Answer,
     pub totals: [u64; MOST_TRACERS],
@@ -192,7 +193,20 @@ pub fn lengths_fit(g: Grid, air: &[u32], tracers: &[u32], ledger: &[u32], lent: 
     amounts & (ledger.len() == n * LEDGER_BLOCK) & lent_fits(g, lent)
 }
 
-// Places 1 to 4, in this order.
+// Place 21: whether the limiters of the first n tracers are sound, in a call that is lent fluxes or a table; other calls do not test them.
+pub fn limiters_serve(ledger: &[u32], n: usize, lent: Lent) -> bool
+    requires { ⌜ (n * blockNumbers ≤ length (now ledger)) × (n ≤ 8) ⌝ }
+    ensures { λ r. ⌜ r ≡ ledgerServes (now (ledger .entry)) n lent ⌝ }
+{
+    match lent {
+        Lent::Nothing => true,
+        Lent::RowFluxes(_) => limiters_fit(ledger, n),
+        Lent::LayerFluxes(_) => limiters_fit(ledger, n),
+        Lent::Table(_) => limiters_fit(ledger, n),
+    }
+}
+
+// Places 1 to 4 and, where the call tests it, 21, in this order.
 pub fn common_places(g: Grid, air: &[u32], tracers: &[u32], ledger: &[u32], lent: Lent) -> Tested
     ensures { λ r. ⌜ IsTested (worldOf g (now (air .entry)) (now (tracers .entry)) (now (ledger .entry))) lent r ⌝ }
 {
@@ -209,6 +223,9 @@ pub fn common_places(g: Grid, air: &[u32], tracers: &[u32], ledger: &[u32], lent
     let sums = totals(tracers, world_cells(g) as usize, n);
     if totals_fit(sums, n) {} else {
         return refused(Refusal::Totals);
+    }
+    if limiters_serve(ledger, n, lent) {} else {
+        return refused(Refusal::Limiters);
     }
     Tested {
         answer: Answer::Accepted(0),

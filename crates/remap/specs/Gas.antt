@@ -9,7 +9,7 @@ use lib.Dec.{eqb}
 use lib.ListN.{length}
 use Rattle.model.specs.Limits.{totalLimit}
 use Rattle.model.specs.Basic.{at, sum}
-use Rattle.model.specs.Scheme.{mismatch}
+use Rattle.model.specs.Limiters.{Limiter, ruleFor}
 use Rattle.model.specs.Remap.{airAbove, newTracer, layers}
 use Rattle.model.specs.Laws.Basic.{sum-tab}
 use Rattle.substep.specs.Pieces.{HasAir, AreRatios}
@@ -20,9 +20,9 @@ use Rattle.remap.specs.Columns.{ColumnNeed, columnOf, columnSet, set-len
 abbrev pub capAt : ℕ → ℕ → Bool
 capAt cells c = eqb c 0 || eqb (suc c) cells
 
--- what new layer i shall have in the column at place c, whose old air is a
-abbrev pub layerNew : ℕ → ℕ → List ℕ → List ℕ → List ℕ → ℕ → ℕ → ℕ
-layerNew k cells table a gas c i = newTracer table (airAbove a k) (layers mismatch (capAt cells c) k a (columnOf k cells gas c)) i
+-- what new layer i shall have, by a limiter, in the column at place c, whose old air is a
+abbrev pub layerNew : Limiter → ℕ → ℕ → List ℕ → List ℕ → List ℕ → ℕ → ℕ → ℕ
+layerNew l k cells table a gas c i = newTracer table (airAbove a k) (layers (ruleFor l) (capAt cells c) k a (columnOf k cells gas c)) i
 
 -- air, edges that serve, and a tracer within the limit
 pub record GasNeed (gas air e : List ℕ) (c cells k : ℕ) : Type 0 where
@@ -31,11 +31,11 @@ pub record GasNeed (gas air e : List ℕ) (c cells k : ℕ) : Type 0 where
   pub total : sum k (at (columnOf k cells gas c)) ≤ totalLimit
 
 -- the column is remapped, whatever table the edges are of, and all else is as it was
-pub record IsGasMoved (gas air e : List ℕ) (c cells k : ℕ) (next : List ℕ) : Type 0 where
+pub record IsGasMoved (l : Limiter) (gas air e : List ℕ) (c cells k : ℕ) (next : List ℕ) : Type 0 where
   pub long : length next ≡ length gas
   pub is :
       (table : List ℕ) → AreEdges table (airAbove (firsts k air) k) k e →
-      next ≡ columnSet cells gas c (layerNew k cells table (firsts k air) gas c) k
+      next ≡ columnSet cells gas c (layerNew l k cells table (firsts k air) gas c) k
 
 -- room for the ratios of the column's layers, which have air
 pub ratios-need :
@@ -62,18 +62,19 @@ module _
         room = room;
       }
 
-  pub gas-moved : {cap : Bool} {new next : List ℕ} {steps ends : ℕ} → cap ≡ eqb c 0 || eqb (c + 1) cells → IsRemapped cap k air old e new steps ends →
-      next ≡ columnSet cells gas c (at new) k → IsGasMoved gas air e c cells k next
-  gas-moved {cap} {new} cap-is made stored =
+  pub gas-moved :
+      {l : Limiter} {cap : Bool} {new next : List ℕ} {steps ends : ℕ} → cap ≡ eqb c 0 || eqb (c + 1) cells →
+      IsRemapped l cap k air old e new steps ends → next ≡ columnSet cells gas c (at new) k → IsGasMoved l gas air e c cells k next
+  gas-moved {l} {cap} {new} cap-is made stored =
       record {
         long = ap length stored ∙ set-length cells gas c (at new) k;
         is =
             λ table are.
             stored ∙
-            set-ext cells gas c (at new) (layerNew k cells table (firsts k air) gas c) k
+            set-ext cells gas c (at new) (layerNew l k cells table (firsts k air) gas c) k
             (λ i h.
             made .is table are i h ∙
-            ap₂ (λ (b : Bool) (l : List ℕ). newTracer table (airAbove (firsts k air) k) (layers mismatch b k (firsts k air) l) i)
+            ap₂ (λ (b : Bool) (amounts : List ℕ). newTracer table (airAbove (firsts k air) k) (layers (ruleFor l) b k (firsts k air) amounts) i)
             (cap-is ∙ ap (λ (n : ℕ). eqb c 0 || eqb n cells) (add-one c))
             loaded);
       }

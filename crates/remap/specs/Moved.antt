@@ -7,14 +7,15 @@ use native.Mathlib.Numerals.{add-one}
 use native.Mathlib.Omega.{arith}
 use lib.ListN.{length, take}
 use lib.Seq.{take-add, take-all}
-use Rattle.model.specs.Limits.{totalLimit, mostLayers, mostLayerCells, mostTracers}
+use Rattle.model.specs.Limits.{totalLimit, mostLayers, mostLayerCells, mostTracers, blockNumbers}
 use Rattle.model.specs.Basic.{at, part, sum, joined, tabFrom, tab}
-use Rattle.model.specs.Scheme.{mismatch}
+use Rattle.model.specs.Limiters.{Limiter, ruleFor}
 use Rattle.model.specs.Remap.{airAbove, newAir, newTracer, layers, columnCount}
 use Rattle.model.specs.Walk.{budget}
 use Rattle.model.specs.Laws.Basic.{sum-none, sum-more, sum-tab, sum-columns, term-le-sum}
 use Rattle.model.specs.Laws.Entries.{joined-more, joined-ext}
 use Rattle.model.specs.Laws.Column.{Edges}
+use Rattle.units.specs.Limiter.{limiterAt}
 use Rattle.units.specs.EachTracer.{length-gas}
 use Rattle.line.specs.Line.{IsNewAir, Served}
 use Rattle.column.specs.Column.{firsts}
@@ -29,18 +30,18 @@ use Rattle.remap.specs.Tracers.{gasOf, ColumnTracersNeed, AreTracersMove
 abbrev pub airNew : ℕ → ℕ → List ℕ → List ℕ → ℕ → ℕ → ℕ
 airNew k cells table air i c = newAir table (columnSum k cells air c) i
 
-abbrev pub gasNew : ℕ → ℕ → List ℕ → List ℕ → List ℕ → ℕ → ℕ → ℕ
-gasNew k cells table air gas i c = layerNew k cells table (columnOf k cells air c) gas c i
+abbrev pub gasNew : Limiter → ℕ → ℕ → List ℕ → List ℕ → List ℕ → ℕ → ℕ → ℕ
+gasNew l k cells table air gas i c = layerNew l k cells table (columnOf k cells air c) gas c i
 
 -- the air, a tracer and all tracers, when all columns are remapped
 abbrev pub airMoved : ℕ → ℕ → List ℕ → List ℕ → List ℕ
 airMoved k cells table air = tab (k * cells) (λ i. airNew k cells table air (i / cells) (i % cells))
 
-abbrev pub gasMoved : ℕ → ℕ → List ℕ → List ℕ → List ℕ → List ℕ
-gasMoved k cells table air gas = tab (k * cells) (λ i. gasNew k cells table air gas (i / cells) (i % cells))
+abbrev pub gasMoved : Limiter → ℕ → ℕ → List ℕ → List ℕ → List ℕ → List ℕ
+gasMoved l k cells table air gas = tab (k * cells) (λ i. gasNew l k cells table air gas (i / cells) (i % cells))
 
-abbrev pub allMoved : ℕ → ℕ → ℕ → List ℕ → List ℕ → List ℕ → List ℕ
-allMoved n k cells table air tracers = joined (tab n (λ t. gasMoved k cells table air (gasOf k cells tracers t)))
+abbrev pub allMoved : ℕ → ℕ → ℕ → List ℕ → List ℕ → List ℕ → List ℕ → List ℕ
+allMoved n k cells ledger table air tracers = joined (tab n (λ t. gasMoved (limiterAt ledger t) k cells table air (gasOf k cells tracers t)))
 
 -- every column's edges serve
 pub record ColumnsAirNeed (air table : List ℕ) (cells k : ℕ) : Type 0 where
@@ -48,28 +49,30 @@ pub record ColumnsAirNeed (air table : List ℕ) (cells k : ℕ) : Type 0 where
   pub columns : ColumnsNeed air table cells k
   pub edges : (c : ℕ) → c < cells → Edges k table (columnSum k cells air c)
 
-pub record ColumnsTracersNeed (tracers air table : List ℕ) (cells k n : ℕ) : Type 0 where
+pub record ColumnsTracersNeed (tracers ledger air table : List ℕ) (cells k n : ℕ) : Type 0 where
   pub moves : ColumnsAirNeed air table cells k
   pub someTracers : 1 ≤ n
   pub few : n ≤ mostTracers
   pub long : length tracers ≡ n * (k * cells)
+  pub blocks : length ledger ≡ n * blockNumbers
   pub totals : (t : ℕ) → t < n → sum (k * cells) (at (gasOf k cells tracers t)) ≤ totalLimit
 
 -- all columns are remapped; the walks, one for each tracer and column, take no more steps than their budgets together, each one less than its own;
 -- the count is exactly the columns' counts added up
-pub record AreMoved (tracers air table : List ℕ) (cells k n : ℕ) (newTracers newAir : List ℕ) (steps count : ℕ) : Type 0 where
-  pub tracersAre : newTracers ≡ allMoved n k cells table air tracers
+pub record AreMoved (tracers ledger air table : List ℕ) (cells k n : ℕ) (newTracers newAir : List ℕ) (steps count : ℕ) : Type 0 where
+  pub tracersAre : newTracers ≡ allMoved n k cells ledger table air tracers
   pub airIs : newAir ≡ airMoved k cells table air
   pub most : steps ≤ n * cells * budget k
   pub exact : steps + n * cells ≡ n * cells * budget k
   pub counted : count ≡ sum cells (countAt k cells table air)
 
 -- the first c columns are
-pub record MovedUpto (tracers air table : List ℕ) (cells k n c : ℕ) (nowTracers nowAir : List ℕ) (steps count : ℕ) : Type 0 where
+pub record MovedUpto (tracers ledger air table : List ℕ) (cells k n c : ℕ) (nowTracers nowAir : List ℕ) (steps count : ℕ) : Type 0 where
   pub airUpto : Upto k cells (airNew k cells table air) air c nowAir
   pub long : length nowTracers ≡ length tracers
   pub each :
-      (t : ℕ) → t < n → Upto k cells (gasNew k cells table air (gasOf k cells tracers t)) (gasOf k cells tracers t) c (gasOf k cells nowTracers t)
+      (t : ℕ) → t < n →
+      Upto k cells (gasNew (limiterAt ledger t) k cells table air (gasOf k cells tracers t)) (gasOf k cells tracers t) c (gasOf k cells nowTracers t)
   pub made : steps + n * c ≡ n * c * budget k
   pub counted : count ≡ sum c (countAt k cells table air)
   pub fewPairs : count ≤ budget mostLayers * c
@@ -126,12 +129,13 @@ column-total {gas} {cells} {k} {c} {new} {now} long h upto total =
     omega arith
 
 gas-more :
-    {gas air table : List ℕ} {cells k c : ℕ} {now a e next : List ℕ} → length gas ≡ k * cells → c < cells → IsColumn air table c cells k a e →
-    Upto k cells (gasNew k cells table air gas) gas c now → IsGasMoved now a e c cells k next → Upto k cells (gasNew k cells table air gas) gas (c + 1) next
-gas-more {gas} {air} {table} {cells} {k} {c} {now} {a} long h is upto moved =
-    upto-more long h upto (layerNew k cells table (firsts k a) now c) (moved .is table (column-edges is))
+    {l : Limiter} {gas air table : List ℕ} {cells k c : ℕ} {now a e next : List ℕ} → length gas ≡ k * cells → c < cells → IsColumn air table c cells k a e →
+    Upto k cells (gasNew l k cells table air gas) gas c now → IsGasMoved l now a e c cells k next →
+    Upto k cells (gasNew l k cells table air gas) gas (c + 1) next
+gas-more {l} {gas} {air} {table} {cells} {k} {c} {now} {a} long h is upto moved =
+    upto-more long h upto (layerNew l k cells table (firsts k a) now c) (moved .is table (column-edges is))
     (λ i p.
-    ap₂ (λ (x y : List ℕ). newTracer table (airAbove x k) (layers mismatch (capAt cells c) k x y) i) (is .airIs) (column-left long h upto))
+    ap₂ (λ (x y : List ℕ). newTracer table (airAbove x k) (layers (ruleFor l) (capAt cells c) k x y) i) (is .airIs) (column-left long h upto))
 
 -- ---- all tracers, and the air
 -- amounts are their parts joined
@@ -143,11 +147,11 @@ parts-joined (suc n) m l =
     ap (λ (x : List ℕ). x ++ part l (n * m) m) (parts-joined n m l) ∙
     sym (joined-more n (λ t. part l (t * m) m)) ∙ ap (λ (i : ℕ). joined (tab i (λ t. part l (t * m) m))) (add-one n)
 
-module _ {tracers air table : List ℕ} {cells k n : ℕ} (need : ColumnsTracersNeed tracers air table cells k n) where
+module _ {tracers ledger air table : List ℕ} {cells k n : ℕ} (need : ColumnsTracersNeed tracers ledger air table cells k n) where
   gas-long : {t : ℕ} → t < n → length (gasOf k cells tracers t) ≡ k * cells
   gas-long h = length-gas tracers n (k * cells) (need .long) h
 
-  pub moved-none : MovedUpto tracers air table cells k n 0 tracers air 0 0
+  pub moved-none : MovedUpto tracers ledger air table cells k n 0 tracers air 0 0
   moved-none =
       record {
         airUpto = upto-none (need .moves .columns .long);
@@ -160,7 +164,7 @@ module _ {tracers air table : List ℕ} {cells k n : ℕ} (need : ColumnsTracers
 
   module _
       {c : ℕ} (h : c < cells) {nowTracers nowAir : List ℕ} {steps count : ℕ}
-      (upto : MovedUpto tracers air table cells k n c nowTracers nowAir steps count) where
+      (upto : MovedUpto tracers ledger air table cells k n c nowTracers nowAir steps count) where
     -- the sum of the steps fits
     pub all-steps : (s : ℕ) → s + n ≡ n * budget k → steps + s ≤ mostTracers * mostLayerCells * budget mostLayers
     all-steps s made =
@@ -174,7 +178,7 @@ module _ {tracers air table : List ℕ} {cells k n : ℕ} (need : ColumnsTracers
       old : IsColumn air table c cells k a e
       old = column-old (need .moves) h (upto .airUpto) is
 
-      pub tracers-need : ColumnTracersNeed nowTracers a e c cells k n
+      pub tracers-need : ColumnTracersNeed nowTracers ledger a e c cells k n
       tracers-need =
           record {
             spans = column-spans (need .moves .columns .fit) (need .moves .columns .some) old (need .moves .edges c h);
@@ -183,6 +187,7 @@ module _ {tracers air table : List ℕ} {cells k n : ℕ} (need : ColumnsTracers
             someTracers = need .someTracers;
             fewTracers = need .few;
             long = upto .long ∙ need .long;
+            blocks = need .blocks;
             totals = λ t p. column-total (gas-long p) h (upto .each t p) (need .totals t p);
           }
 
@@ -190,9 +195,9 @@ module _ {tracers air table : List ℕ} {cells k n : ℕ} (need : ColumnsTracers
       pub pairs-here : {ends : ℕ} → IsCounted k a e ends → countAt k cells table air c + ends ≡ budget k
       pairs-here {ends} counted = ap (λ (l : List ℕ). columnCount k table l + ends) (sym (old .airIs)) ∙ counted .is table (column-edges old)
 
-      pub moved-more : {nextTracers new nextAir : List ℕ} (s : ℕ) {ends : ℕ} → AreTracersMoved nowTracers a e c cells k n nextTracers → s + n ≡ n * budget k →
+      pub moved-more : {nextTracers new nextAir : List ℕ} (s : ℕ) {ends : ℕ} → AreTracersMoved nowTracers ledger a e c cells k n nextTracers → s + n ≡ n * budget k →
           IsCounted k a e ends → IsNewAir k e new → nextAir ≡ columnSet cells nowAir c (at new) k →
-          MovedUpto tracers air table cells k n (c + 1) nextTracers nextAir (steps + s) (count + (budget k - ends))
+          MovedUpto tracers ledger air table cells k n (c + 1) nextTracers nextAir (steps + s) (count + (budget k - ends))
       moved-more s tracersMoved steps-are counted made stored =
           record {
             airUpto = air-more (need .moves) h (upto .airUpto) is made stored;
@@ -203,8 +208,8 @@ module _ {tracers air table : List ℕ} {cells k n : ℕ} (need : ColumnsTracers
             fewPairs = omega (arith, upto .fewPairs, need .moves .columns .fit);
           }
 
-  pub moved-all : {c : ℕ} {nowTracers nowAir : List ℕ} {steps count : ℕ} → cells ≤ c → MovedUpto tracers air table cells k n c nowTracers nowAir steps count →
-      AreMoved tracers air table cells k n nowTracers nowAir steps count
+  pub moved-all : {c : ℕ} {nowTracers nowAir : List ℕ} {steps count : ℕ} → cells ≤ c → MovedUpto tracers ledger air table cells k n c nowTracers nowAir steps count →
+      AreMoved tracers ledger air table cells k n nowTracers nowAir steps count
   moved-all {c} {nowTracers} all upto =
       let done : c ≡ cells = omega (arith, upto .airUpto .inside) in
       let exact = rw done at (upto .made) in

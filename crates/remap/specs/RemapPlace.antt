@@ -66,18 +66,19 @@ module _ {w : World} {table : List ℕ} {p : Placed} (found : ColumnsFound w tab
         edges = rw e (remap-edges table w (none (found .left)));
       }
 
-  pub tracers-need : ColumnsTracersNeed (w .tracers) (w .air) table cells (w .grid .K) (w .grid .N)
+  pub tracers-need : ColumnsTracersNeed (w .tracers) (w .ledger) (w .air) table cells (w .grid .K) (w .grid .N)
   tracers-need =
       record {
         moves = air-need;
         someTracers = in-range (w .grid) (found .fits .grid) .lowN;
         few = in-range (w .grid) (found .fits .grid) .highN;
         long = rw e (found .fits .tracersLength);
+        blocks = found .fits .ledgerLength;
         totals = rw e (found .fits .totals);
       }
 
   pub remap-agrees : {newTracers newAir : List ℕ} {steps count : ℕ} →
-      AreMoved (w .tracers) (w .air) table cells (w .grid .K) (w .grid .N) newTracers newAir steps count →
+      AreMoved (w .tracers) (w .ledger) (w .air) table cells (w .grid .K) (w .grid .N) newTracers newAir steps count →
       Agrees w (remap table) (Accepted count) (withAmounts w newAir newTracers)
   unfolding remapped remappedAir remappedGas remapCount column
   remap-agrees moved =

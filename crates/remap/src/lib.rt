@@ -6,6 +6,7 @@ ghost use lib.Dec.{eqb};
 ghost use lib.ListN.{length};
 ghost use Rattle.model.specs.Basic.{at, every};
 ghost use Rattle.model.specs.Walk.{budget};
+ghost use Rattle.units.specs.Limiter.{limiterOf};
 ghost use Rattle.substep.specs.Pieces.{HasAir, AreRatios};
 ghost use Rattle.column.specs.Column.{firsts};
 ghost use Rattle.column.specs.Gas.{IsCounted};
@@ -21,6 +22,7 @@ ghost use Rattle.units.specs.Grid.{worldOf};
 use column::fill_edges;
 use column::remap_gas;
 use column::table_fits;
+use limiters::limiter_at;
 use line::Walked;
 use line::air_sum;
 use line::edges_serve;
@@ -33,6 +35,7 @@ use scheme::ratio;
 use units::Air;
 use units::Answer;
 use units::Grid;
+use units::Limiter;
 use units::MOST_EDGES;
 use units::MOST_LAYERS;
 use units::Refusal;
@@ -131,8 +134,9 @@ fn is_cap(c: usize, cells: usize) -> bool
     (c == 0) | (c + 1 == cells)
 }
 
-// Remaps one tracer in the column at place c, of which `air` and `e` have the old air and the new edges, by one walk. The lists after k are filled on the way; they are lent, so that they are made once for all tracers.
+// Remaps one tracer, by its limiter, in the column at place c, of which `air` and `e` have the old air and the new edges, by one walk. The lists after k are filled on the way; they are lent, so that they are made once for all tracers.
 fn move_gas(
+    l: Limiter,
     gas: &mut [u32],
     air: &[u32],
     e: &[u64],
@@ -146,18 +150,19 @@ fn move_gas(
     newgas: &mut [u32; MOST_LAYERS],
 ) -> Walked
     requires { ⌜ GasNeed (now gas) (now air) (now e) c cells k ⌝ }
-    ensures { λ r. ⌜ IsGasMoved (now (gas .entry)) (now (air .entry)) (now (e .entry)) c cells k (now (gas .exit)) × (r .steps + 1 ≡ budget k) × IsCounted k (now (air .entry)) (now (e .entry)) (r .ends) ⌝ }
+    ensures { λ r. ⌜ IsGasMoved (limiterOf l) (now (gas .entry)) (now (air .entry)) (now (e .entry)) c cells k (now (gas .exit)) × (r .steps + 1 ≡ budget k) × IsCounted k (now (air .entry)) (now (e .entry)) (r .ends) ⌝ }
 {
     read_ratios(gas, air, c, cells, k, column, q);
     let cap = is_cap(c, cells);
-    let walked = remap_gas(air, column, cap, e, k, q, size, rising, newgas);
+    let walked = remap_gas(l, air, column, cap, e, k, q, size, rising, newgas);
     write_column(newgas, gas, c, cells, k);
     walked
 }
 
-// Remaps the n tracers in that column, one after the other, and gives the steps of their walks together; the ends are those of each of them, since all walks go by the same air and edges.
+// Remaps the n tracers in that column, each by its limiter, one after the other, and gives the steps of their walks together; the ends are those of each of them, since all walks go by the same air and edges.
 fn move_column(
     tracers: &mut [u32],
+    ledger: &[u32],
     air: &[u32],
     e: &[u64],
     c: usize,
@@ -165,8 +170,8 @@ fn move_column(
     k: usize,
     n: usize,
 ) -> Walked
-    requires { ⌜ ColumnTracersNeed (now tracers) (now air) (now e) c cells k n ⌝ }
-    ensures { λ r. ⌜ AreTracersMoved (now (tracers .entry)) (now (air .entry)) (now (e .entry)) c cells k n (now (tracers .exit)) × (r .steps + n ≡ n * budget k) × IsCounted k (now (air .entry)) (now (e .entry)) (r .ends) ⌝ }
+    requires { ⌜ ColumnTracersNeed (now tracers) (now ledger) (now air) (now e) c cells k n ⌝ }
+    ensures { λ r. ⌜ AreTracersMoved (now (tracers .entry)) (now (ledger .entry)) (now (air .entry)) (now (e .entry)) c cells k n (now (tracers .exit)) × (r .steps + n ≡ n * budget k) × IsCounted k (now (air .entry)) (now (e .entry)) (r .ends) ⌝ }
 {
     let mut column = [0u32; MOST_LAYERS];
     let mut q = [0u64; MOST_LAYERS];
@@ -179,7 +184,9 @@ fn move_column(
     while t < n {
         let a = t * (k * cells);
         let b = a + k * cells;
+        let l = limiter_at(ledger, t);
         let walked = move_gas(
+            l,
             &mut tracers[a..b],
             air,
             e,
@@ -208,14 +215,15 @@ struct Moved {
 // Remaps all columns, one after the other. A column's air is written last: the walks go by what it was.
 fn move_columns(
     tracers: &mut [u32],
+    ledger: &[u32],
     air: &mut [u32],
     table: &[u32],
     cells: usize,
     k: usize,
     n: usize,
 ) -> Moved
-    requires { ⌜ ColumnsTracersNeed (now tracers) (now air) (now table) cells k n ⌝ }
-    ensures { λ r. ⌜ AreMoved (now (tracers .entry)) (now (air .entry)) (now (table .entry)) cells k n (now (tracers .exit)) (now (air .exit)) (r .steps) (r .count) ⌝ }
+    requires { ⌜ ColumnsTracersNeed (now tracers) (now ledger) (now air) (now table) cells k n ⌝ }
+    ensures { λ r. ⌜ AreMoved (now (tracers .entry)) (now (ledger .entry)) (now (air .entry)) (now (table .entry)) cells k n (now (tracers .exit)) (now (air .exit)) (r .steps) (r .count) ⌝ }
 {
     let mut columnair = [0u32; MOST_LAYERS];
     let mut e = [0u64; MOST_EDGES];
@@ -224,7 +232,7 @@ fn move_columns(
     let mut c = 0;
     while c < cells {
         read_edges(air, table, c, cells, k, &mut columnair, &mut e);
-        let walked = move_column(tracers, &columnair, &e, c, cells, k, n);
+        let walked = move_column(tracers, ledger, &columnair, &e, c, cells, k, n);
         steps += walked.steps;
         let pairs = 2 * k - walked.ends;
         count += pairs as u32;
@@ -235,7 +243,7 @@ fn move_columns(
     Moved { steps, count }
 }
 
-// Places 1 to 4, 11 and 12; the columns start at cell 0. The count comes with the walks.
+// Places 1 to 4, 21, 11 and 12; the columns start at cell 0. The count comes with the walks.
 fn remap_place(g: Grid, air: &[u32], tracers: &[u32], ledger: &[u32], table: &[u32]) -> Placed
     ensures { λ p. ⌜ IsRemapPlace (worldOf g (now (air .entry)) (now (tracers .entry)) (now (ledger .entry))) (now (table .entry)) p ⌝ }
 {
@@ -271,7 +279,7 @@ pub fn remap(g: Grid, air: &mut [u32], tracers: &mut [u32], ledger: &[u32], tabl
     let cells = layer_cells(g) as usize;
     let k = g.k as usize;
     let n = g.n as usize;
-    let moved = move_columns(tracers, air, table, cells, k, n);
+    let moved = move_columns(tracers, ledger, air, table, cells, k, n);
     let count = moved.count;
     Answer::Accepted(count)
 }

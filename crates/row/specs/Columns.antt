@@ -38,7 +38,7 @@ module _ (w i : ℕ) (h : i < w) where
   pub column-neighbours : (west east : ℕ) → west ≡ westOf w i → east ≡ eastOf w i → Neighbours (ring w) west i east
   unfolding ring cellMismatch
   column-neighbours west east e e' =
-      rw (e, e') (record { low = west-in w i h; own = h; high = east-in w i h; is = λ air gas. refl })
+      rw (e, e') (record { low = west-in w i h; own = h; high = east-in w i h; is = λ l air gas. refl })
 
   -- it is west of the column east of it
   pub back-west : (east : ℕ) → east ≡ eastOf w i → i ≡ westOf w east

@@ -1,6 +1,7 @@
 -- The places that all sweeps of a row have before their own, and what `row_place` finds: where the row starts.
 use Prim.Native.Nat.{ℕ, _+_, _-_, _≤_}
 use mathlib.Core.List.{List, [], _∷_, _++_, append-assoc}
+use mathlib.Core.Bool.{true}
 use mathlib.Core.Path.{_≡_, refl, ap, _∙_}
 use native.Mathlib.Nat.{le-trans}
 use lib.Dec.{eqb}
@@ -20,7 +21,7 @@ use Rattle.places.specs.declared.Tested.{Tested}
 use Rattle.places.specs.declared.Lent.the-variants.{RowFluxes}
 use Rattle.places.specs.Walk.{Left, IsPlaced, Like}
 use Rattle.places.specs.Tested.{IsTested, Passed}
-use Rattle.substep.specs.Lent.{part-lent}
+use Rattle.units.specs.Lent.{part-lent}
 
 -- the layer, the row and the fluxes
 abbrev pub fromFluxes : List ℤ → List Place
@@ -35,6 +36,7 @@ rowPlaces k r fluxes = absent k (λ g. g .K) ∷ fromRow r fluxes
 -- the calls that sweep row r of layer k, each with the places that it has behind these
 pub record SweepsRow (w : World) (k r : ℕ) (fluxes : List ℤ) (call : Call) (rest : List Place) : Type 0 where
   pub lent : lentFits (w .grid) call ≡ eqb (length fluxes) (w .grid .W)
+  pub limiters : meaning call .limiters ≡ true
   pub places : meaning call .places ≡ rowPlaces k r fluxes ++ rest
 
 -- ---- W cells of a world that fits, from cell `first` on, with a flux for each
@@ -80,7 +82,7 @@ module _ {w : World} {k r : ℕ} {fluxes : List ℤ} where
         record {
           is =
               λ call rest sweeps.
-              passed .left .is call (ownPlaces call) (record { fit = sweeps .lent; own = refl }) ∙
+              passed .left .is call (ownPlaces call) (record { fit = sweeps .lent; limiters = sweeps .limiters; own = refl }) ∙
               ap (λ (l : List Place). firstOf l w) (sweeps .places);
         }
 
@@ -90,7 +92,7 @@ module _ {w : World} {k r : ℕ} {fluxes : List ℤ} where
         record {
           refused =
               λ _ call rest sweeps.
-              rw same (is .refused refused call (ownPlaces call) (record { fit = sweeps .lent; own = refl }));
+              rw same (is .refused refused call (ownPlaces call) (record { fit = sweeps .lent; limiters = sweeps .limiters; own = refl }));
           found = λ z. absurd (refused (rw same at z));
         }
 
@@ -100,6 +102,7 @@ module _ {w : World} {k r : ℕ} {fluxes : List ℤ} where
     onward {other} {more} like =
         record {
           lent = like .lent ∙ own .lent;
+          limiters = like .limiters ∙ own .limiters;
           places =
               like .places ∙ ap (λ (l : List Place). l ++ more) (own .places) ∙ append-assoc (rowPlaces k r fluxes) rest more;
         }

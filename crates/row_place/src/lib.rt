@@ -1,4 +1,4 @@
-// Places 1 to 5 and 8 of a sweep of one row in one layer, with substeps or without: where the row starts.
+// Places 1 to 4, 21, 5 and 8 of a sweep of one row in one layer, with substeps or without: where the row starts.
 ghost use Rattle.units.specs.Grid.{worldOf};
 ghost use Rattle.row_place.specs.RowPlace.{IsRowPlace};
 use places::Lent;

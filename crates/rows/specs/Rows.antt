@@ -11,7 +11,7 @@ use Rattle.model.specs.Limits.{mostCells, mostTracers, mostAmounts}
 use Rattle.model.specs.Basic.{part, written, joined, tabFrom, tab}
 use Rattle.model.specs.Laws.Basic.{length-part, length-tab, getD-tab, length-written, length-joined}
 use Rattle.model.specs.Laws.Entries.{entries-more, joined-more, written-middle}
-use Rattle.substep.specs.Lent.{part-lent, put-back, front-lent, front-back, length-front}
+use Rattle.units.specs.Lent.{part-lent, put-back, front-lent, front-back, length-front}
 use Rattle.rows.specs.Gas.{rowOf, Wide, length-row}
 
 -- n tracers of `cells` cells each, and a row of w of them from cell `first` on

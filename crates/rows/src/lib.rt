@@ -1,10 +1,12 @@
 // The row of every tracer: loaded from the lent amounts, carried through a sweep's substeps as an array of 8 arrays of 72 amounts, written back.
 // Every piece of a tracer is taken into a list before any amount changes.
 ghost use mathlib.Core.Path.{_≡_};
+ghost use Rattle.units.specs.Limiter.{limiterOf};
 ghost use Rattle.substep.specs.Faces.{flowOf};
 ghost use Rattle.rows.specs.Gas.{StepNeed, PiecesNeed, ArePieces, rowStepped, StepsNeed, AreSteps};
 ghost use Rattle.rows.specs.Rows.{RowsFit, AreRows, StoreNeed, storedRows};
 ghost use Rattle.rows.specs.Swept.{SweepNeed, AreSwept};
+use limiters::limiter_at;
 use row::copy;
 use row::east_of;
 use row::pass_air;
@@ -15,11 +17,13 @@ use substep::fill_ratios;
 use substep::high_end;
 use substep::low_end;
 use units::Air;
+use units::Limiter;
 use units::MOST_COLUMNS;
 use units::MOST_TRACERS;
 
-// The pieces through each face i: from column i's high end, and from the low end of the column east of it.
+// The pieces through each face i: from column i's high end, and from the low end of the column east of it; l is the tracer's limiter.
 fn fill_pieces(
+    l: Limiter,
     air: &[u32],
     gas: &[u32],
     q: &[u64],
@@ -29,7 +33,7 @@ fn fill_pieces(
     gasdown: &mut [u32],
 )
     requires { ⌜ PiecesNeed (now air) (now gas) (now q) (now airup) (now airdown) (now gasup) (now gasdown) ⌝ }
-    ensures { λ r. ⌜ ArePieces (now (air .entry)) (now (gas .entry)) (flowOf (now (airup .entry)) (now (airdown .entry))) (flowOf (now (gasup .exit)) (now (gasdown .exit))) ⌝ }
+    ensures { λ r. ⌜ ArePieces (limiterOf l) (now (air .entry)) (now (gas .entry)) (flowOf (now (airup .entry)) (now (airdown .entry))) (flowOf (now (gasup .exit)) (now (gasdown .exit))) ⌝ }
 {
     let w = air.len();
     let mut i = 0;
@@ -39,8 +43,8 @@ fn fill_pieces(
         let next = east_of(w, east);
         let eastward = Air(airup[i]);
         let westward = Air(airdown[i]);
-        let p = high_end(air, gas, q, west, i, east, eastward);
-        let r = low_end(air, gas, q, i, east, next, westward);
+        let p = high_end(l, air, gas, q, west, i, east, eastward);
+        let r = low_end(l, air, gas, q, i, east, next, westward);
         gasup[i] = p.0;
         gasdown[i] = r.0;
         i += 1;
@@ -48,34 +52,45 @@ fn fill_pieces(
 }
 
 // A tracer's amounts in a row after one substep.
-fn step_gas(gas: &mut [u32], air: &[u32], airup: &[u32], airdown: &[u32])
+fn step_gas(l: Limiter, gas: &mut [u32], air: &[u32], airup: &[u32], airdown: &[u32])
     requires { ⌜ StepNeed (now gas) (now air) (now airup) (now airdown) ⌝ }
-    ensures { λ r. ⌜ now (gas .exit) ≡ rowStepped (now (gas .entry)) (now (air .entry)) (now (airup .entry)) (now (airdown .entry)) ⌝ }
+    ensures { λ r. ⌜ now (gas .exit) ≡ rowStepped (limiterOf l) (now (gas .entry)) (now (air .entry)) (now (airup .entry)) (now (airdown .entry)) ⌝ }
 {
     let mut q = [0u64; MOST_COLUMNS];
     let mut gasup = [0u32; MOST_COLUMNS];
     let mut gasdown = [0u32; MOST_COLUMNS];
     fill_ratios(air, &gas[..], air.len(), &mut q);
-    fill_pieces(air, &gas[..], &q, airup, airdown, &mut gasup, &mut gasdown);
+    fill_pieces(
+        l,
+        air,
+        &gas[..],
+        &q,
+        airup,
+        airdown,
+        &mut gasup,
+        &mut gasdown,
+    );
     pass_gas(gas, &gasup, &gasdown);
 }
 
-// The rows of the first `tracers` tracers after one substep.
+// The rows of the first `tracers` tracers after one substep, each with the limiter of its block of the ledger.
 fn step_rows(
     mut rows: [[u32; MOST_COLUMNS]; MOST_TRACERS],
+    ledger: &[u32],
     air: &[u32],
     airup: &[u32],
     airdown: &[u32],
     tracers: usize,
 ) -> [[u32; MOST_COLUMNS]; MOST_TRACERS]
-    requires { ⌜ StepsNeed tracers rows (now air) (now airup) (now airdown) ⌝ }
-    ensures { λ r. ⌜ AreSteps tracers rows (now (air .entry)) (now (airup .entry)) (now (airdown .entry)) r ⌝ }
+    requires { ⌜ StepsNeed tracers rows (now ledger) (now air) (now airup) (now airdown) ⌝ }
+    ensures { λ r. ⌜ AreSteps tracers rows (now (ledger .entry)) (now (air .entry)) (now (airup .entry)) (now (airdown .entry)) r ⌝ }
 {
     let w = air.len();
     let mut t = 0;
     while t < tracers {
+        let l = limiter_at(ledger, t);
         let mut row = rows[t];
-        step_gas(&mut row[0..w], air, airup, airdown);
+        step_gas(l, &mut row[0..w], air, airup, airdown);
         rows[t] = row;
         t += 1;
     }
@@ -132,13 +147,14 @@ pub fn store_rows(
 // The rows of the first `tracers` tracers after n substeps; these are made in the row's lent air too.
 pub fn sweep_rows(
     rows: [[u32; MOST_COLUMNS]; MOST_TRACERS],
+    ledger: &[u32],
     air: &mut [u32],
     fluxes: &[i32],
     n: u32,
     tracers: usize,
 ) -> [[u32; MOST_COLUMNS]; MOST_TRACERS]
-    requires { ⌜ SweepNeed rows (now air) (now fluxes) n tracers ⌝ }
-    ensures { λ r. ⌜ AreSwept rows (now (air .entry)) (now (fluxes .entry)) n tracers (now (air .exit)) r ⌝ }
+    requires { ⌜ SweepNeed rows (now ledger) (now air) (now fluxes) n tracers ⌝ }
+    ensures { λ r. ⌜ AreSwept rows (now (ledger .entry)) (now (air .entry)) (now (fluxes .entry)) n tracers (now (air .exit)) r ⌝ }
 {
     let mut current = rows;
     let mut airup = [0u32; MOST_COLUMNS];
@@ -146,7 +162,7 @@ pub fn sweep_rows(
     let mut s = 0;
     while s < n {
         fill_parts(fluxes, n, s + 1, &mut airup, &mut airdown);
-        let next = step_rows(current, &air[..], &airup, &airdown, tracers);
+        let next = step_rows(current, ledger, &air[..], &airup, &airdown, tracers);
         current = next;
         pass_air(air, &airup, &airdown);
         s += 1;

@@ -1,14 +1,21 @@
 // The leaves of the scheme: ratio, mismatch, piece, the two directions of a flux, and its parts.
 ghost use mathlib.Core.Path.{_≡_};
 ghost use Prim.Native.Nat.{_≤_, _<_, _*_, _-_, min, max};
-ghost use Rattle.scheme.specs.Leaves.{mismatchOf, IsMismatch, Giver, IsPiece, IsSplit, IsFluxPart};
+ghost use Rattle.units.specs.Limiter.{limiterOf};
+ghost use Rattle.scheme.specs.Leaves.{mismatchOf, halfLimit, IsMismatch, Giver, IsPiece, IsSplit, IsFluxPart};
 ghost use Rattle.model.specs.Scheme as model;
 use units::Air;
+use units::Limiter;
 use units::Mismatch;
 use units::SCALE;
 use units::Tracer;
 
 const TWICE_SCALE: u64 = 2 * SCALE;
+
+// Two of the three limiters; any other number is taken for the first, the present one.
+const POSITIVE: u32 = 2;
+
+const FIXED: u32 = 3;
 
 // What passes a face towards its high side and towards its low side; one of the two is 0.
 pub struct Flux {
@@ -44,17 +51,43 @@ fn above(a: u64, b: u64) -> u64
     if b < a { a - b } else { 0 }
 }
 
-// The two limits of document 01 are one: twice the lesser of the distances a and b to the least and to the greatest of the three.
-// Where q lies between its neighbours, a and b together are |qb − qa|; else one of them is 0, and so is the size.
-pub fn mismatch(qa: u64, q: u64, qb: u64) -> Mismatch
-    ensures { λ d. ⌜ IsMismatch qa q qb d ⌝ }
+// The lesser of x and 2·y. Halves are compared, since 2·y may pass 64 bits.
+fn at_most_twice(x: u64, y: u64) -> u64
+    ensures { λ r. ⌜ r ≡ min x (2 * y) ⌝ }
+{
+    if x / 2 < y { x } else { 2 * y }
+}
+
+// The lesser of the distances from q down to `low` and up to `high`; 0 where q is outside them.
+fn between(low: u64, q: u64, high: u64) -> u64
+    ensures { λ r. ⌜ r ≡ min (q - low) (high - q) ⌝ }
+{
+    lesser(above(q, low), above(high, q))
+}
+
+// Half of a mismatch's limit: by the positive limiter the ratio itself, by the fixed one its distance to the nearer bound, by the
+// present one that to the nearer of its neighbours.
+fn half_limit(l: Limiter, low: u64, q: u64, high: u64) -> u64
+    ensures { λ r. ⌜ r ≡ halfLimit (limiterOf l) low q high ⌝ }
+{
+    if l.number == POSITIVE {
+        return q;
+    }
+    if l.number == FIXED {
+        return between(l.lo, q, l.hi);
+    }
+    between(low, q, high)
+}
+
+// The mismatch of a cell of ratio q between neighbours of the ratios qa and qb, by its tracer's limiter.
+pub fn mismatch(l: Limiter, qa: u64, q: u64, qb: u64) -> Mismatch
+    ensures { λ d. ⌜ IsMismatch (limiterOf l) qa q qb d ⌝ }
 {
     let low = lesser(qa, qb);
     let high = greater(qa, qb);
-    let a = above(q, low);
-    let b = above(high, q);
+    let limit = half_limit(l, low, q, high);
     Mismatch {
-        size: lesser((a + b) / 2, 2 * lesser(a, b)),
+        size: at_most_twice((high - low) / 2, limit),
         positive: qa <= qb,
     }
 }

@@ -5,9 +5,9 @@ use Prim.Native.Nat.{ℕ}
 abbrev pub programAmounts : ℕ
 programAmounts = 4096
 
--- the numbers of the ledger, 51 for each of two tracers
+-- the numbers of the ledger, 56 for each of two tracers
 abbrev pub programLedger : ℕ
-programLedger = 102
+programLedger = 112
 
 -- the faces of a layer: 72 columns and a layer of 2,048 cells
 abbrev pub programFaces : ℕ

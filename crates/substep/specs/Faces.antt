@@ -12,7 +12,7 @@ use Rattle.model.specs.World.{airFits}
 use Rattle.model.specs.Sweep.{Mesh, Flow, leaving, entering, afterFlow, allowed, parts, pieces}
 use Rattle.model.specs.Laws.Basic.{tab-ext, every-ext}
 use Rattle.model.specs.Laws.Entries.{entries-more}
-use Rattle.model.specs.Scheme.{mismatch}
+use Rattle.model.specs.Scheme.{Rule}
 use Rattle.model.specs.Laws.Mesh.{Regular, leaving-times, entering-times}
 
 -- the flow that two lists hold
@@ -76,19 +76,19 @@ module _ (mesh : Mesh) (regular : Regular mesh) {one other : Flow} (same : Same 
       every-ext (mesh .cells) _ _
       (λ c h. ap₂ (λ (x : ℕ) (m : List ℕ). leb x (at l c) && airFits (at m c)) (same-leaving c h) (same-after l))
 
-  same-pieces : (air gas : List ℕ) → Same (mesh .faces) (pieces mismatch mesh one air gas) (pieces mismatch mesh other air gas)
+  same-pieces : (rule : Rule) (air gas : List ℕ) → Same (mesh .faces) (pieces rule mesh one air gas) (pieces rule mesh other air gas)
   unfolding pieces
-  same-pieces air gas =
+  same-pieces rule air gas =
       record {
-        high = λ f h. ap (λ (m : ℕ). pieces mismatch mesh (record { toHigh = λ k. m; toLow = λ k. m }) air gas .toHigh f) (same .high f h);
-        low = λ f h. ap (λ (m : ℕ). pieces mismatch mesh (record { toHigh = λ k. m; toLow = λ k. m }) air gas .toLow f) (same .low f h);
+        high = λ f h. ap (λ (m : ℕ). pieces rule mesh (record { toHigh = λ k. m; toLow = λ k. m }) air gas .toHigh f) (same .high f h);
+        low = λ f h. ap (λ (m : ℕ). pieces rule mesh (record { toHigh = λ k. m; toLow = λ k. m }) air gas .toLow f) (same .low f h);
       }
 
 -- a tracer's amounts after a substep
-abbrev pub stepped : Mesh → Flow → List ℕ → List ℕ → List ℕ
-stepped mesh flow air gas = afterFlow mesh (pieces mismatch mesh flow air gas) gas
+abbrev pub stepped : Rule → Mesh → Flow → List ℕ → List ℕ → List ℕ
+stepped rule mesh flow air gas = afterFlow mesh (pieces rule mesh flow air gas) gas
 
 pub same-stepped :
     (mesh : Mesh) → Regular mesh → {one other : Flow} → Same (mesh .faces) one other →
-    (air gas : List ℕ) → stepped mesh one air gas ≡ stepped mesh other air gas
-same-stepped mesh regular same air gas = same-after mesh regular (same-pieces mesh regular same air gas) gas
+    (rule : Rule) (air gas : List ℕ) → stepped rule mesh one air gas ≡ stepped rule mesh other air gas
+same-stepped mesh regular same rule air gas = same-after mesh regular (same-pieces mesh regular same rule air gas) gas

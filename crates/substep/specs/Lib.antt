@@ -1,4 +1,3 @@
 pub mod Faces
 pub mod Cells
 pub mod Pieces
-pub mod Lent

@@ -8,12 +8,13 @@ use native.Mathlib.Omega.{arith}
 use lib.ListN.{length}
 use Rattle.model.specs.Limits.{airLimit, totalLimit}
 use Rattle.model.specs.Basic.{at, sum}
-use Rattle.model.specs.Scheme.{Mismatch, mismatch, highPiece, lowPiece}
+use Rattle.model.specs.Scheme.{Mismatch, highPiece, lowPiece}
+use Rattle.model.specs.Limiters.{Limiter, ruleFor}
 use Rattle.model.specs.Sweep.{Mesh, Flow, afterFlow, allowed, cellRatio, cellMismatch, pieces}
 use Rattle.model.specs.Laws.Basic.{term-le-sum}
 use Rattle.model.specs.Laws.Mesh.{Regular}
 use Rattle.model.specs.Laws.Range.{high-leaves, low-leaves}
-use Rattle.model.specs.Laws.Scheme.{mismatch-limited}
+use Rattle.model.specs.Laws.Limiters.{limiter-limited}
 use Rattle.model.specs.Laws.Substep.{AirIn, Covers, air-bounds, allowed-is, piece-up, piece-down, pieces-covered, gas-after-flow-le}
 use Rattle.substep.specs.Faces.{Same, same-leaving, same-after, stepped}
 use Rattle.substep.specs.Cells.{Moves}
@@ -55,7 +56,7 @@ pub record Neighbours (mesh : Mesh) (a c b : ℕ) : Type 0 where
   pub low : a < mesh .cells
   pub own : c < mesh .cells
   pub high : b < mesh .cells
-  pub is : (air gas : List ℕ) → cellMismatch mismatch mesh air gas c ≡ mismatch (cellRatio air gas a) (cellRatio air gas c) (cellRatio air gas b)
+  pub is : (l : Limiter) (air gas : List ℕ) → cellMismatch (ruleFor l) mesh air gas c ≡ ruleFor l (cellRatio air gas a) (cellRatio air gas c) (cellRatio air gas b)
 
 -- cell c of lists that are long enough can give m units of its air
 pub record PieceNeed (air gas q : List ℕ) (a c b m : ℕ) : Type 0 where
@@ -70,26 +71,26 @@ pub record PieceNeed (air gas q : List ℕ) (a c b m : ℕ) : Type 0 where
   pub part : m ≤ at air c
   pub ratio : at q c ≡ cellRatio air gas c
 
--- the mismatch that the ratios give
-abbrev pub mismatchIn : List ℕ → ℕ → ℕ → ℕ → Mismatch
-mismatchIn q a c b = mismatch (at q a) (at q c) (at q b)
+-- the mismatch that a limiter gives from the ratios
+abbrev pub mismatchIn : Limiter → List ℕ → ℕ → ℕ → ℕ → Mismatch
+mismatchIn l q a c b = ruleFor l (at q a) (at q c) (at q b)
 
 -- it is the cell's
-module _ {mesh : Mesh} {air gas q : List ℕ} (ratios : AreRatios (mesh .cells) air gas q) {a c b : ℕ} (near : Neighbours mesh a c b) where
-  mismatch-is : mismatchIn q a c b ≡ cellMismatch mismatch mesh air gas c
+module _ (l : Limiter) {mesh : Mesh} {air gas q : List ℕ} (ratios : AreRatios (mesh .cells) air gas q) {a c b : ℕ} (near : Neighbours mesh a c b) where
+  mismatch-is : mismatchIn l q a c b ≡ cellMismatch (ruleFor l) mesh air gas c
   mismatch-is =
-      (λ i. mismatch (ratios .is a (near .low) i) (ratios .is c (near .own) i) (ratios .is b (near .high) i)) ∙
-      sym (near .is air gas)
+      (λ i. ruleFor l (ratios .is a (near .low) i) (ratios .is c (near .own) i) (ratios .is b (near .high) i)) ∙
+      sym (near .is l air gas)
 
   -- and so is the piece of m units of air
   module _ (m : ℕ) where
-    pub piece-high : highPiece (mismatchIn q a c b) (at air c) (at gas c) m ≡ highPiece (cellMismatch mismatch mesh air gas c) (at air c) (at gas c) m
+    pub piece-high : highPiece (mismatchIn l q a c b) (at air c) (at gas c) m ≡ highPiece (cellMismatch (ruleFor l) mesh air gas c) (at air c) (at gas c) m
     piece-high = ap (λ (D : Mismatch). highPiece D (at air c) (at gas c) m) mismatch-is
 
-    pub piece-low : lowPiece (mismatchIn q a c b) (at air c) (at gas c) m ≡ lowPiece (cellMismatch mismatch mesh air gas c) (at air c) (at gas c) m
+    pub piece-low : lowPiece (mismatchIn l q a c b) (at air c) (at gas c) m ≡ lowPiece (cellMismatch (ruleFor l) mesh air gas c) (at air c) (at gas c) m
     piece-low = ap (λ (D : Mismatch). lowPiece D (at air c) (at gas c) m) mismatch-is
 
-module _ {mesh : Mesh} {flow : Flow} {air gas : List ℕ} (regular : Regular mesh) (need : GasNeed mesh flow air gas) where
+module _ (l : Limiter) {mesh : Mesh} {flow : Flow} {air gas : List ℕ} (regular : Regular mesh) (need : GasNeed mesh flow air gas) where
   covers : Covers mesh flow air
   covers = allowed-is mesh flow air (need .permits) .covers
 
@@ -117,10 +118,10 @@ module _ {mesh : Mesh} {flow : Flow} {air gas : List ℕ} (regular : Regular mes
           piece-need (flow .toHigh f)
           (le-trans (high-leaves mesh c flow f (rw at-face at (regular .lowHas f h))) (covers c (near .own)))
 
-      pub high-is : mesh .lowCell f ≡ c → highPiece (mismatchIn q a c b) (at air c) (at gas c) (flow .toHigh f) ≡ pieces mismatch mesh flow air gas .toHigh f
+      pub high-is : mesh .lowCell f ≡ c → highPiece (mismatchIn l q a c b) (at air c) (at gas c) (flow .toHigh f) ≡ pieces (ruleFor l) mesh flow air gas .toHigh f
       high-is at-face =
-          piece-high ratios near (flow .toHigh f) ∙
-          sym (piece-up mismatch mesh flow air gas f c at-face)
+          piece-high l ratios near (flow .toHigh f) ∙
+          sym (piece-up (ruleFor l) mesh flow air gas f c at-face)
 
       -- the cell on its high side from its low end
       pub low-need : mesh .highCell f ≡ c → PieceNeed air gas q a c b (flow .toLow f)
@@ -128,14 +129,14 @@ module _ {mesh : Mesh} {flow : Flow} {air gas : List ℕ} (regular : Regular mes
           piece-need (flow .toLow f)
           (le-trans (low-leaves mesh c flow f (rw at-face at (regular .highHas f h))) (covers c (near .own)))
 
-      pub low-is : mesh .highCell f ≡ c → lowPiece (mismatchIn q a c b) (at air c) (at gas c) (flow .toLow f) ≡ pieces mismatch mesh flow air gas .toLow f
+      pub low-is : mesh .highCell f ≡ c → lowPiece (mismatchIn l q a c b) (at air c) (at gas c) (flow .toLow f) ≡ pieces (ruleFor l) mesh flow air gas .toLow f
       low-is at-face =
-          piece-low ratios near (flow .toLow f) ∙
-          sym (piece-down mismatch mesh flow air gas f c at-face)
+          piece-low l ratios near (flow .toLow f) ∙
+          sym (piece-down (ruleFor l) mesh flow air gas f c at-face)
 
   -- ---- the pieces, once all are taken
-  module _ {passed : Flow} (same : Same (mesh .faces) passed (pieces mismatch mesh flow air gas)) where
-    pub gas-after : afterFlow mesh passed gas ≡ stepped mesh flow air gas
+  module _ {passed : Flow} (same : Same (mesh .faces) passed (pieces (ruleFor l) mesh flow air gas)) where
+    pub gas-after : afterFlow mesh passed gas ≡ stepped (ruleFor l) mesh flow air gas
     gas-after = same-after mesh regular same gas
 
     pub gas-moves : Moves mesh passed gas
@@ -144,9 +145,9 @@ module _ {mesh : Mesh} {flow : Flow} {air gas : List ℕ} (regular : Regular mes
           long = need .gasLong;
           covers =
               λ c h.
-              rw (same-leaving mesh regular same c h) (pieces-covered mismatch-limited mesh regular flow air gas (need .airIn) covers c h);
+              rw (same-leaving mesh regular same c h) (pieces-covered (limiter-limited l) mesh regular flow air gas (need .airIn) covers c h);
           after =
               λ c h.
               rw gas-after
-              (le-trans (gas-after-flow-le mismatch-limited mesh regular flow air gas (need .airIn) covers c h) (le-trans (need .total) (omega arith)));
+              (le-trans (gas-after-flow-le (limiter-limited l) mesh regular flow air gas (need .airIn) covers c h) (le-trans (need .total) (omega arith)));
         }

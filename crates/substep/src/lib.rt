@@ -6,6 +6,7 @@ ghost use Prim.Native.Nat.{_+_, _-_, _≤_};
 ghost use lib.ListN.{length};
 ghost use Rattle.model.specs.Basic.{at};
 ghost use Rattle.model.specs.Scheme.{highPiece, lowPiece};
+ghost use Rattle.units.specs.Limiter.{limiterOf};
 ghost use Rattle.substep.specs.Faces.{PartsNeed, AreParts};
 ghost use Rattle.substep.specs.Cells.{CellFlows, Sums, mayPass};
 ghost use Rattle.substep.specs.Pieces.{HasAir, AreRatios, PieceNeed, mismatchIn};
@@ -18,6 +19,7 @@ use scheme::split;
 use units::AIR_LIMIT;
 use units::Air;
 use units::AirSum;
+use units::Limiter;
 use units::Tracer;
 use units::TracerSum;
 
@@ -52,30 +54,48 @@ pub fn fill_ratios(air: &[u32], gas: &[u32], n: usize, q: &mut [u64])
     }
 }
 
-// The piece of m units of air from cell c's high end, none where no air passes; its mismatch is taken from the ratios of cells a and b.
-pub fn high_end(air: &[u32], gas: &[u32], q: &[u64], a: usize, c: usize, b: usize, m: Air) -> Tracer
+// The piece of m units of air from cell c's high end, none where no air passes; its mismatch is taken by the tracer's limiter from the ratios of cells a and b.
+pub fn high_end(
+    l: Limiter,
+    air: &[u32],
+    gas: &[u32],
+    q: &[u64],
+    a: usize,
+    c: usize,
+    b: usize,
+    m: Air,
+) -> Tracer
     requires { ⌜ PieceNeed (now air) (now gas) (now q) a c b (m .0) ⌝ }
-    ensures { λ p. ⌜ p .0 ≡ highPiece (mismatchIn (now (q .entry)) a c b) (at (now (air .entry)) c) (at (now (gas .entry)) c) (m .0) ⌝ }
+    ensures { λ p. ⌜ p .0 ≡ highPiece (mismatchIn (limiterOf l) (now (q .entry)) a c b) (at (now (air .entry)) c) (at (now (gas .entry)) c) (m .0) ⌝ }
 {
     if m.0 == 0 {
         return Tracer(0);
     }
     let have = air[c];
     let amount = gas[c];
-    high_piece(mismatch(q[a], q[c], q[b]), Air(have), Tracer(amount), m)
+    high_piece(mismatch(l, q[a], q[c], q[b]), Air(have), Tracer(amount), m)
 }
 
 // The same from its low end.
-pub fn low_end(air: &[u32], gas: &[u32], q: &[u64], a: usize, c: usize, b: usize, m: Air) -> Tracer
+pub fn low_end(
+    l: Limiter,
+    air: &[u32],
+    gas: &[u32],
+    q: &[u64],
+    a: usize,
+    c: usize,
+    b: usize,
+    m: Air,
+) -> Tracer
     requires { ⌜ PieceNeed (now air) (now gas) (now q) a c b (m .0) ⌝ }
-    ensures { λ p. ⌜ p .0 ≡ lowPiece (mismatchIn (now (q .entry)) a c b) (at (now (air .entry)) c) (at (now (gas .entry)) c) (m .0) ⌝ }
+    ensures { λ p. ⌜ p .0 ≡ lowPiece (mismatchIn (limiterOf l) (now (q .entry)) a c b) (at (now (air .entry)) c) (at (now (gas .entry)) c) (m .0) ⌝ }
 {
     if m.0 == 0 {
         return Tracer(0);
     }
     let have = air[c];
     let amount = gas[c];
-    low_piece(mismatch(q[a], q[c], q[b]), Air(have), Tracer(amount), m)
+    low_piece(mismatch(l, q[a], q[c], q[b]), Air(have), Tracer(amount), m)
 }
 
 // What passes two faces together, of air and of a tracer.

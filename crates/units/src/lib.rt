@@ -40,7 +40,9 @@ pub const MOST_FACES: usize = 3240; // of a layer
 
 pub const MOST_EMITTERS: usize = 16; // of a tracer
 
-pub const LEDGER_BLOCK: usize = 51; // numbers of the ledger for each tracer
+pub const LEDGER_BLOCK: usize = 56; // numbers of the ledger for each tracer
+
+pub const LIMITER_PLACE: usize = 51; // where its limiter stands in them
 
 pub const PROGRAM_CELLS: usize = 2048; // of the largest world that the runner program takes
 
@@ -48,7 +50,7 @@ pub const PROGRAM_TRACERS: usize = 2;
 
 pub const PROGRAM_AMOUNTS: usize = 4096; // of all tracers in it
 
-pub const PROGRAM_LEDGER: usize = 102; // numbers of its ledger
+pub const PROGRAM_LEDGER: usize = 112; // numbers of its ledger
 
 pub const PROGRAM_FACES: usize = 2118; // of a layer that the program takes
 
@@ -68,6 +70,13 @@ pub struct TracerSum(pub u64);
 pub struct Mismatch {
     pub size: u64,
     pub positive: bool,
+}
+
+// A tracer's limiter: its number, 1 to 3, and its bounds, in the ratio's scale. A number that is none of these is refused where a call tests it.
+pub struct Limiter {
+    pub number: u32,
+    pub lo: u64,
+    pub hi: u64,
 }
 
 // W columns, R rows, K layers, N tracers.
@@ -97,6 +106,7 @@ pub enum Refusal {
     EmitterAdded,
     EmitterAbsent,
     GivenCount,
+    Limiters,
 }
 
 // What a call answers: accepted, with its count, or refused.
@@ -148,6 +158,7 @@ pub fn refusal_number(r: Refusal) -> u32
         Refusal::EmitterAdded => 18,
         Refusal::EmitterAbsent => 19,
         Refusal::GivenCount => 20,
+        Refusal::Limiters => 21,
     }
 }
 

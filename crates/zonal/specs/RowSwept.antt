@@ -10,9 +10,10 @@ use borrow.Author.Tests.{eq-eqb, ne-eqb}
 use borrow.Rule.Slice.PartMut.{putMid}
 use lib.IntN.{ℤ}
 use lib.ListN.{length}
-use Rattle.model.specs.Limits.{totalLimit, mostSubsteps}
+use Rattle.model.specs.Limits.{totalLimit, mostSubsteps, blockNumbers}
 use Rattle.model.specs.Basic.{at, part, written, joined, tab, sum}
 use Rattle.model.specs.World.{Grid, World, worldCells, rowStart, withAmounts}
+use Rattle.model.specs.Limiters.{ruleFor}
 use Rattle.model.specs.Sweep.{ring, airAfter, gasAfter, serves, swept}
 use Rattle.model.specs.Step.{rowAir, zonalCount, zonal, zonalWithCount}
 use Rattle.model.specs.Laws.Chain.{length-air-after}
@@ -21,15 +22,15 @@ use Rattle.model.specs.Laws.Part.{cells-in}
 use Rattle.model.specs.Laws.Sweep.{Sweeps}
 use Rattle.model.specs.Laws.Zonal.{zonal-sweeps}
 use Rattle.model.specs.Laws.Entries.{joined-ext, part-part, part-sum-le}
-use Rattle.model.specs.Scheme.{mismatch}
 use Rattle.model.specs.Laws.Substep.{AirIn}
+use Rattle.units.specs.Limiter.{limiterAt}
 use Rattle.units.specs.declared.Answer.the-variants.{Accepted, Refused}
 use Rattle.units.specs.declared.Refusal.the-variants.{GivenCount}
 use Rattle.units.specs.Answer.{Agrees}
 use Rattle.units.specs.Agrees.{accepted-agrees}
 use Rattle.places.specs.declared.Placed.{Placed}
 use Rattle.places.specs.Walk.{none, next, resume, refuse}
-use Rattle.substep.specs.Lent.{put-back}
+use Rattle.units.specs.Lent.{put-back}
 use Rattle.row.specs.Substeps.{rowMesh, RowNeed, chain}
 use Rattle.row_place.specs.RowPlace.{lentRow, row-in-air, row-lent}
 use Rattle.rows.specs.Gas.{rowOf}
@@ -46,32 +47,33 @@ abbrev pub rowPart : Grid → List ℕ → ℕ → List ℕ
 rowPart g air first = part air first (first + g .W - first)
 
 -- a row of W columns from cell `first` on, in a world of the grid's lengths, and a count that serves
-pub record RowReady (g : Grid) (air tracers : List ℕ) (first : ℕ) (fluxes : List ℤ) (n : ℕ) : Type 0 where
+pub record RowReady (g : Grid) (air tracers ledger : List ℕ) (first : ℕ) (fluxes : List ℤ) (n : ℕ) : Type 0 where
   pub range : InRange g
   pub long : length fluxes ≡ g .W
   pub row : RowNeed (rowPart g air first) fluxes
   pub inAir : first + g .W ≤ length air
   pub tracersLong : length tracers ≡ g .N * worldCells g
+  pub ledgerLong : length ledger ≡ g .N * blockNumbers
   pub inside : first + g .W ≤ worldCells g
   pub most : n ≤ mostSubsteps
   pub serving : serves (rowMesh fluxes) fluxes (rowPart g air first) n ≡ true
   pub airIn : AirIn (length fluxes) (rowPart g air first)
   pub total : (t : ℕ) → t < g .N → sum (worldCells g) (at (gasOf g tracers t)) ≤ totalLimit
 
--- every tracer's amounts with its row swept
-abbrev pub sweptTracers : Grid → List ℕ → List ℕ → ℕ → List ℤ → ℕ → List ℕ
-sweptTracers g tracers air first fluxes n =
+-- every tracer's amounts with its row swept, by the limiter of its block
+abbrev pub sweptTracers : Grid → List ℕ → List ℕ → List ℕ → ℕ → List ℤ → ℕ → List ℕ
+sweptTracers g tracers ledger air first fluxes n =
     joined
     (tab (g .N)
-    (λ t. written (gasOf g tracers t) first (gasAfter mismatch (ring (g .W)) fluxes n air (part (gasOf g tracers t) first (g .W)) n)))
+    (λ t. written (gasOf g tracers t) first (gasAfter (ruleFor (limiterAt ledger t)) (ring (g .W)) fluxes n air (part (gasOf g tracers t) first (g .W)) n)))
 
 -- all air with the row's swept, and all tracers
-pub record IsSwept (g : Grid) (air tracers : List ℕ) (first : ℕ) (fluxes : List ℤ) (n : ℕ) (afterAir after : List ℕ) : Type 0 where
+pub record IsSwept (g : Grid) (air tracers ledger : List ℕ) (first : ℕ) (fluxes : List ℤ) (n : ℕ) (afterAir after : List ℕ) : Type 0 where
   pub airIs : afterAir ≡ written air first (chain fluxes n (rowPart g air first) n)
-  pub tracersAre : after ≡ sweptTracers g tracers (rowPart g air first) first fluxes n
+  pub tracersAre : after ≡ sweptTracers g tracers ledger (rowPart g air first) first fluxes n
 
 module _
-    {g : Grid} {air tracers : List ℕ} {first : ℕ} {fluxes : List ℤ} {n : ℕ} (ready : RowReady g air tracers first fluxes n)
+    {g : Grid} {air tracers ledger : List ℕ} {first : ℕ} {fluxes : List ℤ} {n : ℕ} (ready : RowReady g air tracers ledger first fluxes n)
     {cells : ℕ} (e : cells ≡ worldCells g) where
   abbrev lent : List ℕ
   lent = rowPart g air first
@@ -101,7 +103,7 @@ module _
         rw (row-of-gas t h)
         (le-trans (part-sum-le (worldCells g) (gasOf g tracers t) first (g .W) (ready .inside)) (ready .total t h))
 
-    pub rows-sweep : SweepNeed rows lent fluxes n (g .N)
+    pub rows-sweep : SweepNeed rows ledger lent fluxes n (g .N)
     rows-sweep =
         record {
           row = ready .row;
@@ -109,11 +111,12 @@ module _
           serving = ready .serving;
           airIn = ready .airIn;
           few = ready .range .highN;
+          blocks = omega (arith, ready .ledgerLong);
           wideRows = loaded .wideRows;
           total = λ t h. rw (ready .long) (row-total t h);
         }
 
-    module _ {new : List ℕ} {swept : List (List ℕ)} (done : AreSwept rows lent fluxes n (g .N) new swept) where
+    module _ {new : List ℕ} {swept : List (List ℕ)} (done : AreSwept rows ledger lent fluxes n (g .N) new swept) where
       pub swept-fit : StoreNeed tracers first cells (g .W) (g .N) swept
       swept-fit = record { fit = rows-fit; wideRows = done .wideRows }
 
@@ -124,7 +127,7 @@ module _
 
       pub all-swept :
           {after : List ℕ} → after ≡ storedRows tracers first cells (g .W) (g .N) swept →
-          IsSwept g air tracers first fluxes n (putMid first (first + g .W - first) air new) after
+          IsSwept g air tracers ledger first fluxes n (putMid first (first + g .W - first) air new) after
       all-swept stored =
           record {
             airIs = put-back air new first (g .W) new-long ∙ ap (written air first) (done .airIs);
@@ -135,7 +138,7 @@ module _
                 ap₂ (λ (l r : List ℕ). written l first r)
                 (ap (λ (m : ℕ). part tracers (t * m) m) e)
                 ((rw (ready .long) at (done .each t h)) ∙
-                ap (λ (l : List ℕ). gasAfter mismatch (ring (g .W)) fluxes n lent l n) (row-of-gas t h)));
+                ap (λ (l : List ℕ). gasAfter (ruleFor (limiterAt ledger t)) (ring (g .W)) fluxes n lent l n) (row-of-gas t h)));
           }
 
 -- ---- the call, once its row is found
@@ -146,7 +149,7 @@ module _ {w : World} {k r : ℕ} {fluxes : List ℤ} {p : Placed} (found : Zonal
   lent-is : lentRow w (p .first) ≡ rowAir w k r
   lent-is = row-lent (found .row) k r (found .start)
 
-  pub row-ready : RowReady (w .grid) (w .air) (w .tracers) (p .first) fluxes (p .found)
+  pub row-ready : RowReady (w .grid) (w .air) (w .tracers) (w .ledger) (p .first) fluxes (p .found)
   unfolding ring
   row-ready =
       record {
@@ -155,6 +158,7 @@ module _ {w : World} {k r : ℕ} {fluxes : List ℤ} {p : Placed} (found : Zonal
         row = row-need (found .row);
         inAir = row-in-air (found .row);
         tracersLong = found .row .fits .tracersLength;
+        ledgerLong = found .row .fits .ledgerLength;
         inside = found .row .inside;
         most = found .most;
         serving =
@@ -166,7 +170,7 @@ module _ {w : World} {k r : ℕ} {fluxes : List ℤ} {p : Placed} (found : Zonal
         total = found .row .fits .totals;
       }
 
-  module _ {air after : List ℕ} (done : IsSwept (w .grid) (w .air) (w .tracers) (p .first) fluxes (p .found) air after) where
+  module _ {air after : List ℕ} (done : IsSwept (w .grid) (w .air) (w .tracers) (w .ledger) (p .first) fluxes (p .found) air after) where
     -- the world afterwards is the model's
     row-swept : withAmounts w air after ≡ swept w (ring (w .grid .W)) (rowStart (w .grid) k r) fluxes (zonalCount w k r fluxes)
     unfolding swept ring
@@ -176,8 +180,8 @@ module _ {w : World} {k r : ℕ} {fluxes : List ℤ} {p : Placed} (found : Zonal
         ap₂ (λ (i n : ℕ). written (w .air) i (airAfter (ring (length fluxes)) fluxes n (lentRow w (p .first)) n)) (found .start) (found .count) ∙
         ap₂ (λ (m : ℕ) (l : List ℕ). written (w .air) (rowStart (w .grid) k r) (airAfter (ring m) fluxes (zonalCount w k r fluxes) l (zonalCount w k r fluxes))) (found .row .long) lent-is)
         (done .tracersAre ∙
-        ap₂ (λ (i n : ℕ). sweptTracers (w .grid) (w .tracers) (lentRow w (p .first)) i fluxes n) (found .start) (found .count) ∙
-        ap (λ (l : List ℕ). sweptTracers (w .grid) (w .tracers) l (rowStart (w .grid) k r) fluxes (zonalCount w k r fluxes)) lent-is)
+        ap₂ (λ (i n : ℕ). sweptTracers (w .grid) (w .tracers) (w .ledger) (lentRow w (p .first)) i fluxes n) (found .start) (found .count) ∙
+        ap (λ (l : List ℕ). sweptTracers (w .grid) (w .tracers) (w .ledger) l (rowStart (w .grid) k r) fluxes (zonalCount w k r fluxes)) lent-is)
 
     pub zonal-agrees : Agrees w (zonal k r fluxes) (Accepted (p .found)) (withAmounts w air after)
     zonal-agrees = accepted-agrees (none (found .left)) refl (found .count) row-swept

@@ -17,7 +17,7 @@ use units::Refusal;
 use units::number;
 use units::world_cells;
 
-// Places 1 to 9: where the row starts, and its substep count.
+// Places 1 to 4, 21, 5, 8 and 9: where the row starts, and its substep count.
 fn zonal_place(
     g: Grid,
     air: &[u32],
@@ -53,19 +53,20 @@ fn sweep_row(
     g: Grid,
     air: &mut [u32],
     tracers: &mut [u32],
+    ledger: &[u32],
     first: usize,
     substeps: u32,
     fluxes: &[i32],
 )
-    requires { ⌜ RowReady (gridOf g) (now air) (now tracers) first (now fluxes) substeps ⌝ }
-    ensures { λ x. ⌜ IsSwept (gridOf g) (now (air .entry)) (now (tracers .entry)) first (now (fluxes .entry)) substeps (now (air .exit)) (now (tracers .exit)) ⌝ }
+    requires { ⌜ RowReady (gridOf g) (now air) (now tracers) (now ledger) first (now fluxes) substeps ⌝ }
+    ensures { λ x. ⌜ IsSwept (gridOf g) (now (air .entry)) (now (tracers .entry)) (now (ledger .entry)) first (now (fluxes .entry)) substeps (now (air .exit)) (now (tracers .exit)) ⌝ }
 {
     let w = g.w as usize;
     let n = g.n as usize;
     let end = first + w;
     let cells = world_cells(g) as usize;
     let rows = load_rows(tracers, first, cells, w, n);
-    let swept = sweep_rows(rows, &mut air[first..end], fluxes, substeps, n);
+    let swept = sweep_rows(rows, ledger, &mut air[first..end], fluxes, substeps, n);
     store_rows(swept, tracers, first, cells, w, n);
 }
 
@@ -87,7 +88,7 @@ pub fn zonal(
         return answer;
     }
     let substeps = place.found as u32;
-    sweep_row(g, air, tracers, place.first, substeps, fluxes);
+    sweep_row(g, air, tracers, ledger, place.first, substeps, fluxes);
     Answer::Accepted(substeps)
 }
 
@@ -129,6 +130,6 @@ pub fn zonal_with_count(
     if given == substeps {} else {
         return Answer::Refused(Refusal::GivenCount);
     }
-    sweep_row(g, air, tracers, place.first, given, fluxes);
+    sweep_row(g, air, tracers, ledger, place.first, given, fluxes);
     Answer::Accepted(given)
 }

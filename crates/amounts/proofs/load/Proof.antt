@@ -1,5 +1,6 @@
--- `amounts::load` meets its contract: places 1 to 4 are all that a load tests, and none stands after it.
+-- `amounts::load` meets its contract: places 1 to 4 are all that a load tests, and the ledger is then as a load leaves it.
 use mathlib.Core.Path.{refl, sym, _∙_}
+use Rattle.units.specs.Grid.{in-range}
 use Rattle.places.specs.Tested.{common-refused}
 use Rattle.amounts.specs.Amount.{load-agrees}
 use borrow.Author.Needs.{needs}
@@ -9,14 +10,23 @@ use Rattle.amounts.proofs.load.Tie as tie
 returns : tie.Need-returns
 returns c =
     let tested : tie.After-common-places = search needs in
-    common-refused (tested .common-places .ensures) (λ z. c .if1 .left (c .before .number .ensures ∙ z)) refl
+    common-refused (tested .common-places .ensures) (λ z. c .if1 .left (c .before .number .ensures ∙ z)) refl refl
+
+-- places 1 and 2 tell the ledger's length
+renew-requires : tie.Need-renew-requires
+renew-requires c κs =
+    let s : tie.Start = search needs in
+    let tested : tie.After-common-places = search needs in
+    let accepted : tie.Then1 = search needs in
+    let fits = tested .common-places .ensures .found (sym (accepted .before .number .ensures) ∙ accepted .if1 .taken) .fits in
+    (fits .ledgerLength, in-range (s .args .g) (fits .grid) .highN)
 
 returns-2 : tie.Need-returns-2
 returns-2 c =
     let tested : tie.After-common-places = search needs in
     let accepted : tie.Then1 = search needs in
-    let left : tie.After-clear = search needs in
-    load-agrees (tested .common-places .ensures) (sym (accepted .before .number .ensures) ∙ accepted .if1 .taken) (left .clear .ensures)
+    let left : tie.After-renew = search needs in
+    load-agrees (tested .common-places .ensures) (sym (accepted .before .number .ensures) ∙ accepted .if1 .taken) (left .renew .ensures)
 
 pub load-spec : {M : Type 1} → statement M
 load-spec =
@@ -26,6 +36,7 @@ load-spec =
     (λ c κs. search needs)  -- number-requires
     (λ c. search needs)  -- same-length
     returns
-    (λ c κs. search needs)  -- clear-requires
+    (λ c. search needs)  -- cast-renew
+    renew-requires
     (λ c. search needs)  -- same-length-2
     returns-2)

@@ -3,8 +3,9 @@ use Prim.Native.Nat.{_+_, _*_, _-_, _≤_}
 use mathlib.Core.Path.{_≡_, _∙_}
 use native.Mathlib.Omega.{arith}
 use lib.ListN.{length}
-use Rattle.model.specs.Scheme.{mismatch}
+use Rattle.model.specs.Limiters.{ruleFor}
 use Rattle.model.specs.Sweep.{layer, pieces}
+use Rattle.units.specs.Limiter.{limiterOf}
 use Rattle.substep.specs.Faces.{flowOf, Same, same-none, same-more}
 use Rattle.layer.specs.Cells.{layer-faces}
 use Rattle.layer_gas.specs.Gas.{gives-north, gives-south, piece-north, piece-south}
@@ -14,40 +15,40 @@ use Rattle.layer_gas.proofs.fill_pieces.Statement.{statement}
 use Rattle.layer_gas.proofs.fill_pieces.Tie as tie
 
 abbrev Inv-loop : tie.InvT-loop
-Inv-loop air gas q airup airdown w rows gasup₀ gasdown₀ faces i₀ gasup gasdown i =
+Inv-loop l air gas q airup airdown w rows gasup₀ gasdown₀ faces i₀ gasup gasdown i =
     (i ≤ w + rows * w)
     × (length gasup ≡ length gasup₀)
     × (length gasdown ≡ length gasdown₀)
-    × Same i (flowOf gasup gasdown) (pieces mismatch (layer w rows) (flowOf airup airdown) air gas)
+    × Same i (flowOf gasup gasdown) (pieces (ruleFor (limiterOf l)) (layer w rows) (flowOf airup airdown) air gas)
 
 abbrev μ-loop : tie.MeasureT-loop
-μ-loop air gas q airup airdown w rows gasup₀ gasdown₀ faces i₀ gasup gasdown i = w + rows * w - i
+μ-loop l air gas q airup airdown w rows gasup₀ gasdown₀ faces i₀ gasup gasdown i = w + rows * w - i
 
 loop-holds : tie.Need-loop-holds Inv-loop μ-loop
 loop-holds c = (search needs, search needs, search needs, same-none _ _)
 
 northward-requires : tie.Need-northward-requires Inv-loop μ-loop
 northward-requires c κs =
-    let pre = the (tie.Start Inv-loop μ-loop) (search) .pre in
+    let start : tie.Start Inv-loop μ-loop = search in
     let l = the (tie.At-loop Inv-loop μ-loop) (search) .loop in
-    gives-north (pre .0) (pre .1) (l .i) (omega arith)
+    gives-north (limiterOf (start .args .l)) (start .pre .0) (start .pre .1) (l .i) (omega arith)
 
 southward-requires : tie.Need-southward-requires Inv-loop μ-loop
 southward-requires c κs =
-    let pre = the (tie.Start Inv-loop μ-loop) (search) .pre in
+    let start : tie.Start Inv-loop μ-loop = search in
     let l = the (tie.At-loop Inv-loop μ-loop) (search) .loop in
-    gives-south (pre .0) (pre .1) (l .i) (omega arith)
+    gives-south (limiterOf (start .args .l)) (start .pre .0) (start .pre .1) (l .i) (omega arith)
 
 loop-again : tie.Need-loop-again Inv-loop μ-loop
 loop-again c =
-    let pre = the (tie.Start Inv-loop μ-loop) (search) .pre in
+    let start : tie.Start Inv-loop μ-loop = search in
     let l = the (tie.At-loop Inv-loop μ-loop) (search) .loop in (
       search needs,
       search needs,
       search needs,
       same-more (l .gasup) (l .gasdown) (search needs) (search needs) (l .inv .3)
-          (c .before .northward .ensures ∙ piece-north (pre .0) (pre .1) (l .i) (omega arith))
-          (c .southward .ensures ∙ piece-south (pre .0) (pre .1) (l .i) (omega arith)),
+          (c .before .northward .ensures ∙ piece-north (limiterOf (start .args .l)) (start .pre .0) (start .pre .1) (l .i) (omega arith))
+          (c .southward .ensures ∙ piece-south (limiterOf (start .args .l)) (start .pre .0) (start .pre .1) (l .i) (omega arith)),
     )
 
 returns : tie.Need-returns Inv-loop μ-loop

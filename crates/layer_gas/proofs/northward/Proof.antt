@@ -1,6 +1,7 @@
 -- `layer_gas::northward` meets its contract: a cap is its own neighbour on both sides.
 use mathlib.Core.Path.{_∙_}
 use native.Mathlib.Omega.{arith}
+use Rattle.units.specs.Limiter.{limiterOf}
 use Rattle.substep.specs.Pieces.{piece-high}
 use Rattle.layer_gas.specs.Gas.{south-cap-near, south-near}
 use Rattle.units.specs.The.{the}
@@ -20,7 +21,7 @@ returns c =
     let start : tie.Start = search in
     let a = start .args in
     let near = south-cap-near (a .w) (a .rows) (a .i) (omega arith) in
-    rw (c .before .before .south-of .ensures) at (c .high-end .ensures) ∙ piece-high (start .pre .ratios) near _
+    rw (c .before .before .south-of .ensures) at (c .high-end .ensures) ∙ piece-high (limiterOf (a .l)) (start .pre .ratios) near _
 
 high-end-requires-2 : tie.Need-high-end-requires-2
 high-end-requires-2 c κs =
@@ -37,7 +38,7 @@ returns-2 c =
     let a = start .args in
     let near = south-near (a .w) (a .rows) (a .i) (omega arith) (start .pre .face) in
     let piece = rw (c .before .before .south-of2 .ensures, own, c .before .north-of .ensures) at (c .high-end2 .ensures) in
-    piece ∙ piece-high (start .pre .ratios) near _
+    piece ∙ piece-high (limiterOf (a .l)) (start .pre .ratios) near _
 
 pub northward-spec : {M : Type 1} → statement M
 northward-spec =

@@ -1,6 +1,7 @@
 -- `layer_gas::southward` meets its contract: a cap is its own neighbour on both sides.
 use mathlib.Core.Path.{_∙_}
 use native.Mathlib.Omega.{arith}
+use Rattle.units.specs.Limiter.{limiterOf}
 use Rattle.substep.specs.Pieces.{piece-low}
 use Rattle.layer_gas.specs.Gas.{north-cap-near, north-near}
 use Rattle.units.specs.The.{the}
@@ -20,7 +21,7 @@ returns c =
     let start : tie.Start = search in
     let a = start .args in
     let near = north-cap-near (a .w) (a .rows) (a .i) (omega arith) in
-    rw (c .before .before .north-of .ensures) at (c .low-end .ensures) ∙ piece-low (start .pre .ratios) near _
+    rw (c .before .before .north-of .ensures) at (c .low-end .ensures) ∙ piece-low (limiterOf (a .l)) (start .pre .ratios) near _
 
 low-end-requires-2 : tie.Need-low-end-requires-2
 low-end-requires-2 c κs =
@@ -37,7 +38,7 @@ returns-2 c =
     let a = start .args in
     let near = north-near (a .w) (a .rows) (a .i) (omega arith) in
     let piece = rw (c .before .before .south-of .ensures, own, c .before .north-of2 .ensures) at (c .low-end2 .ensures) in
-    piece ∙ piece-low (start .pre .ratios) near _
+    piece ∙ piece-low (limiterOf (a .l)) (start .pre .ratios) near _
 
 pub southward-spec : {M : Type 1} → statement M
 southward-spec =

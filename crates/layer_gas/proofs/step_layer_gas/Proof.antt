@@ -3,6 +3,7 @@ use Prim.Native.Nat.{ℕ}
 use mathlib.Core.Path.{sym, subst, _∙_}
 use native.Mathlib.Omega.{arith}
 use Rattle.model.specs.Laws.Layer.{layer-regular}
+use Rattle.units.specs.Limiter.{limiterOf}
 use Rattle.substep.specs.Pieces.{HasAir, has-air, gas-moves, gas-after}
 use Rattle.layer.specs.Cells.{layer-cells}
 use Rattle.units.specs.The.{the}
@@ -34,14 +35,14 @@ pass-layer-gas-requires c κs =
     let need = start .pre .need in
     let long = need .gasLong ∙ layer-cells (a .w) (a .rows) in (
       record { size = start .pre .size; long = long; faces = record { high = search needs; low = search needs } },
-      gas-moves (layer-regular (a .w) (a .rows)) need pieces,
+      gas-moves (limiterOf (a .l)) (layer-regular (a .w) (a .rows)) need pieces,
     )
 
 returns : tie.Need-returns
 returns c =
     let start : tie.Start = search in
     let pieces = the tie.After-fill-pieces (search) .fill-pieces .ensures in
-    c .before .before .pass-layer-gas .ensures ∙ gas-after (layer-regular (start .args .w) (start .args .rows)) (start .pre .need) pieces
+    c .before .before .pass-layer-gas .ensures ∙ gas-after (limiterOf (start .args .l)) (layer-regular (start .args .w) (start .args .rows)) (start .pre .need) pieces
 
 pub step-layer-gas-spec : {M : Type 1} → statement M
 step-layer-gas-spec =

@@ -4,6 +4,7 @@ use mathlib.Core.Path.{_≡_, ap₂, _∙_}
 use native.Mathlib.Omega.{arith}
 use lib.ListN.{length}
 use Rattle.units.specs.The.{the}
+use Rattle.units.specs.Limiter.{limiterOf}
 use Rattle.substep.specs.Pieces.{mismatchIn}
 use Rattle.line.specs.Slopes.{SlopesTo, slopes-none, slopes-more}
 use Rattle.long_row.specs.Gas.{ringSlope}
@@ -12,11 +13,11 @@ use Rattle.long_row.proofs.fill_slopes.Statement.{statement}
 use Rattle.long_row.proofs.fill_slopes.Tie as tie
 
 abbrev Inv-loop : tie.InvT-loop
-Inv-loop q w size₀ rising₀ c₀ size rising c =
-    (c ≤ w) × (length size ≡ length size₀) × (length rising ≡ length rising₀) × SlopesTo (ringSlope w q) c size rising
+Inv-loop l q w size₀ rising₀ c₀ size rising c =
+    (c ≤ w) × (length size ≡ length size₀) × (length rising ≡ length rising₀) × SlopesTo (ringSlope (limiterOf l) w q) c size rising
 
 abbrev μ-loop : tie.MeasureT-loop
-μ-loop q w size₀ rising₀ c₀ size rising c = w - c
+μ-loop l q w size₀ rising₀ c₀ size rising c = w - c
 
 loop-holds : tie.Need-loop-holds Inv-loop μ-loop
 loop-holds c = (search needs, search needs, search needs, slopes-none)
@@ -24,20 +25,21 @@ loop-holds c = (search needs, search needs, search needs, slopes-none)
 loop-again : tie.Need-loop-again Inv-loop μ-loop
 loop-again c =
     let a = the (tie.Start Inv-loop μ-loop) (search) .args in
-    let l = the (tie.At-loop Inv-loop μ-loop) (search) .loop in
+    let turn = the (tie.At-loop Inv-loop μ-loop) (search) .loop in
     let west = the (tie.After-west-of Inv-loop μ-loop) (search) .west-of .ensures .0 in
     let east = the (tie.After-east-of Inv-loop μ-loop) (search) .east-of .ensures .0 in
     let d = the (tie.After-mismatch Inv-loop μ-loop) (search) .mismatch .ensures in (
       search needs,
       search needs,
       search needs,
-      slopes-more (l .c) (l .inv .3) (search needs) (search needs) (search needs) _ (d .is ∙ ap₂ (λ (x y : ℕ). mismatchIn (a .q .now) x (l .c) y) west east),
+      slopes-more (turn .c) (turn .inv .3) (search needs) (search needs) (search needs) _
+          (d .is ∙ ap₂ (λ (x y : ℕ). mismatchIn (limiterOf (a .l)) (a .q .now) x (turn .c) y) west east),
     )
 
 returns : tie.Need-returns Inv-loop μ-loop
 returns c =
-    let l = the (tie.At-loop Inv-loop μ-loop) (search) .loop in
-    record { sizes = λ k h. l .inv .3 .sizes k (omega arith); signs = λ k h. l .inv .3 .signs k (omega arith) }
+    let end = the (tie.At-loop Inv-loop μ-loop) (search) .loop in
+    record { sizes = λ k h. end .inv .3 .sizes k (omega arith); signs = λ k h. end .inv .3 .signs k (omega arith) }
 
 pub fill-slopes-spec : {M : Type 1} → statement M
 fill-slopes-spec =

@@ -1,5 +1,7 @@
 -- `long_row::move_gas` meets its contract: the amounts between the departures on the line of the row's cells.
 use mathlib.Core.Path.{_∙_}
+use native.Mathlib.Omega.{arith}
+use Rattle.units.specs.Limiter.{limiterOf}
 use Rattle.long_row.specs.Gas.{ratios-need, line-need, gas-by}
 use borrow.Author.Needs.{needs}
 use Rattle.long_row.proofs.move_gas.Statement.{statement}
@@ -15,17 +17,19 @@ tracer-between-requires c κs =
     let s : tie.Start = search needs in
     let ratios : tie.After-fill-ratios = search needs in
     let slopes : tie.After-fill-slopes = search needs in
-    line-need (s .pre) (ratios .fill-ratios .ensures) (slopes .fill-slopes .ensures) (search needs) (search needs) (search needs)
+    line-need (s .pre) (limiterOf (s .args .l)) (ratios .fill-ratios .ensures) (slopes .fill-slopes .ensures) (search needs) (search needs) (search needs)
 
 returns : tie.Need-returns
 returns c =
-    let s : tie.Start = search needs in
-    let ratios : tie.After-fill-ratios = search needs in
-    let slopes : tie.After-fill-slopes = search needs in
-    let line : tie.After-tracer-between = search needs in
-    let copied : tie.After-copy = search needs in
+    let copied : tie.After-copy = search in
+    let line : tie.After-tracer-between = search in
+    let slopes : tie.After-fill-slopes = search in
+    let ratios : tie.After-fill-ratios = search in
+    let s : tie.Start = search in
+    let wide = s .pre .departures .wide in
     copied .copy .ensures ∙
-    gas-by (s .pre) (ratios .fill-ratios .ensures) (slopes .fill-slopes .ensures) (search needs) (search needs) (search needs) (line .tracer-between .ensures)
+    gas-by (s .pre) (limiterOf (s .args .l)) (ratios .fill-ratios .ensures) (slopes .fill-slopes .ensures)
+    (omega (arith, slopes, wide)) (omega (arith, slopes, wide)) (omega (arith, line, wide)) (line .tracer-between .ensures)
 
 pub move-gas-spec : {M : Type 1} → statement M
 move-gas-spec =

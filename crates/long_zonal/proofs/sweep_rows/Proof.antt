@@ -5,17 +5,17 @@ use native.Mathlib.Omega.{arith}
 use lib.ListN.{length}
 use Rattle.model.specs.Limits.{mostAmounts}
 use Rattle.units.specs.EachTracer.{changed-none, changed-all, length-up-to}
-use Rattle.long_zonal.specs.LongTracers.{sweptUpTo, rows-change, row-room, gas-need, swept-more}
+use Rattle.long_zonal.specs.LongTracers.{sweptUpTo, rows-change, row-room, block-room, gas-need, swept-more}
 use borrow.Author.Needs.{needs}
 use Rattle.long_zonal.proofs.sweep_rows.Statement.{statement}
 use Rattle.long_zonal.proofs.sweep_rows.Tie as tie
 
 abbrev Inv-loop : tie.InvT-loop
-Inv-loop tracers₀ air e first cells n w t₀ tracers t =
-    (t ≤ n) × (w ≡ length air) × (tracers ≡ sweptUpTo t cells first e air tracers₀)
+Inv-loop tracers₀ ledger air e first cells n w t₀ tracers t =
+    (t ≤ n) × (w ≡ length air) × (tracers ≡ sweptUpTo t cells first ledger e air tracers₀)
 
 abbrev μ-loop : tie.MeasureT-loop
-μ-loop tracers₀ air e first cells n w t₀ tracers t = n - t
+μ-loop tracers₀ ledger air e first cells n w t₀ tracers t = n - t
 
 loop-holds : tie.Need-loop-holds Inv-loop μ-loop
 loop-holds c =
@@ -42,14 +42,20 @@ add-end : tie.Need-add-end Inv-loop μ-loop
 add-end c = omega (arith, room c .1)
 
 mul-move-gas : tie.Need-mul-move-gas Inv-loop μ-loop
-mul-move-gas c = omega (arith, room c .1)
+mul-move-gas c = omega (arith, room (search) .1)
 
 part-move-gas-end : tie.Need-part-move-gas-end Inv-loop μ-loop
 part-move-gas-end c =
     let at : tie.At-loop Inv-loop μ-loop = search in
     let start : tie.Start Inv-loop μ-loop = search in
     let long = ap length (at .loop .inv .2) ∙ length-up-to (rows-change (start .pre)) (at .loop .inv .0) in
-    omega (arith, room c .0, long)
+    omega (arith, room (search) .0, long)
+
+limiter-at-requires : tie.Need-limiter-at-requires Inv-loop μ-loop
+limiter-at-requires c κs =
+    let turn : tie.In-loop Inv-loop μ-loop = search in
+    let start : tie.Start Inv-loop μ-loop = search in
+    block-room (start .pre) (turn .loop-test .taken)
 
 move-gas-requires : tie.Need-move-gas-requires Inv-loop μ-loop
 move-gas-requires c κs =
@@ -61,10 +67,12 @@ move-gas-requires c κs =
 loop-again : tie.Need-loop-again Inv-loop μ-loop
 loop-again c =
     let moved : tie.After-move-gas Inv-loop μ-loop = search in
+    let own : tie.After-limiter-at Inv-loop μ-loop = search in
     let turn : tie.In-loop Inv-loop μ-loop = search in
     let at : tie.At-loop Inv-loop μ-loop = search in
     let start : tie.Start Inv-loop μ-loop = search in
-    (search needs, search needs, swept-more (start .pre) (turn .loop-test .taken) (at .loop .inv .2) (moved .move-gas .ensures))
+    let more = swept-more (start .pre) (turn .loop-test .taken) (at .loop .inv .2) (own .limiter-at .ensures) (moved .move-gas .ensures) in
+    (search needs, search needs, more)
 
 same-length : tie.Need-same-length Inv-loop μ-loop
 same-length c =
@@ -89,6 +97,7 @@ sweep-rows-spec =
     mul-a
     add-a
     add-end
+    limiter-at-requires
     mul-move-gas
     (λ c. search needs)  -- sub-move-gas
     (λ c. search needs)  -- part-move-gas-start

@@ -24,8 +24,8 @@ layer-cells-requires c κs =
     let place : tie.After-layer-place = search in
     in-range _ (place .layer-place .ensures .found (accepted c) .fits .grid)
 
-add-end : tie.Need-add-end
-add-end c =
+add-e : tie.Need-add-e
+add-e c =
     let yes : tie.Then1 = search in
     let place : tie.After-layer-place = search in
     let found = place .layer-place .ensures .found (accepted yes) in
@@ -101,8 +101,8 @@ meridional-spec =
     (λ c. search needs)  -- same-length-2
     returns
     layer-cells-requires
-    (λ c. search needs)  -- cast-end
-    add-end
+    (λ c. search needs)  -- cast-e
+    add-e
     mul-sweep-tracers
     (λ c. search needs)  -- sub-sweep-tracers
     (λ c. search needs)  -- part-sweep-tracers-start

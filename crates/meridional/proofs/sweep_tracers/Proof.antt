@@ -8,21 +8,22 @@ use Rattle.model.specs.Limits.{mostAmounts, mostLayerCells, mostFaces}
 use Rattle.units.specs.Grid.{gridOf}
 use Rattle.units.specs.EachTracer.{changed-none, changed-all, length-up-to}
 use Rattle.substep.specs.Faces.{flowOf}
-use Rattle.meridional.specs.LayerTracers.{sweptUpTo, layer-near, swept-changes, swept-more, lent-inside, lent-need, step-need}
+use Rattle.meridional.specs.LayerTracers.{sweptUpTo, block-room, layer-near, swept-changes, swept-more, lent-inside, lent-need, step-need}
+use Rattle.units.specs.The.{the}
 use borrow.Author.Needs.{needs}
 use Rattle.meridional.proofs.sweep_tracers.Statement.{statement}
 use Rattle.meridional.proofs.sweep_tracers.Tie as tie
 
 abbrev Inv-loop : tie.InvT-loop
-Inv-loop g tracers₀ air airup airdown first n wide cells q₀ gasup₀ gasdown₀ t₀ tracers q gasup gasdown t =
+Inv-loop g tracers₀ ledger air airup airdown first n wide cells q₀ gasup₀ gasdown₀ t₀ tracers q gasup gasdown t =
     (t ≤ n)
-    × (tracers ≡ sweptUpTo (gridOf g) tracers₀ air (flowOf airup airdown) first t)
+    × (tracers ≡ sweptUpTo (gridOf g) tracers₀ ledger air (flowOf airup airdown) first t)
     × (length q ≡ mostLayerCells)
     × (length gasup ≡ mostFaces)
     × (length gasdown ≡ mostFaces)
 
 abbrev μ-loop : tie.MeasureT-loop
-μ-loop g tracers₀ air airup airdown first n wide cells q₀ gasup₀ gasdown₀ t₀ tracers q gasup gasdown t = n - t
+μ-loop g tracers₀ ledger air airup airdown first n wide cells q₀ gasup₀ gasdown₀ t₀ tracers q gasup gasdown t = n - t
 
 layer-cells-requires : tie.Need-layer-cells-requires Inv-loop μ-loop
 layer-cells-requires c κs =
@@ -61,16 +62,25 @@ add-a c = omega (arith, end-near c)
 add-e : tie.Need-add-e Inv-loop μ-loop
 add-e c = omega (arith, end-near c)
 
+limiter-at-requires : tie.Need-limiter-at-requires Inv-loop μ-loop
+limiter-at-requires c κs =
+    let turn : tie.In-loop Inv-loop μ-loop = search in
+    let start : tie.Start Inv-loop μ-loop = search in
+    block-room (start .pre .1) (turn .loop-test .taken)
+
 mul-step-layer-gas : tie.Need-mul-step-layer-gas Inv-loop μ-loop
-mul-step-layer-gas c = omega (arith, end-near c)
+mul-step-layer-gas c =
+    let turn : tie.In-loop Inv-loop μ-loop = search in
+    omega (arith, end-near turn)
 
 part-step-layer-gas-end : tie.Need-part-step-layer-gas-end Inv-loop μ-loop
 part-step-layer-gas-end c =
+    let turn : tie.In-loop Inv-loop μ-loop = search in
     let at : tie.At-loop Inv-loop μ-loop = search in
     let cells : tie.After-world-cells Inv-loop μ-loop = search in
     let wide : tie.After-layer-cells Inv-loop μ-loop = search in
     let start : tie.Start Inv-loop μ-loop = search in
-    lent-inside (start .pre .1) (c .loop-test .taken) (at .loop .inv .1) (cells .world-cells .ensures .0) (wide .layer-cells .ensures .0)
+    lent-inside (start .pre .1) (turn .loop-test .taken) (at .loop .inv .1) (cells .world-cells .ensures .0) (wide .layer-cells .ensures .0)
 
 step-layer-gas-requires : tie.Need-step-layer-gas-requires Inv-loop μ-loop
 step-layer-gas-requires c κs =
@@ -86,13 +96,14 @@ step-layer-gas-requires c κs =
 loop-again : tie.Need-loop-again Inv-loop μ-loop
 loop-again c =
     let stepped : tie.After-step-layer-gas Inv-loop μ-loop = search in
+    let read = the (tie.After-limiter-at Inv-loop μ-loop) (search) .limiter-at .ensures in
     let turn : tie.In-loop Inv-loop μ-loop = search in
     let at : tie.At-loop Inv-loop μ-loop = search in
     let cells : tie.After-world-cells Inv-loop μ-loop = search in
     let wide : tie.After-layer-cells Inv-loop μ-loop = search in
     let start : tie.Start Inv-loop μ-loop = search in
     let more = swept-more (start .pre .1) (turn .loop-test .taken) (at .loop .inv .1) (cells .world-cells .ensures .0) (wide .layer-cells .ensures .0)
-    (stepped .step-layer-gas .ensures) in
+    read (stepped .step-layer-gas .ensures) in
     (search needs, more, search needs, search needs, search needs)
 
 same-length : tie.Need-same-length Inv-loop μ-loop
@@ -123,6 +134,7 @@ sweep-tracers-spec =
     mul-a
     add-a
     add-e
+    limiter-at-requires
     mul-step-layer-gas
     (λ c. search needs)  -- sub-step-layer-gas
     (λ c. search needs)  -- part-step-layer-gas-start

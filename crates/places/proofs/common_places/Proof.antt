@@ -1,10 +1,11 @@
 -- `places::common_places` meets its contract: each answer from the tests that led there.
 use mathlib.Core.Path.{_≡_, refl, sym, _∙_}
 use mathlib.Core.Bool.{true}
+use native.Mathlib.Nat.{le-of-eq}
 use Rattle.model.specs.World.{World}
 use Rattle.units.specs.Grid.{worldOf, InRange, in-range}
 use Rattle.places.specs.Walk.{Left, next, stop, placed, fits, fails}
-use Rattle.places.specs.Tested.{Lends, lengthsServe, fromLengths, fromAir, fromTotals, all-left, lengths-true, passed-fits, tracers-fit, gas-totals, totals-test}
+use Rattle.places.specs.Tested.{Lends, lengthsServe, fromLengths, fromAir, fromTotals, fromLimiters, all-left, past-limiters, stop-limiters, lengths-true, passed-fits, tracers-fit, gas-totals, totals-test}
 use borrow.Author.Needs.{needs}
 use Rattle.places.proofs.common_places.Statement.{statement}
 use Rattle.places.proofs.common_places.Tie as tie
@@ -37,7 +38,7 @@ returns-2 c =
 lengths-served : (c : tie.Then2) → let s : tie.Start = search needs in lengthsServe (world s) (s .args .lent) ≡ true
 lengths-served c = sym (c .before .lengths-fit .ensures) ∙ c .if2 .taken
 
-past-lengths : (c : tie.Then2) → let s : tie.Start = search needs in Left (world s) (Lends (world s) (s .args .lent)) fromAir
+past-lengths : (c : tie.Then2) → let s : tie.Start = search needs in Left (world s) (Lends (world s) (s .args .lent)) (fromAir (s .args .lent))
 past-lengths c =
     let grid : tie.Then1 = search needs in
     next (past-grid grid) (fits (c .before .lengths-fit .ensures) (c .if2 .taken))
@@ -49,7 +50,7 @@ returns-3 c =
     stop (past-lengths lengths) (fails (no .before .air-fits .ensures) (no .if3 .left)) (c .refused3 .ensures) refl
 
 -- place 3
-past-air : (c : tie.Then3) → let s : tie.Start = search needs in Left (world s) (Lends (world s) (s .args .lent)) fromTotals
+past-air : (c : tie.Then3) → let s : tie.Start = search needs in Left (world s) (Lends (world s) (s .args .lent)) (fromTotals (s .args .lent))
 past-air c =
     let lengths : tie.Then2 = search needs in
     next (past-lengths lengths) (fits (c .before .air-fits .ensures) (c .if3 .taken))
@@ -81,21 +82,48 @@ returns-4 c =
     let test = totals-test (world start) _ (cells .world-cells .ensures .0) _ (sums .totals .ensures) in
     stop (past-air air) (fails (no .before .totals-fit .ensures ∙ test) (no .if4 .left)) (c .refused4 .ensures) refl
 
+-- place 4
+past-totals : (c : tie.Then4) → let s : tie.Start = search needs in Left (world s) (Lends (world s) (s .args .lent)) (fromLimiters (s .args .lent))
+past-totals c =
+    let start : tie.Start = search needs in
+    let air : tie.Then3 = search needs in
+    let cells : tie.After-world-cells = search needs in
+    let sums : tie.After-totals = search needs in
+    let test = totals-test (world start) _ (cells .world-cells .ensures .0) _ (sums .totals .ensures) in
+    next (past-air air) (fits (c .before .totals-fit .ensures ∙ test) (c .if4 .taken))
+
+limiters-serve-requires : tie.Need-limiters-serve-requires
+limiters-serve-requires c κs =
+    let start : tie.Start = search needs in
+    let grid : tie.Then1 = search needs in
+    let lengths : tie.Then2 = search needs in
+    (le-of-eq (sym (lengths-true (world start) (start .args .lent) (lengths-served lengths) .ledger)), in-ranges grid .highN)
+
 returns-5 : tie.Need-returns-5
 returns-5 c =
+    let start : tie.Start = search needs in
+    let no : tie.Else5 = search needs in
+    let totals : tie.Then4 = search needs in
+    stop-limiters (start .args .lent) (past-totals totals) (sym (no .before .limiters-serve .ensures) ∙ no .if5 .left) (c .refused5 .ensures)
+
+returns-6 : tie.Need-returns-6
+returns-6 c =
     let start : tie.Start = search needs in
     let grid : tie.Then1 = search needs in
     let lengths : tie.Then2 = search needs in
     let air : tie.Then3 = search needs in
     let cells : tie.After-world-cells = search needs in
     let sums : tie.After-totals = search needs in
-    let test = c .before .totals-fit .ensures ∙ totals-test (world start) _ (cells .world-cells .ensures .0) _ (sums .totals .ensures) in
+    let totals : tie.Then4 = search needs in
+    let test = totals .before .totals-fit .ensures ∙ totals-test (world start) _ (cells .world-cells .ensures .0) _ (sums .totals .ensures) in
+    let sound = sym (c .before .limiters-serve .ensures) ∙ c .if5 .taken in
     placed refl
     record {
-      left = next (past-air air) (fits test (c .if4 .taken));
+      left = past-limiters (start .args .lent) (past-totals totals) sound;
+      limiters = sound;
       fits =
           passed-fits (world start) (start .args .lent) (lengths-served lengths) (sym (grid .before .grid-fits .ensures) ∙ grid .if1 .taken)
-          (sym (air .before .air-fits .ensures) ∙ air .if3 .taken) (sym test ∙ c .if4 .taken);
+          (sym (air .before .air-fits .ensures) ∙ air .if3 .taken) (sym test ∙ totals .if4 .taken);
       lentFit = lengths-true (world start) (start .args .lent) (lengths-served lengths) .other;
       count = refl;
       total = gas-totals (world start) _ (cells .world-cells .ensures .0) _ (sums .totals .ensures);
@@ -121,4 +149,7 @@ common-places-spec =
     totals-fit-requires
     (λ c κs. search needs)  -- refused-requires-4
     returns-4
-    returns-5)
+    limiters-serve-requires
+    (λ c κs. search needs)  -- refused-requires-5
+    returns-5
+    returns-6)

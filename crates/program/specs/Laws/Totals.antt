@@ -9,7 +9,7 @@ use lib.ListN.{length}
 use Rattle.model.specs.World.{Grid, World, gasTotal}
 use Rattle.model.specs.Step.{Call, load, total, meaning, ownPlaces, accepted, step, Result}
 use Rattle.model.specs.Lists.{loadedWorld, listed, after, history}
-use Rattle.model.specs.Laws.Step.{Fits, Reached, found as present, own-refusal, loaded-reached, step-accepted, answer-is}
+use Rattle.model.specs.Laws.Step.{Fits, Reached, found as present, accepted-passed, loaded-reached, step-accepted, answer-is}
 use Rattle.model.specs.Laws.Entries.{below-or-not}
 use Rattle.model.specs.Laws.Lists.{after-append, listed-append}
 use Rattle.model.specs.Demand3.{calls-keep}
@@ -219,7 +219,7 @@ total-count : (w : World) (t : ℕ) → Fits w → step w (total t) .answer ≡ 
 unfolding accepted ownPlaces
 total-count w t fits e =
     let none-applies = sym (answer-is w (total t)) ∙ e in (
-      present t (λ g. g .N) _ w (sym (own-refusal w (total t) fits refl) ∙ none-applies) .0,
+      present t (λ g. g .N) _ w (accepted-passed w (total t) none-applies .2) .0,
       ap (λ (r : Result). r .count) (step-accepted w (total t) none-applies),
     )
 

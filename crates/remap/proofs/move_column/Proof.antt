@@ -3,17 +3,17 @@ use Prim.Native.Nat.{_+_, _*_, _-_, _≤_}
 use native.Mathlib.Omega.{arith}
 use lib.ListN.{length}
 use Rattle.model.specs.Limits.{mostAmounts}
-use Rattle.remap.specs.Tracers.{TracersUpto, tracers-none, tracer-room, lent-need, column-steps, tracers-more, tracers-all}
+use Rattle.remap.specs.Tracers.{TracersUpto, tracers-none, tracer-room, block-room, lent-need, column-steps, tracers-more, tracers-all}
 use borrow.Author.Needs.{needs}
 use Rattle.remap.proofs.move_column.Statement.{statement}
 use Rattle.remap.proofs.move_column.Tie as tie
 
 abbrev Inv-loop : tie.InvT-loop
-Inv-loop tracers₀ air e c cells k n column₀ q₀ size₀ rising₀ newgas₀ steps₀ ends₀ t₀ tracers column q size rising newgas steps ends t =
-    TracersUpto tracers₀ air e c cells k n t tracers steps ends
+Inv-loop tracers₀ ledger air e c cells k n column₀ q₀ size₀ rising₀ newgas₀ steps₀ ends₀ t₀ tracers column q size rising newgas steps ends t =
+    TracersUpto tracers₀ ledger air e c cells k n t tracers steps ends
 
 abbrev μ-loop : tie.MeasureT-loop
-μ-loop tracers₀ air e c cells k n column₀ q₀ size₀ rising₀ newgas₀ steps₀ ends₀ t₀ tracers column q size rising newgas steps ends t = n - t
+μ-loop tracers₀ ledger air e c cells k n column₀ q₀ size₀ rising₀ newgas₀ steps₀ ends₀ t₀ tracers column q size rising newgas steps ends t = n - t
 
 loop-holds : tie.Need-loop-holds Inv-loop μ-loop
 loop-holds c =
@@ -43,11 +43,18 @@ mul-b c = omega (arith, room c .1)
 add-b : tie.Need-add-b Inv-loop μ-loop
 add-b c = omega (arith, room c .1)
 
+limiter-at-requires : tie.Need-limiter-at-requires Inv-loop μ-loop
+limiter-at-requires c κs =
+    let turn : tie.In-loop Inv-loop μ-loop = search in
+    let at : tie.At-loop Inv-loop μ-loop = search in
+    let start : tie.Start Inv-loop μ-loop = search in
+    block-room (start .pre) (turn .loop-test .taken) (at .loop .inv)
+
 mul-move-gas : tie.Need-mul-move-gas Inv-loop μ-loop
-mul-move-gas c = omega (arith, room c .1)
+mul-move-gas c = omega (arith, room (search) .1)
 
 part-move-gas-end : tie.Need-part-move-gas-end Inv-loop μ-loop
-part-move-gas-end c = omega (arith, room c .0)
+part-move-gas-end c = omega (arith, room (search) .0)
 
 move-gas-requires : tie.Need-move-gas-requires Inv-loop μ-loop
 move-gas-requires c κs =
@@ -67,10 +74,12 @@ add-steps c =
 loop-again : tie.Need-loop-again Inv-loop μ-loop
 loop-again c =
     let moved : tie.After-move-gas Inv-loop μ-loop = search in
+    let own : tie.After-limiter-at Inv-loop μ-loop = search in
     let turn : tie.In-loop Inv-loop μ-loop = search in
     let at : tie.At-loop Inv-loop μ-loop = search in
     let start : tie.Start Inv-loop μ-loop = search in
-    tracers-more (start .pre) (turn .loop-test .taken) (at .loop .inv) (moved .move-gas .ensures .0) _ (moved .move-gas .ensures .1) (moved .move-gas .ensures .2)
+    tracers-more (start .pre) (turn .loop-test .taken) (at .loop .inv) (own .limiter-at .ensures) (moved .move-gas .ensures .0) _
+    (moved .move-gas .ensures .1) (moved .move-gas .ensures .2)
 
 same-length : tie.Need-same-length Inv-loop μ-loop
 same-length c =
@@ -94,6 +103,7 @@ move-column-spec =
     mul-a-2
     mul-b
     add-b
+    limiter-at-requires
     mul-move-gas
     (λ c. search needs)  -- sub-move-gas
     (λ c. search needs)  -- part-move-gas-start

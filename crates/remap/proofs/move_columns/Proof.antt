@@ -12,11 +12,11 @@ use Rattle.remap.proofs.move_columns.Statement.{statement}
 use Rattle.remap.proofs.move_columns.Tie as tie
 
 abbrev Inv-loop : tie.InvT-loop
-Inv-loop tracers₀ air₀ table cells k n columnair₀ e₀ steps₀ count₀ c₀ tracers air columnair e steps count c =
-    MovedUpto tracers₀ air₀ table cells k n c tracers air steps count × (length columnair ≡ mostLayers) × (length e ≡ mostLayers + 1)
+Inv-loop tracers₀ ledger air₀ table cells k n columnair₀ e₀ steps₀ count₀ c₀ tracers air columnair e steps count c =
+    MovedUpto tracers₀ ledger air₀ table cells k n c tracers air steps count × (length columnair ≡ mostLayers) × (length e ≡ mostLayers + 1)
 
 abbrev μ-loop : tie.MeasureT-loop
-μ-loop tracers₀ air₀ table cells k n columnair₀ e₀ steps₀ count₀ c₀ tracers air columnair e steps count c = cells - c
+μ-loop tracers₀ ledger air₀ table cells k n columnair₀ e₀ steps₀ count₀ c₀ tracers air columnair e steps count c = cells - c
 
 loop-holds : tie.Need-loop-holds Inv-loop μ-loop
 loop-holds c =

@@ -1,5 +1,6 @@
 -- `rows::step_gas` meets its contract.
 use mathlib.Core.Path.{_∙_}
+use Rattle.units.specs.Limiter.{limiterOf}
 use Rattle.rows.specs.Gas.{ratios-need, pieces-pass, pieces-passed}
 use Rattle.units.specs.The.{the}
 use borrow.Author.Needs.{needs}
@@ -15,13 +16,13 @@ pass-gas-requires : tie.Need-pass-gas-requires
 pass-gas-requires c κs =
     let start : tie.Start = search in
     let pieces = the tie.After-fill-pieces (search) .fill-pieces .ensures in
-    pieces-pass (start .pre) _ _ pieces (record { high = search needs; low = search needs })
+    pieces-pass (start .pre) (limiterOf (start .args .l)) _ _ pieces (record { high = search needs; low = search needs })
 
 returns : tie.Need-returns
 returns c =
     let start : tie.Start = search in
     let pieces = the tie.After-fill-pieces (search) .fill-pieces in
-    c .before .before .pass-gas .ensures ∙ pieces-passed (start .pre) (pieces .last .1 .1 .1 .1 .1 .0) (pieces .last .1 .1 .1 .1 .1 .1 .0) (pieces .ensures)
+    c .before .before .pass-gas .ensures ∙ pieces-passed (start .pre) (limiterOf (start .args .l)) (pieces .last .1 .1 .1 .1 .1 .1 .0) (pieces .last .1 .1 .1 .1 .1 .1 .1 .0) (pieces .ensures)
 
 pub step-gas-spec : {M : Type 1} → statement M
 step-gas-spec =

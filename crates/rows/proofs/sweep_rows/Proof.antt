@@ -11,14 +11,14 @@ use Rattle.rows.proofs.sweep_rows.Statement.{statement}
 use Rattle.rows.proofs.sweep_rows.Tie as tie
 
 abbrev Inv-loop : tie.InvT-loop
-Inv-loop air₀ fluxes n tracers current₀ airup₀ airdown₀ s₀ air current airup airdown s =
-    (s ≤ n) × (length airup ≡ 72) × (length airdown ≡ 72) × SweptSoFar current₀ air₀ fluxes n tracers s air current
+Inv-loop ledger air₀ fluxes n tracers current₀ airup₀ airdown₀ s₀ air current airup airdown s =
+    (s ≤ n) × (length airup ≡ 72) × (length airdown ≡ 72) × SweptSoFar current₀ ledger air₀ fluxes n tracers s air current
 
 abbrev μ-loop : tie.MeasureT-loop
-μ-loop air₀ fluxes n tracers current₀ airup₀ airdown₀ s₀ air current airup airdown s = n - s
+μ-loop ledger air₀ fluxes n tracers current₀ airup₀ airdown₀ s₀ air current airup airdown s = n - s
 
 loop-holds : tie.Need-loop-holds Inv-loop μ-loop
-loop-holds c = (search needs, search needs, search needs, after-none (c .before .pre))
+loop-holds c = (search needs, search needs, search needs, after-none (the (tie.Start Inv-loop μ-loop) (search) .pre))
 
 step-rows-requires : tie.Need-step-rows-requires Inv-loop μ-loop
 step-rows-requires c κs =
@@ -61,7 +61,7 @@ loop-again c =
 returns : tie.Need-returns Inv-loop μ-loop
 returns c =
     let l = c .before .loop in
-    after-all (c .before .before .before .pre) (l .inv .3) (omega arith)
+    after-all (the (tie.Start Inv-loop μ-loop) (search) .pre) (l .inv .3) (omega arith)
 
 pub sweep-rows-spec : {M : Type 1} → statement M
 sweep-rows-spec =
