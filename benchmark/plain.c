@@ -1,5 +1,5 @@
 /*
- * Plain C of the fifteen calls, written from documents 01 and 02 for the benchmark: the same arguments, checks and results
+ * Plain C of the sixteen calls, written from documents 01 and 02 for the benchmark: the same arguments, checks and results
  * as bindings/puldeho.h. Compiled by gcc with PREFIX set to the name that stands before each call.
  */
 #include <stddef.h>
@@ -14,17 +14,29 @@ enum { MOST_W = 72, MOST_K = 32, MOST_N = 8, MOST_LAYER = 3170, MOST_FACES = 324
 /* The scale of ratio, mismatch and piece, and that of a table's b. */
 enum { SCALE = 262144, TABLE_SCALE = 65536 };
 /* A tracer's block of the ledger: how many emitters stand, the low and the high half of their units a tick, 16 times id,
- * cell, units. */
-enum { MOST_EMITTERS = 16, EMITTER = 3, FIRST_EMITTER = 3, BLOCK = FIRST_EMITTER + MOST_EMITTERS * EMITTER };
+ * cell, units; then its limiter's number, and the low and the high half of lo and of hi. */
+enum { MOST_EMITTERS = 16, EMITTER = 3, SUM = 1, FIRST_EMITTER = 3, LIMITER = FIRST_EMITTER + MOST_EMITTERS * EMITTER };
+enum { LO = LIMITER + 1, HI = LO + 2, BLOCK = HI + 2 };
+enum { PRESENT = 1, POSITIVE = 2, FIXED = 3 };
 #define MOST_TOTAL 268435455u
+/* Twice the largest ratio, that of all of a tracer in a cell with one unit of air. */
+#define FAR ((int64_t)2 * SCALE * MOST_TOTAL)
 
 enum lent { NOTHING, ROW_FLUXES, LAYER_FLUXES, TABLE };
+
+/* A tracer's limiter as a mismatch wants it. The present one has the least and the greatest of the three ratios for its
+ * bounds, the others have these. A bound above FAR is FAR, since a size is below it anyway; the positive one's are 0 and FAR. */
+typedef struct {
+    int present;
+    int64_t lo, hi;
+} limiter;
 
 typedef struct {
     size_t w, r, k, n;
     size_t layer; /* cells of a layer */
     size_t cells; /* cells of all layers */
     uint64_t totals[MOST_N];
+    limiter limiters[MOST_N]; /* in calls that test them */
 } world;
 
 static uint64_t refused(uint64_t number) { return number << 32; }
@@ -92,12 +104,71 @@ static uint32_t common_places(world *g, uint32_t w, uint32_t r, uint32_t k, uint
             return refused(place);                                                                                    \
     } while (0)
 
+/* Numbers of 64 bits in the ledger: the low half, then the high half. */
+
+static uint64_t kept(const uint32_t *halves) { return (uint64_t)halves[1] << 32 | halves[0]; }
+
+static void keep(uint32_t *halves, uint64_t number)
+{
+    halves[0] = (uint32_t)number;
+    halves[1] = (uint32_t)(number >> 32);
+}
+
+/* The limiters. */
+
+static int limiter_fits(uint32_t number, uint64_t lo, uint64_t hi)
+{
+    return number >= PRESENT && number <= FIXED && lo <= hi;
+}
+
+static int64_t near(uint64_t bound) { return bound < (uint64_t)FAR ? (int64_t)bound : FAR; }
+
+/* Place 21 of the calls that move air and of the count before a sweep: 0 where it refuses. Else the limiters are filled in. */
+static int limiters_fit(world *g, const uint32_t *ledger)
+{
+    for (size_t t = 0; t < g->n; t++) {
+        const uint32_t *block = ledger + t * BLOCK;
+        uint64_t lo = kept(block + LO), hi = kept(block + HI);
+        if (!limiter_fits(block[LIMITER], lo, hi))
+            return 0;
+        int fixed = block[LIMITER] == FIXED;
+        g->limiters[t] = (limiter){block[LIMITER] == PRESENT, fixed ? near(lo) : 0, fixed ? near(hi) : FAR};
+    }
+    return 1;
+}
+
+#define MOVING_PLACES(g, lent, lent_length)                                                                           \
+    do {                                                                                                              \
+        COMMON_PLACES(g, lent, lent_length);                                                                          \
+        if (!limiters_fit(g, ledger))                                                                                 \
+            return refused(21);                                                                                       \
+    } while (0)
+
+uint64_t CALL(set_limiter)(uint32_t w, uint32_t r, uint32_t k, uint32_t n, const uint32_t *air, size_t air_length,
+                           const uint32_t *tracers, size_t tracers_length, uint32_t *ledger, size_t ledger_length,
+                           uint32_t tracer, uint32_t number, uint64_t lo, uint64_t hi)
+{
+    world g;
+    COMMON_PLACES(&g, NOTHING, 0);
+    if (tracer >= g.n)
+        return refused(5);
+    if (!limiter_fits(number, lo, hi))
+        return refused(21);
+    uint32_t *block = ledger + (size_t)tracer * BLOCK;
+    block[LIMITER] = number;
+    keep(block + LO, lo);
+    keep(block + HI, hi);
+    return 0;
+}
+
 uint64_t CALL(load)(uint32_t w, uint32_t r, uint32_t k, uint32_t n, const uint32_t *air, size_t air_length,
                     const uint32_t *tracers, size_t tracers_length, uint32_t *ledger, size_t ledger_length)
 {
     world g;
     COMMON_PLACES(&g, NOTHING, 0);
     memset(ledger, 0, ledger_length * sizeof *ledger);
+    for (size_t t = 0; t < g.n; t++)
+        ledger[t * BLOCK + LIMITER] = PRESENT;
     return 0;
 }
 
@@ -161,12 +232,14 @@ static int64_t greatest(int64_t a, int64_t b) { return a > b ? a : b; }
 
 static int64_t ratio(uint32_t m, uint32_t t) { return (int64_t)((uint64_t)SCALE * t / m); }
 
-static int64_t mismatch(int64_t qa, int64_t q, int64_t qb)
+/* Outside its bounds a ratio has a distance below 0 to one of them, and the size is 0. */
+static int64_t mismatch(limiter by, int64_t qa, int64_t q, int64_t qb)
 {
+    int64_t lo = by.present ? least(q, least(qa, qb)) : by.lo;
+    int64_t hi = by.present ? greatest(q, greatest(qa, qb)) : by.hi;
     int64_t difference = qb - qa;
     int64_t size = (difference < 0 ? -difference : difference) / 2;
-    size = least(size, 2 * (q - least(q, least(qa, qb))));
-    size = least(size, 2 * (greatest(q, greatest(qa, qb)) - q));
+    size = greatest(0, least(size, least(2 * (q - lo), 2 * (hi - q))));
     return difference < 0 ? -size : size;
 }
 
@@ -243,13 +316,13 @@ static int serves(const uint32_t *air, const int32_t *fluxes, size_t w, int64_t 
 }
 
 /* One substep of a tracer's row. */
-static void step_gas(uint32_t *gas, const uint32_t *air, const int32_t *f, size_t w)
+static void step_gas(uint32_t *gas, const uint32_t *air, const int32_t *f, size_t w, limiter by)
 {
     int64_t q[MOST_W], d[MOST_W], piece[MOST_W];
     for (size_t i = 0; i < w; i++)
         q[i] = ratio(air[i], gas[i]);
     for (size_t i = 0; i < w; i++)
-        d[i] = mismatch(q[west_of(i, w)], q[i], q[east_of(i, w)]);
+        d[i] = mismatch(by, q[west_of(i, w)], q[i], q[east_of(i, w)]);
     for (size_t i = 0; i < w; i++) {
         size_t east = east_of(i, w);
         if (f[i] > 0)
@@ -284,7 +357,7 @@ static void sweep_row(const world *g, uint32_t *air, uint32_t *tracers, size_t f
     for (uint32_t s = 1; s <= count; s++) {
         parts_of(f, fluxes, g->w, count, s);
         for (size_t t = 0; t < g->n; t++)
-            step_gas(tracers + t * g->cells + first, air + first, f, g->w);
+            step_gas(tracers + t * g->cells + first, air + first, f, g->w, g->limiters[t]);
         step_air(air + first, f, g->w);
     }
 }
@@ -294,9 +367,8 @@ uint64_t CALL(zonal)(uint32_t w, uint32_t r, uint32_t k, uint32_t n, uint32_t *a
                      uint32_t layer, uint32_t row, const int32_t *fluxes, size_t fluxes_length)
 {
     world g;
-    (void)ledger;
     size_t first;
-    COMMON_PLACES(&g, ROW_FLUXES, fluxes_length);
+    MOVING_PLACES(&g, ROW_FLUXES, fluxes_length);
     uint64_t count = counted(&first, &g, air, layer, row, fluxes);
     if (!is_refused(count))
         sweep_row(&g, air, tracers, first, fluxes, (uint32_t)count);
@@ -309,9 +381,8 @@ uint64_t CALL(count_zonal)(uint32_t w, uint32_t r, uint32_t k, uint32_t n, const
                            size_t fluxes_length)
 {
     world g;
-    (void)ledger;
     size_t first;
-    COMMON_PLACES(&g, ROW_FLUXES, fluxes_length);
+    MOVING_PLACES(&g, ROW_FLUXES, fluxes_length);
     return counted(&first, &g, air, layer, row, fluxes);
 }
 
@@ -321,9 +392,8 @@ uint64_t CALL(zonal_with_count)(uint32_t w, uint32_t r, uint32_t k, uint32_t n, 
                                 size_t fluxes_length)
 {
     world g;
-    (void)ledger;
     size_t first;
-    COMMON_PLACES(&g, ROW_FLUXES, fluxes_length);
+    MOVING_PLACES(&g, ROW_FLUXES, fluxes_length);
     uint64_t count = counted(&first, &g, air, layer, row, fluxes);
     if (is_refused(count))
         return count;
@@ -360,13 +430,13 @@ static void marks_of(mark *at, const uint32_t *air, const int32_t *fluxes, size_
 }
 
 /* A tracer's row after the sweep. The last column's east mark is the first west mark and a turn. */
-static void sweep_gas(uint32_t *gas, const uint32_t *air, const mark *at, size_t w)
+static void sweep_gas(uint32_t *gas, const uint32_t *air, const mark *at, size_t w, limiter by)
 {
     int64_t q[MOST_W], d[MOST_W], whole[MOST_W], marked[MOST_W + 1], total = 0;
     for (size_t i = 0; i < w; i++)
         q[i] = ratio(air[i], gas[i]);
     for (size_t i = 0; i < w; i++)
-        d[i] = mismatch(q[west_of(i, w)], q[i], q[east_of(i, w)]);
+        d[i] = mismatch(by, q[west_of(i, w)], q[i], q[east_of(i, w)]);
     for (size_t i = 0; i < w; i++) {
         whole[i] = total;
         total += gas[i];
@@ -397,11 +467,10 @@ uint64_t CALL(long_zonal)(uint32_t w, uint32_t r, uint32_t k, uint32_t n, uint32
                           uint32_t layer, uint32_t row, const int32_t *fluxes, size_t fluxes_length)
 {
     world g;
-    (void)ledger;
     size_t first;
     uint32_t next[MOST_W];
     mark at[MOST_W];
-    COMMON_PLACES(&g, ROW_FLUXES, fluxes_length);
+    MOVING_PLACES(&g, ROW_FLUXES, fluxes_length);
     uint32_t place = row_places(&first, &g, layer, row, fluxes);
     if (place != 0)
         return refused(place);
@@ -412,7 +481,7 @@ uint64_t CALL(long_zonal)(uint32_t w, uint32_t r, uint32_t k, uint32_t n, uint32
         return refused(17);
     marks_of(at, air + first, fluxes, w, row_air);
     for (size_t t = 0; t < n; t++)
-        sweep_gas(tracers + t * g.cells + first, air + first, at, w);
+        sweep_gas(tracers + t * g.cells + first, air + first, at, w, g.limiters[t]);
     memcpy(air + first, next, w * sizeof *air);
     return 0;
 }
@@ -444,14 +513,14 @@ static int layer_after(uint32_t *next, const uint32_t *air, const int32_t *f, si
 }
 
 static void layer_pieces(int64_t *piece, const uint32_t *gas, const uint32_t *air, const int32_t *f, size_t w,
-                         size_t rows)
+                         size_t rows, limiter by)
 {
     int64_t q[MOST_LAYER], d[MOST_LAYER];
     for (size_t c = 0; c < rows + 2; c++)
         q[c] = ratio(air[c], gas[c]);
     d[0] = d[rows + 1] = 0;
     for (size_t j = 0; j < rows; j++)
-        d[1 + j] = mismatch(q[south_of(j, w)], q[1 + j], q[north_of(w + j, rows)]);
+        d[1 + j] = mismatch(by, q[south_of(j, w)], q[1 + j], q[north_of(w + j, rows)]);
     for (size_t i = 0; i < w + rows; i++) {
         size_t south = south_of(i, w), north = north_of(i, rows);
         if (f[i] > 0)
@@ -463,10 +532,10 @@ static void layer_pieces(int64_t *piece, const uint32_t *gas, const uint32_t *ai
     }
 }
 
-static void step_layer_gas(uint32_t *gas, const uint32_t *air, const int32_t *f, size_t w, size_t rows)
+static void step_layer_gas(uint32_t *gas, const uint32_t *air, const int32_t *f, size_t w, size_t rows, limiter by)
 {
     int64_t piece[MOST_FACES], south = 0, north = 0;
-    layer_pieces(piece, gas, air, f, w, rows);
+    layer_pieces(piece, gas, air, f, w, rows, by);
     for (size_t i = 0; i < w; i++) {
         south += piece[i];
         north += piece[rows + i];
@@ -482,9 +551,8 @@ uint64_t CALL(meridional)(uint32_t w, uint32_t r, uint32_t k, uint32_t n, uint32
                           uint32_t layer, const int32_t *fluxes, size_t fluxes_length)
 {
     world g;
-    (void)ledger;
     uint32_t next[MOST_LAYER];
-    COMMON_PLACES(&g, LAYER_FLUXES, fluxes_length);
+    MOVING_PLACES(&g, LAYER_FLUXES, fluxes_length);
     if (layer >= k)
         return refused(5);
     if (!fluxes_fit(fluxes, fluxes_length, 65535))
@@ -493,7 +561,7 @@ uint64_t CALL(meridional)(uint32_t w, uint32_t r, uint32_t k, uint32_t n, uint32
     if (!layer_after(next, air + first, fluxes, w, rows))
         return refused(10);
     for (size_t t = 0; t < n; t++)
-        step_layer_gas(tracers + t * g.cells + first, air + first, fluxes, w, rows);
+        step_layer_gas(tracers + t * g.cells + first, air + first, fluxes, w, rows, g.limiters[t]);
     memcpy(air + first, next, g.layer * sizeof *air);
     return 1;
 }
@@ -560,7 +628,7 @@ static void places_of(place *at, const uint32_t *air, const int64_t *edge, size_
 }
 
 /* A tracer's column, remapped. gcc vectorises the mismatches only where the loop does not test `cap`. */
-static void remap_gas(uint32_t *gas, const uint32_t *air, const place *at, int cap, size_t layer, size_t k)
+static void remap_gas(uint32_t *gas, const uint32_t *air, const place *at, int cap, size_t layer, size_t k, limiter by)
 {
     uint32_t t[MOST_K];
     int64_t q[MOST_K], d[MOST_K] = {0}, whole[MOST_K], total = 0, last = 0;
@@ -572,7 +640,7 @@ static void remap_gas(uint32_t *gas, const uint32_t *air, const place *at, int c
     }
     if (!cap)
         for (size_t i = 1; i + 1 < k; i++)
-            d[i] = mismatch(q[i - 1], q[i], q[i + 1]);
+            d[i] = mismatch(by, q[i - 1], q[i], q[i + 1]);
     for (size_t j = 0; j < k; j++) {
         size_t i = at[j].layer;
         int64_t next = whole[i] + low_piece(d[i], air[i], t[i], at[j].above);
@@ -592,7 +660,7 @@ static void remap_column(const world *g, uint32_t *air, uint32_t *tracers, const
         old[i] = air[i * g->layer];
     places_of(at, old, edge, g->k);
     for (size_t t = 0; t < g->n; t++)
-        remap_gas(tracers + t * g->cells, old, at, cap, g->layer, g->k);
+        remap_gas(tracers + t * g->cells, old, at, cap, g->layer, g->k, g->limiters[t]);
     for (size_t j = 0; j < g->k; j++)
         air[j * g->layer] = (uint32_t)(edge[j + 1] - edge[j]);
 }
@@ -602,9 +670,8 @@ uint64_t CALL(remap)(uint32_t w, uint32_t r, uint32_t k, uint32_t n, uint32_t *a
                      const uint32_t *table, size_t table_length)
 {
     world g;
-    (void)ledger;
     uint64_t count = 0;
-    COMMON_PLACES(&g, TABLE, table_length);
+    MOVING_PLACES(&g, TABLE, table_length);
     if (!table_fits(table, k))
         return refused(11);
     for (size_t c = 0; c < g.layer; c++) {
@@ -620,14 +687,6 @@ uint64_t CALL(remap)(uint32_t w, uint32_t r, uint32_t k, uint32_t n, uint32_t *a
 
 /* The emitters. Those that stand come first in a block, and what follows them is not read. */
 
-static uint64_t kept_sum(const uint32_t *block) { return (uint64_t)block[2] << 32 | block[1]; }
-
-static void keep_sum(uint32_t *block, uint64_t sum)
-{
-    block[1] = (uint32_t)sum;
-    block[2] = (uint32_t)(sum >> 32);
-}
-
 static int record_fits(const uint32_t *block, size_t cells)
 {
     uint64_t sum = 0;
@@ -642,7 +701,7 @@ static int record_fits(const uint32_t *block, size_t cells)
                 return 0;
         sum += emitter[2];
     }
-    return sum == kept_sum(block);
+    return sum == kept(block + SUM);
 }
 
 /* Place 5 of the calls on emitters, but for a cell that the call names. */
@@ -676,7 +735,7 @@ uint64_t CALL(add_emitter)(uint32_t w, uint32_t r, uint32_t k, uint32_t n, const
         return refused(18);
     uint32_t *emitter = block + FIRST_EMITTER + EMITTER * block[0];
     emitter[0] = id, emitter[1] = cell, emitter[2] = units;
-    keep_sum(block, kept_sum(block) + units);
+    keep(block + SUM, kept(block + SUM) + units);
     block[0]++;
     return 0;
 }
@@ -695,7 +754,7 @@ uint64_t CALL(remove_emitter)(uint32_t w, uint32_t r, uint32_t k, uint32_t n, co
         return refused(19);
     block[0]--;
     uint32_t *emitter = block + FIRST_EMITTER + EMITTER * i, *last = block + FIRST_EMITTER + EMITTER * block[0];
-    keep_sum(block, kept_sum(block) - emitter[2]);
+    keep(block + SUM, kept(block + SUM) - emitter[2]);
     memmove(emitter, last, EMITTER * sizeof *last);
     memset(last, 0, EMITTER * sizeof *last);
     return 0;
@@ -710,7 +769,7 @@ uint64_t CALL(tick)(uint32_t w, uint32_t r, uint32_t k, uint32_t n, const uint32
     if (!emitters_fit(&g, ledger, tracer))
         return refused(5);
     const uint32_t *block = ledger + (size_t)tracer * BLOCK;
-    if (g.totals[tracer] + kept_sum(block) > MOST_TOTAL)
+    if (g.totals[tracer] + kept(block + SUM) > MOST_TOTAL)
         return refused(6);
     uint32_t *gas = tracers + tracer * g.cells;
     for (uint32_t i = 0; i < block[0]; i++) {
@@ -741,5 +800,5 @@ uint64_t CALL(units_a_tick_number)(uint32_t w, uint32_t r, uint32_t k, uint32_t 
     uint32_t place = common_places(&g, w, r, k, n, air, air_length, tracers, tracers_length, ledger_length, NOTHING, 0);
     if (place != 0 || !emitters_fit(&g, ledger, tracer))
         return 0;
-    return kept_sum(ledger + (size_t)tracer * BLOCK);
+    return kept(ledger + (size_t)tracer * BLOCK + SUM);
 }

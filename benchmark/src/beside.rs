@@ -83,9 +83,13 @@ pub fn beside_zonal(
         .flat_map(|sweep| (other.calls)(&start, sweep))
         .collect();
     let others = Work { start, calls };
+    let makes = |call: &Call| VERSIONS[version].makes(&others.start, call);
+    if !others.calls.iter().all(makes) {
+        return spread(vec![f64::NAN]);
+    }
     let mut left = nothing_left(&zonal.start);
     let mut measured = |work: &Work, round: usize, count: u64| {
-        let seconds = time(VERSIONS[version].call(round), work, &mut left);
+        let seconds = time(&VERSIONS[version], round, work, &mut left);
         let wanted = Answer { number: 0, count };
         assert!(left.answers.iter().all(|answer| *answer == wanted));
         seconds

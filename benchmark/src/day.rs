@@ -37,10 +37,13 @@ fn calls_of_parts(random: &mut Random, start: &World) -> Vec<Vec<Call>> {
     parts
 }
 
-/// A day whose versions were compared after every call.
-fn compared() -> Day {
+/// A day under one limiter whose versions were compared after every call.
+fn compared(limiter: u32) -> Day {
     let mut random = Random::new(11);
     let mut world = inputs::world(&mut random, FULL);
+    if limiter != 1 {
+        world = inputs::limited(&world, limiter);
+    }
     let mut day = Day {
         parts: Vec::new(),
         calls: 0,
@@ -106,10 +109,10 @@ impl Part {
     }
 }
 
-/// The versions take turns on every part of `count` days.
-pub fn run(count: usize, progress: impl Fn(usize)) -> Day {
+/// The versions take turns on every part of `count` days, all tracers under one limiter.
+pub fn run(limiter: u32, count: usize, progress: impl Fn(usize)) -> Day {
     progress(0);
-    let mut day = compared();
+    let mut day = compared(limiter);
     let mut left = nothing_left(&day.parts[0].work.start);
     for number in 0..count {
         progress(number + 1);

@@ -72,7 +72,7 @@ fn unit(round: usize, kind: &Grown, work: &Work, left: &mut Left) -> f64 {
         0
     };
     let numbers = (air + work.start.tracers.len()) * work.calls.len();
-    time(VERSIONS[0].call(round), work, left) / numbers as f64
+    time(&VERSIONS[0], round, work, left) / numbers as f64
 }
 
 /// For each size, the time for each cell and tracer as a part of that at the first size.
@@ -96,7 +96,7 @@ pub fn bandwidth(grid: Grid, version: usize, rounds: usize) -> Spread {
     let work = works::work(6, grid, |_, _| vec![Call::Load], 100_000);
     let mut left = nothing_left(&work.start);
     let share = |round| {
-        let seconds = time(VERSIONS[version].call(round), &work, &mut left);
+        let seconds = time(&VERSIONS[version], round, &work, &mut left);
         let begin = now();
         for _ in &work.calls {
             black_box(read(black_box(&left.world.air)));
@@ -116,8 +116,8 @@ pub fn share(kind: &works::Kind, version: usize, rounds: usize) -> Spread {
     };
     let mut left = nothing_left(&work.start);
     let share = |round| {
-        let make = VERSIONS[version].call(round);
-        time(make, &loads, &mut left) / time(make, &work, &mut left)
+        let mut seconds = |work| time(&VERSIONS[version], round, work, &mut left);
+        seconds(&loads) / seconds(&work)
     };
     spread((0..rounds).map(share).collect())
 }

@@ -1,7 +1,8 @@
 //! Worlds, winds and tables that look like a day's: air that varies by layer and place, eight kinds of gas, zonal
 //! winds that need 1 to 3 substeps, long ones of several cells, weak meridional winds, tables whose edges lie inside the old layers.
 
-use crate::ledgers::BLOCK;
+use crate::ledgers::{after_load, BLOCK, EMITTERS};
+use crate::limiters::{self, Limiter};
 use crate::plain::TABLE_SCALE;
 use crate::worlds::Random;
 use reference::{Call, Grid, World};
@@ -46,7 +47,7 @@ pub fn world(random: &mut Random, grid: Grid) -> World {
         grid,
         air,
         tracers,
-        ledger: vec![0; grid.n as usize * BLOCK],
+        ledger: after_load(grid.n as usize),
     }
 }
 
@@ -54,6 +55,7 @@ pub fn world(random: &mut Random, grid: Grid) -> World {
 pub fn let_stand(world: &mut World, standing: usize) {
     let cells = world.air.len();
     for block in world.ledger.chunks_exact_mut(BLOCK) {
+        let block = &mut block[..EMITTERS];
         for (i, emitter) in block[3..].chunks_exact_mut(3).take(standing).enumerate() {
             let place = (2 * i + 1) * cells / 32;
             emitter.copy_from_slice(&[i as u32, place as u32, 1 + i as u32 % 3]);
@@ -61,6 +63,22 @@ pub fn let_stand(world: &mut World, standing: usize) {
         block[0] = standing as u32;
         block[1] = block[3..].chunks_exact(3).map(|emitter| emitter[2]).sum();
     }
+}
+
+/// The world with this limiter for every tracer. The bounds of the fixed one are the tracer's least and greatest ratio, or, for every
+/// other tracer, those between which half of its cells lie.
+pub fn limited(world: &World, number: u32) -> World {
+    let cells = world.air.len();
+    let ratio = |(&t, &m): (&u32, &u32)| (u64::from(t) << 18) / u64::from(m);
+    let mut gases = world.tracers.chunks_exact(cells).enumerate();
+    limiters::changed(world, |_| {
+        let (t, gas) = gases.next().expect("a limiter for each tracer");
+        let mut ratios: Vec<u64> = gas.iter().zip(&world.air).map(ratio).collect();
+        ratios.sort_unstable();
+        let outside = if t % 2 == 0 { 0 } else { cells / 4 };
+        let (lo, hi) = (ratios[outside], ratios[cells - 1 - outside]);
+        Limiter { number, lo, hi }
+    })
 }
 
 /// Fluxes of a row that pass about `share` of its cells' air, with waves and noise; one in 24 is 0 if the wind is weak.

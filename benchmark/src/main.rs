@@ -9,6 +9,9 @@ mod growth;
 mod inputs;
 #[path = "../../compare/src/ledgers.rs"]
 mod ledgers;
+#[path = "../../compare/src/limiters.rs"]
+#[allow(dead_code)]
+mod limiters;
 mod plain;
 mod timing;
 mod versions;
@@ -68,7 +71,7 @@ fn call_named(name: Option<&str>) -> &'static str {
 /// Compares the versions on seeded lists of calls, limits and refusals among them.
 fn agreement(lists: u64) {
     eprintln!("{lists} lists of calls, compared after every call");
-    let mut reached = [0u64; 21];
+    let mut reached = [0u64; 22];
     for seed in 0..lists {
         let mut random = Random::new(seed);
         let grid = worlds::grid(&mut random, (seed % 40 / 13) as u32);
@@ -96,8 +99,14 @@ fn agreement(lists: u64) {
                 version.name
             );
         }
+        if !version.has_limiters() {
+            println!(
+                "{} has no limiters; it is compared where all are the first one, with bounds 0.",
+                version.name
+            );
+        }
     }
-    println!("Calls by answer 0 to 20, where 13 to 15 are the runner program's: {reached:?}");
+    println!("Calls by answer 0 to 21, where 13 to 15 are the runner program's: {reached:?}");
     let of_calls = |answer: usize| !(13..=15).contains(&answer);
     assert!(
         (0..reached.len()).all(|answer| (reached[answer] > 0) == of_calls(answer)),
@@ -140,20 +149,27 @@ fn each_call(title: &str, grid: Grid, numbers: usize, amount: &Amount) {
     header("Call", amount.times);
     let asked = |kind: &&works::Kind| amount.only.is_none_or(|name| name == kind.name);
     for kind in works::KINDS.iter().filter(asked) {
-        eprintln!("{title}: {}", kind.name);
         let mut work = works::work(3, grid, kind.calls, numbers);
         inputs::let_stand(&mut work.start, kind.standing);
-        ratios(
-            kind.name,
-            &rounds(&work, amount.rounds),
-            work.calls.len(),
-            amount.times,
-        );
+        timed(title, kind.name, &work, amount);
+        if kind.moves() && grid == works::FULL {
+            for limiter in [2, 3] {
+                work.start = inputs::limited(&work.start, limiter);
+                let name = format!("{}, limiter {limiter}", kind.name);
+                timed(title, &name, &work, amount);
+            }
+        }
     }
 }
 
+fn timed(title: &str, name: &str, work: &Work, amount: &Amount) {
+    eprintln!("{title}: {name}");
+    let rounds = rounds(work, amount.rounds);
+    ratios(name, &rounds, work.calls.len(), amount.times);
+}
+
 fn a_day(amount: &Amount) {
-    let day = day::run(amount.days, |number| {
+    let day = day::run(1, amount.days, |number| {
         eprintln!("day {number} of {}", amount.days)
     });
     println!("\n## A day: {} calls on the full grid\n", day.calls);
@@ -181,6 +197,22 @@ fn a_day(amount: &Amount) {
     println!("\nShare of the whole-world tests in the day:");
     for (v, version) in VERSIONS.iter().enumerate() {
         println!("- {}: {:.2}", version.name, day.share(v));
+    }
+}
+
+/// The day under the other limiters, in fewer rounds.
+fn a_day_under_other_limiters(amount: &Amount) {
+    println!("\n## The day under the other limiters\n");
+    header("Part", amount.times);
+    for limiter in [2, 3] {
+        let days = amount.days.div_ceil(2);
+        let day = day::run(limiter, days, |number| {
+            eprintln!("limiter {limiter}, day {number} of {days}")
+        });
+        let of = |v| day.ratio(Measure::Whole, v).to_string();
+        let all: Vec<String> = (1..COUNT).map(of).collect();
+        let name = format!("the day, limiter {limiter}");
+        row(&name, &all, day.median(Measure::Whole, 0), amount.times);
     }
 }
 
@@ -225,9 +257,7 @@ fn share_of_tests(amount: &Amount) {
     println!("\n## The whole-world tests\n");
     println!("Their share in a call on the full grid (as many loads as a part of the calls):\n");
     println!("| Call | library | {} |\n|---|---|---|", VERSIONS[1].name);
-    let moves =
-        |kind: &&works::Kind| ["zonal", "long_zonal", "meridional", "remap"].contains(&kind.name);
-    for kind in works::KINDS.iter().filter(moves) {
+    for kind in works::KINDS.iter().filter(|kind| kind.moves()) {
         eprintln!("share of the tests in {}", kind.name);
         let shares = [0, 1].map(|v| growth::share(kind, v, amount.rounds));
         println!("| {} | {} | {} |", kind.name, shares[0], shares[1]);
@@ -301,6 +331,7 @@ fn main() {
         return;
     }
     a_day(&amount);
+    a_day_under_other_limiters(&amount);
     long_beside_zonal(&amount);
     presses_beside_zonal(&amount);
     share_of_tests(&amount);

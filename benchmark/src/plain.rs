@@ -1,4 +1,4 @@
-//! The fifteen calls in plain Rust, written from documents 01 and 02 for the benchmark: safe code on slices, with the same checks.
+//! The sixteen calls in plain Rust, written from documents 01 and 02 for the benchmark: safe code on slices, with the same checks.
 //! A call gives its count, or the number of the first refusal that applies.
 
 use reference::Grid;
@@ -16,8 +16,12 @@ const SCALE: i64 = 262_144;
 pub const TABLE_SCALE: u32 = 65_536;
 const MOST_EMITTERS: usize = 16;
 /// A tracer's block of the ledger: how many emitters stand, the low and the high half of their units a tick, 16 times id, cell,
-/// units.
-pub const BLOCK: usize = 3 + 3 * MOST_EMITTERS;
+/// units; then its limiter's number, and the low and the high half of lo and of hi.
+pub const BLOCK: usize = LIMITER + 5;
+const SUM: usize = 1;
+pub const LIMITER: usize = 3 + 3 * MOST_EMITTERS;
+const LO: usize = LIMITER + 1;
+const HI: usize = LO + 2;
 
 type Outcome = Result<u64, u32>;
 
@@ -28,6 +32,17 @@ struct Tested {
     cells: usize,
     totals: [u64; 8],
 }
+
+/// A tracer's limiter. A bound above `FAR` is `FAR`, since a size is below it anyway.
+#[derive(Clone, Copy)]
+enum Limiter {
+    Present,
+    Positive,
+    Fixed { lo: i64, hi: i64 },
+}
+
+/// Twice the largest ratio, that of all of a tracer in a cell with one unit of air.
+const FAR: u64 = 2 * SCALE as u64 * MOST_TOTAL;
 
 enum Lent {
     Nothing,
@@ -96,6 +111,64 @@ fn common_places(
 pub fn load(g: Grid, air: &[u32], tracers: &[u32], ledger: &mut [u32]) -> Outcome {
     common_places(g, air, tracers, ledger, Lent::Nothing)?;
     ledger.fill(0);
+    for block in ledger.chunks_exact_mut(BLOCK) {
+        block[LIMITER] = 1;
+    }
+    Ok(0)
+}
+
+/// The number of 64 bits at a place of a block: the low half, then the high half.
+fn kept(block: &[u32], place: usize) -> u64 {
+    u64::from(block[place + 1]) << 32 | u64::from(block[place])
+}
+
+fn keep(block: &mut [u32], place: usize, number: u64) {
+    block[place] = number as u32;
+    block[place + 1] = (number >> 32) as u32;
+}
+
+/// Place 21 for one limiter.
+fn limiter(number: u32, lo: u64, hi: u64) -> Result<Limiter, u32> {
+    let [near_lo, near_hi] = [lo, hi].map(|bound| bound.min(FAR) as i64);
+    match number {
+        _ if lo > hi => Err(21),
+        1 => Ok(Limiter::Present),
+        2 => Ok(Limiter::Positive),
+        3 => Ok(Limiter::Fixed {
+            lo: near_lo,
+            hi: near_hi,
+        }),
+        _ => Err(21),
+    }
+}
+
+/// Place 21 of the calls that move air and of the count before a sweep: the limiter of each tracer.
+fn limiters(ledger: &[u32]) -> Result<[Limiter; 8], u32> {
+    let mut limiters = [Limiter::Present; 8];
+    for (by, block) in limiters.iter_mut().zip(ledger.chunks_exact(BLOCK)) {
+        *by = limiter(block[LIMITER], kept(block, LO), kept(block, HI))?;
+    }
+    Ok(limiters)
+}
+
+/// The bounds are lo and hi.
+pub fn set_limiter(
+    g: Grid,
+    air: &[u32],
+    tracers: &[u32],
+    ledger: &mut [u32],
+    [tracer, number]: [u32; 2],
+    [lo, hi]: [u64; 2],
+) -> Outcome {
+    common_places(g, air, tracers, ledger, Lent::Nothing)?;
+    if tracer >= g.n {
+        return Err(5);
+    }
+    limiter(number, lo, hi)?;
+    let block = &mut ledger[tracer as usize * BLOCK..][..BLOCK];
+    block[LIMITER] = number;
+    keep(block, LO, lo);
+    keep(block, HI, hi);
     Ok(0)
 }
 
@@ -171,13 +244,15 @@ fn ratio(m: u32, t: u32) -> i64 {
     (SCALE as u64 * u64::from(t) / u64::from(m)) as i64
 }
 
-fn mismatch(qa: i64, q: i64, qb: i64) -> i64 {
-    let least = qa.min(q).min(qb);
-    let greatest = qa.max(q).max(qb);
+fn mismatch(by: Limiter, qa: i64, q: i64, qb: i64) -> i64 {
+    let room = match by {
+        Limiter::Present => (q - qa.min(q).min(qb)).min(qa.max(q).max(qb) - q),
+        Limiter::Positive => q,
+        // Outside the bounds one of the two is below 0.
+        Limiter::Fixed { lo, hi } => (q - lo).min(hi - q).max(0),
+    };
     let difference = qb - qa;
-    let size = (difference.abs() / 2)
-        .min(2 * (q - least))
-        .min(2 * (greatest - q));
+    let size = (difference.abs() / 2).min(2 * room);
     if difference < 0 {
         -size
     } else {
@@ -254,14 +329,14 @@ fn serves(air: &[u32], fluxes: &[i32], n: u64) -> bool {
 }
 
 /// One substep of a tracer's row.
-fn step_gas(gas: &mut [u32], air: &[u32], f: &[i32]) {
+fn step_gas(gas: &mut [u32], air: &[u32], f: &[i32], by: Limiter) {
     let w = gas.len();
     let (mut q, mut d, mut piece) = ([0; MOST_W], [0; MOST_W], [0; MOST_W]);
     for ((q, &m), &t) in q.iter_mut().zip(air).zip(gas.iter()) {
         *q = ratio(m, t);
     }
     for i in 0..w {
-        d[i] = mismatch(q[west_of(i, w)], q[i], q[east_of(i, w)]);
+        d[i] = mismatch(by, q[west_of(i, w)], q[i], q[east_of(i, w)]);
     }
     for i in 0..w {
         let (east, flux) = (east_of(i, w), i64::from(f[i]));
@@ -288,14 +363,15 @@ fn row_of(g: Grid, world: &Tested, layer: u32, row: u32, f: &[i32]) -> Result<Ra
     Ok(first..first + world.w)
 }
 
-/// A row that can be swept: the world's sizes, the row's cells, and the count of substeps.
+/// A row that can be swept: the world's sizes, the tracers' limiters, the row's cells, and the count of substeps.
 struct Counted {
     world: Tested,
+    limiters: [Limiter; 8],
     cells: Range<usize>,
     count: u64,
 }
 
-/// Places 1 to 5, 8 and 9 of the zonal sweep, of the count before it, and of the sweep with a given count.
+/// Places 1 to 4, 21, 5, 8 and 9 of the zonal sweep, of the count before it, and of the sweep with a given count.
 fn counted(
     g: Grid,
     air: &[u32],
@@ -306,11 +382,13 @@ fn counted(
     fluxes: &[i32],
 ) -> Result<Counted, u32> {
     let world = common_places(g, air, tracers, ledger, Lent::RowFluxes(fluxes.len()))?;
+    let limiters = limiters(ledger)?;
     let cells = row_of(g, &world, layer, row, fluxes)?;
     let air = &air[cells.clone()];
     let count = (1..=16).find(|&n| serves(air, fluxes, n)).ok_or(9u32)?;
     Ok(Counted {
         world,
+        limiters,
         cells,
         count,
     })
@@ -320,6 +398,7 @@ fn counted(
 fn sweep_row(row: Counted, air: &mut [u32], tracers: &mut [u32], fluxes: &[i32]) -> Outcome {
     let Counted {
         world,
+        limiters,
         cells,
         count,
     } = row;
@@ -328,8 +407,8 @@ fn sweep_row(row: Counted, air: &mut [u32], tracers: &mut [u32], fluxes: &[i32])
     let part = &mut part[..world.w];
     for s in 1..=count {
         parts_of(part, fluxes, count, s);
-        for gas in tracers.chunks_exact_mut(world.cells) {
-            step_gas(&mut gas[cells.clone()], air, part);
+        for (gas, by) in tracers.chunks_exact_mut(world.cells).zip(limiters) {
+            step_gas(&mut gas[cells.clone()], air, part, by);
         }
         step_air(air, part);
     }
@@ -408,7 +487,7 @@ fn marks_of(at: &mut [Mark], air: &[u32], fluxes: &[i32], row_air: i64) {
 }
 
 /// A tracer's row after the long sweep. The last column's east mark is the first west mark and a turn.
-fn sweep_gas(gas: &mut [u32], air: &[u32], at: &[Mark]) {
+fn sweep_gas(gas: &mut [u32], air: &[u32], at: &[Mark], by: Limiter) {
     let w = gas.len();
     let (mut q, mut d, mut whole) = ([0; MOST_W], [0; MOST_W], [0; MOST_W]);
     let (mut marked, mut total) = ([0; MOST_W + 1], 0);
@@ -416,7 +495,7 @@ fn sweep_gas(gas: &mut [u32], air: &[u32], at: &[Mark]) {
         *q = ratio(m, t);
     }
     for i in 0..w {
-        d[i] = mismatch(q[west_of(i, w)], q[i], q[east_of(i, w)]);
+        d[i] = mismatch(by, q[west_of(i, w)], q[i], q[east_of(i, w)]);
         whole[i] = total;
         total += i64::from(gas[i]);
     }
@@ -454,6 +533,7 @@ pub fn long_zonal(
     fluxes: &[i32],
 ) -> Outcome {
     let world = common_places(g, air, tracers, ledger, Lent::RowFluxes(fluxes.len()))?;
+    let limiters = limiters(ledger)?;
     let cells = row_of(g, &world, layer, row, fluxes)?;
     let air = &mut air[cells.clone()];
     let row_air = total_of(air);
@@ -464,8 +544,8 @@ pub fn long_zonal(
     let mut at = [Mark::default(); MOST_W];
     let at = &mut at[..world.w];
     marks_of(at, air, fluxes, row_air as i64);
-    for gas in tracers.chunks_exact_mut(world.cells) {
-        sweep_gas(&mut gas[cells.clone()], air, at);
+    for (gas, by) in tracers.chunks_exact_mut(world.cells).zip(limiters) {
+        sweep_gas(&mut gas[cells.clone()], air, at, by);
     }
     air.copy_from_slice(&next[..world.w]);
     Ok(0)
@@ -503,7 +583,7 @@ fn layer_after(air: &[u32], f: &[i32], w: usize) -> Option<[u32; MOST_LAYER]> {
     Some(next)
 }
 
-fn layer_pieces(gas: &[u32], air: &[u32], f: &[i32], w: usize) -> [i64; MOST_FACES] {
+fn layer_pieces(gas: &[u32], air: &[u32], f: &[i32], w: usize, by: Limiter) -> [i64; MOST_FACES] {
     let rows = air.len() - 2;
     let (mut q, mut d) = ([0; MOST_LAYER], [0; MOST_LAYER]);
     for ((q, &m), &t) in q.iter_mut().zip(air).zip(gas) {
@@ -512,7 +592,7 @@ fn layer_pieces(gas: &[u32], air: &[u32], f: &[i32], w: usize) -> [i64; MOST_FAC
     for j in 0..rows {
         let (south, _) = beside(j, w, rows);
         let (_, north) = beside(w + j, w, rows);
-        d[1 + j] = mismatch(q[south], q[1 + j], q[north]);
+        d[1 + j] = mismatch(by, q[south], q[1 + j], q[north]);
     }
     let mut piece = [0; MOST_FACES];
     for (i, &flux) in f.iter().enumerate() {
@@ -527,9 +607,9 @@ fn layer_pieces(gas: &[u32], air: &[u32], f: &[i32], w: usize) -> [i64; MOST_FAC
     piece
 }
 
-fn step_layer_gas(gas: &mut [u32], air: &[u32], f: &[i32], w: usize) {
+fn step_layer_gas(gas: &mut [u32], air: &[u32], f: &[i32], w: usize, by: Limiter) {
     let rows = air.len() - 2;
-    let piece = layer_pieces(gas, air, f, w);
+    let piece = layer_pieces(gas, air, f, w, by);
     let after = |t: u32, enters: i64, leaves: i64| (i64::from(t) + enters - leaves) as u32;
     gas[0] = after(gas[0], 0, piece[..w].iter().sum());
     for j in 0..rows {
@@ -547,6 +627,7 @@ pub fn meridional(
     fluxes: &[i32],
 ) -> Outcome {
     let world = common_places(g, air, tracers, ledger, Lent::LayerFluxes(fluxes.len()))?;
+    let limiters = limiters(ledger)?;
     if layer >= g.k {
         return Err(5);
     }
@@ -557,8 +638,8 @@ pub fn meridional(
     let cells = first..first + world.layer;
     let air = &mut air[cells.clone()];
     let next = layer_after(air, fluxes, world.w).ok_or(10u32)?;
-    for gas in tracers.chunks_exact_mut(world.cells) {
-        step_layer_gas(&mut gas[cells.clone()], air, fluxes, world.w);
+    for (gas, by) in tracers.chunks_exact_mut(world.cells).zip(limiters) {
+        step_layer_gas(&mut gas[cells.clone()], air, fluxes, world.w, by);
     }
     air.copy_from_slice(&next[..world.layer]);
     Ok(1)
@@ -637,7 +718,14 @@ fn places_of(at: &mut [Place], column: &Column) {
 }
 
 /// A tracer's column, remapped: `gas` begins with its top cell.
-fn remap_gas(gas: &mut [u32], air: &[u32; MOST_K], at: &[Place], cap: bool, layer: usize) {
+fn remap_gas(
+    gas: &mut [u32],
+    air: &[u32; MOST_K],
+    at: &[Place],
+    cap: bool,
+    layer: usize,
+    by: Limiter,
+) {
     let k = at.len();
     let (mut t, mut q, mut d) = ([0; MOST_K], [0; MOST_K], [0; MOST_K]);
     let (mut whole, mut total, mut last) = ([0; MOST_K], 0, 0);
@@ -649,7 +737,7 @@ fn remap_gas(gas: &mut [u32], air: &[u32; MOST_K], at: &[Place], cap: bool, laye
     }
     if !cap {
         for i in 1..k.max(2) - 1 {
-            d[i] = mismatch(q[i - 1], q[i], q[i + 1]);
+            d[i] = mismatch(by, q[i - 1], q[i], q[i + 1]);
         }
     }
     for (j, at) in at.iter().enumerate() {
@@ -668,6 +756,7 @@ pub fn remap(
     table: &[u32],
 ) -> Outcome {
     let world = common_places(g, air, tracers, ledger, Lent::Table(table.len()))?;
+    let limiters = limiters(ledger)?;
     if !table_fits(table) {
         return Err(11);
     }
@@ -681,23 +770,14 @@ pub fn remap(
         let column = column_at(air, table, c, layer);
         places_of(&mut at[..k], &column);
         let cap = c == 0 || c + 1 == layer;
-        for gas in tracers.chunks_exact_mut(world.cells) {
-            remap_gas(&mut gas[c..], &column.air, &at[..k], cap, layer);
+        for (gas, by) in tracers.chunks_exact_mut(world.cells).zip(limiters) {
+            remap_gas(&mut gas[c..], &column.air, &at[..k], cap, layer, by);
         }
         for (j, pair) in column.edges[..=k].windows(2).enumerate() {
             air[c + j * layer] = (pair[1] - pair[0]) as u32;
         }
     }
     Ok(count)
-}
-
-fn kept_sum(block: &[u32]) -> u64 {
-    u64::from(block[2]) << 32 | u64::from(block[1])
-}
-
-fn keep_sum(block: &mut [u32], sum: u64) {
-    block[1] = sum as u32;
-    block[2] = (sum >> 32) as u32;
 }
 
 /// The standing emitters of a block, each as id, cell, units. What follows them is not read.
@@ -717,7 +797,7 @@ fn record_fits(block: &[u32], cells: usize) -> bool {
         }
         sum += u64::from(emitter[2]);
     }
-    sum == kept_sum(block)
+    sum == kept(block, SUM)
 }
 
 /// Places 1 to 5 of the calls on emitters, but for a cell that the call names: the tracer.
@@ -755,7 +835,7 @@ pub fn add_emitter(
         return Err(18);
     }
     block[3 + 3 * standing..][..3].copy_from_slice(&new);
-    keep_sum(block, kept_sum(block) + u64::from(new[2]));
+    keep(block, SUM, kept(block, SUM) + u64::from(new[2]));
     block[0] += 1;
     Ok(0)
 }
@@ -772,7 +852,7 @@ pub fn remove_emitter(
     let block = &mut ledger[tracer * BLOCK..][..BLOCK];
     let found = emitters(block).position(|emitter| emitter[0] == id);
     let place = 3 + 3 * found.ok_or(19u32)?;
-    keep_sum(block, kept_sum(block) - u64::from(block[place + 2]));
+    keep(block, SUM, kept(block, SUM) - u64::from(block[place + 2]));
     block[0] -= 1;
     let last = 3 + 3 * block[0] as usize;
     block.copy_within(last..last + 3, place);
@@ -783,7 +863,7 @@ pub fn remove_emitter(
 pub fn tick(g: Grid, air: &[u32], tracers: &mut [u32], ledger: &[u32], tracer: u32) -> Outcome {
     let (world, tracer) = with_emitters(g, air, tracers, ledger, tracer)?;
     let block = &ledger[tracer * BLOCK..][..BLOCK];
-    if world.totals[tracer] + kept_sum(block) > MOST_TOTAL {
+    if world.totals[tracer] + kept(block, SUM) > MOST_TOTAL {
         return Err(6);
     }
     let gas = &mut tracers[tracer * world.cells..][..world.cells];
@@ -795,5 +875,5 @@ pub fn tick(g: Grid, air: &[u32], tracers: &mut [u32], ledger: &[u32], tracer: u
 
 pub fn units_a_tick(g: Grid, air: &[u32], tracers: &[u32], ledger: &[u32], tracer: u32) -> Outcome {
     let (_, tracer) = with_emitters(g, air, tracers, ledger, tracer)?;
-    Ok(kept_sum(&ledger[tracer * BLOCK..]))
+    Ok(kept(&ledger[tracer * BLOCK..], SUM))
 }

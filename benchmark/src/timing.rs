@@ -1,6 +1,6 @@
 //! Timing: the versions take turns on the same calls from the same world in the same memory, and every result is compared.
 
-use crate::versions::{MakeCall, COUNT, VERSIONS};
+use crate::versions::{Version, COUNT, VERSIONS};
 use reference::{Answer, Call, World};
 use std::hint::black_box;
 
@@ -69,9 +69,11 @@ unsafe fn zero_upper() {
     std::arch::x86_64::_mm256_zeroupper()
 }
 
-/// Seconds of the calls as `make` makes them; the world stands at the work's start before and is left as the calls leave it.
-pub fn time(make: MakeCall, work: &Work, left: &mut Left) -> f64 {
+/// Seconds of the calls as a version makes them; the world stands at the work's start before and is left as the calls leave it.
+pub fn time(version: &Version, round: usize, work: &Work, left: &mut Left) -> f64 {
+    let make = version.call(round);
     restore(&mut left.world, &work.start);
+    version.lend(&mut left.world);
     left.answers.clear();
     left.answers.reserve(work.calls.len());
     clear_upper_halves();
@@ -80,7 +82,9 @@ pub fn time(make: MakeCall, work: &Work, left: &mut Left) -> f64 {
         left.answers
             .push(make(black_box(&mut left.world), black_box(call)));
     }
-    now() - begin
+    let seconds = now() - begin;
+    version.take_back(&mut left.world);
+    seconds
 }
 
 pub fn nothing_left(start: &World) -> Left {
@@ -97,7 +101,7 @@ pub fn agree(work: &Work) {
         let answers: [Option<Answer>; COUNT] = std::array::from_fn(|v| {
             let (version, world) = (&VERSIONS[v], &mut worlds[v]);
             let made = version.makes(world, call);
-            made.then(|| version.call(number)(world, call))
+            made.then(|| version.make(number, world, call))
         });
         let (first, others) = worlds.split_first_mut().expect("the library is first");
         for ((version, world), answer) in VERSIONS[1..].iter().zip(others).zip(&answers[1..]) {
@@ -144,8 +148,9 @@ pub fn round(
             seconds[v] = f64::NAN;
             continue;
         }
-        let make = VERSIONS[v].call(number + number / COUNT);
-        seconds[v] = deeper(number * 7 % 32, &mut || time(make, work, left));
+        let place = number + number / COUNT;
+        let mut timed = || time(&VERSIONS[v], place, work, left);
+        seconds[v] = deeper(number * 7 % 32, &mut timed);
         match first {
             Some(first) => {
                 VERSIONS[v].take_over(&mut left.world, &first.world);

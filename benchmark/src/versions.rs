@@ -1,5 +1,7 @@
 //! The versions that are compared: the proved library, plain C of gcc (twice), plain Rust.
 
+use crate::ledgers::{after_load, BLOCK, EMITTERS};
+use crate::limiters::AFTER_LOAD;
 use crate::plain;
 use crate::worlds::in_range;
 use reference::{Answer, Call, Grid, World};
@@ -10,11 +12,20 @@ pub type MakeCall = fn(&mut World, &Call) -> Answer;
 /// How many places in memory the code of a version is linked at.
 pub const PLACES: usize = 4;
 
+/// What a version is lent of the ledger: a library from before the ledger nothing, one from before the limiters the emitters.
+#[derive(PartialEq)]
+enum Ledger {
+    Nothing,
+    Emitters,
+    Whole,
+}
+
 pub struct Version {
     pub name: &'static str,
     calls: [MakeCall; PLACES],
-    /// A library from before the ledger is not lent it.
-    ledger: bool,
+    ledger: Ledger,
+    /// The calls that a library from before has not, by name.
+    lacks: &'static str,
 }
 
 impl Version {
@@ -23,22 +34,59 @@ impl Version {
         self.calls[round % PLACES]
     }
 
-    /// Whether the version has the call and tests all that the call tests in this world.
+    /// Makes the call once, lent the ledger that the version takes.
+    pub fn make(&self, round: usize, world: &mut World, call: &Call) -> Answer {
+        self.lend(world);
+        let answer = self.call(round)(world, call);
+        self.take_back(world);
+        answer
+    }
+
+    /// The world with the ledger that the version takes.
+    pub fn lend(&self, world: &mut World) {
+        if self.ledger == Ledger::Emitters {
+            let blocks = world.ledger.chunks(BLOCK);
+            world.ledger = blocks
+                .flat_map(|block| &block[..EMITTERS])
+                .copied()
+                .collect();
+        }
+    }
+
+    /// The world with the whole ledger again; the limiters are a load's before and after.
+    pub fn take_back(&self, world: &mut World) {
+        if self.ledger == Ledger::Emitters {
+            let blocks = world.ledger.chunks(EMITTERS);
+            let whole = |emitters| [emitters, &AFTER_LOAD[..]].concat();
+            world.ledger = blocks.flat_map(whole).collect();
+        }
+    }
+
+    /// Whether the version has the call and tests all that the call tests in this world. One that is not lent the whole ledger
+    /// makes calls only where the limiters are a load's.
     pub fn makes(&self, world: &World, call: &Call) -> bool {
-        let length = plain::BLOCK * world.grid.n as usize;
-        let as_before = !in_range(&world.grid) || world.ledger.len() == length;
-        self.ledger || (!is_later(call) && as_before)
+        let has = !self.lacks.split(' ').any(|name| name == name_of(call));
+        let length = BLOCK * world.grid.n as usize;
+        let fits = !in_range(&world.grid) || world.ledger.len() == length;
+        let mut blocks = world.ledger.chunks_exact(BLOCK);
+        let as_before = fits && blocks.all(|block| block[EMITTERS..] == AFTER_LOAD);
+        has && (self.ledger == Ledger::Whole || as_before)
     }
 
     /// What is not compared is taken over from another world: the ledger of a version without one, whose load does not empty it,
     /// and the amounts of gas of a version with another scale.
     pub fn take_over(&self, world: &mut World, other: &World) {
-        if !self.ledger {
+        if self.ledger == Ledger::Nothing {
             world.ledger.clone_from(&other.ledger);
         }
         if !self.has_librarys_scale() {
             world.tracers.clone_from(&other.tracers);
         }
+    }
+
+    /// A library from before version 0.7 has no limiters.
+    pub fn has_limiters(&self) -> bool {
+        self.ledger == Ledger::Whole
     }
 
     /// A library from before version 0.6 has another scale, 65,536.
@@ -57,29 +105,31 @@ impl Version {
             },
             air: vec![100, 928, 314, 81, 658, 100],
             tracers: vec![0, 221, 496, 522, 317, 0],
-            ledger: vec![0; plain::BLOCK],
+            ledger: after_load(1),
         };
         let sweep = Call::Zonal {
             layer: 0,
             row: 0,
             fluxes: vec![421, 462, 475, 229],
         };
-        self.call(0)(&mut world, &sweep);
+        self.make(0, &mut world, &sweep);
         world.tracers
     }
 }
 
-/// Whether the call came with the ledger or after it.
-fn is_later(call: &Call) -> bool {
-    matches!(
-        call,
-        Call::AddEmitter { .. }
-            | Call::RemoveEmitter { .. }
-            | Call::Tick { .. }
-            | Call::UnitsATick { .. }
-            | Call::CountZonal { .. }
-            | Call::ZonalWithCount { .. }
-    )
+/// The name of a call that some library from before lacks; none for the others.
+fn name_of(call: &Call) -> &'static str {
+    match call {
+        Call::LongZonal { .. } => "long_zonal",
+        Call::AddEmitter { .. } => "add_emitter",
+        Call::RemoveEmitter { .. } => "remove_emitter",
+        Call::Tick { .. } => "tick",
+        Call::UnitsATick { .. } => "units_a_tick",
+        Call::CountZonal { .. } => "count_zonal",
+        Call::ZonalWithCount { .. } => "zonal_with_count",
+        Call::SetLimiter { .. } => "set_limiter",
+        _ => "-",
+    }
 }
 
 /// What a call returns in C: answer · 2^32 + count.
@@ -169,6 +219,8 @@ macro_rules! c_later_calls {
                 fn count_zonal(w: u32, r: u32, k: u32, n: u32, air: *const u32, al: usize, gas: *const u32, gl: usize, ledger: *const u32, ll: usize, layer: u32, row: u32, fluxes: *const i32, fl: usize) -> u64;
                 #[link_name = concat!($prefix, "_zonal_with_count")]
                 fn zonal_with_count(w: u32, r: u32, k: u32, n: u32, air: *mut u32, al: usize, gas: *mut u32, gl: usize, ledger: *const u32, ll: usize, layer: u32, row: u32, given: u32, fluxes: *const i32, fl: usize) -> u64;
+                #[link_name = concat!($prefix, "_set_limiter")]
+                fn set_limiter(w: u32, r: u32, k: u32, n: u32, air: *const u32, al: usize, gas: *const u32, gl: usize, ledger: *mut u32, ll: usize, tracer: u32, limiter: u32, lo: u64, hi: u64) -> u64;
             }
 
             pub fn call(world: &mut World, call: &Call) -> Answer {
@@ -190,6 +242,7 @@ macro_rules! c_later_calls {
                         }
                         Call::CountZonal { layer, row, fluxes } => returned(count_zonal(w, r, k, n, air, al, gas, gl, ledger, ll, *layer, *row, fluxes.as_ptr(), fluxes.len())),
                         Call::ZonalWithCount { layer, row, given, fluxes } => returned(zonal_with_count(w, r, k, n, air, al, gas, gl, ledger, ll, *layer, *row, *given, fluxes.as_ptr(), fluxes.len())),
+                        Call::SetLimiter { tracer, limiter, lo, hi } => returned(set_limiter(w, r, k, n, air, al, gas, gl, ledger, ll, *tracer, *limiter, *lo, *hi)),
                         _ => unreachable!("{call:?} is older than the ledger"),
                     }
                 }
@@ -260,6 +313,7 @@ fn rust(world: &mut World, call: &Call) -> Answer {
         Call::RemoveEmitter { tracer, id } => plain::remove_emitter(grid, air, tracers, ledger, *tracer, *id),
         Call::Tick { tracer } => plain::tick(grid, air, tracers, ledger, *tracer),
         Call::UnitsATick { tracer } => plain::units_a_tick(grid, air, tracers, ledger, *tracer),
+        Call::SetLimiter { tracer, limiter, lo, hi } => plain::set_limiter(grid, air, tracers, ledger, [*tracer, *limiter], [*lo, *hi]),
     };
     match outcome {
         Ok(count) => Answer { number: 0, count },
@@ -268,6 +322,20 @@ fn rust(world: &mut World, call: &Call) -> Answer {
 }
 
 pub const COUNT: usize = 4;
+
+/// What tools/benchmark found that the library before lacks, where it stands in the place of gcc -O3 -march=native.
+const BEFORE_LACKS: &str = match option_env!("BEFORE_LACKS") {
+    Some(names) => names,
+    None => "",
+};
+
+const BEFORE_LEDGER: Ledger = if cfg!(before_without_ledger) {
+    Ledger::Nothing
+} else if cfg!(before_without_limiters) {
+    Ledger::Emitters
+} else {
+    Ledger::Whole
+};
 
 /// The library first; ratios are of its times to the others'. Plain Rust lies where the link puts it.
 pub const VERSIONS: [Version; COUNT] = [
@@ -279,7 +347,8 @@ pub const VERSIONS: [Version; COUNT] = [
             library2::call,
             library3::call,
         ],
-        ledger: true,
+        ledger: Ledger::Whole,
+        lacks: "",
     },
     Version {
         // tools/benchmark may link an earlier library here
@@ -288,17 +357,20 @@ pub const VERSIONS: [Version; COUNT] = [
             None => "gcc -O3 -march=native",
         },
         calls: [native0::call, native1::call, native2::call, native3::call],
-        ledger: cfg!(not(before_without_ledger)),
+        ledger: BEFORE_LEDGER,
+        lacks: BEFORE_LACKS,
     },
     Version {
         name: "gcc -O3",
         calls: [o3_0::call, o3_1::call, o3_2::call, o3_3::call],
-        ledger: true,
+        ledger: Ledger::Whole,
+        lacks: "",
     },
     Version {
         name: "Rust -O",
         calls: [rust; PLACES],
-        ledger: true,
+        ledger: Ledger::Whole,
+        lacks: "",
     },
 ];
 

@@ -25,7 +25,7 @@ pub struct Kind {
     pub standing: usize,
 }
 
-pub const KINDS: [Kind; 14] = [
+pub const KINDS: [Kind; 15] = [
     Kind {
         name: "load",
         calls: |_, _| vec![Call::Load],
@@ -122,7 +122,26 @@ pub const KINDS: [Kind; 14] = [
         calls: |_, _| vec![Call::UnitsATick { tracer: 0 }],
         standing: 16,
     },
+    Kind {
+        name: "set_limiter",
+        calls: |_, _| {
+            vec![Call::SetLimiter {
+                tracer: 0,
+                limiter: 3,
+                lo: 1_000,
+                hi: u64::MAX,
+            }]
+        },
+        standing: 0,
+    },
 ];
+
+impl Kind {
+    /// Whether the call moves air, and is timed under every limiter.
+    pub fn moves(&self) -> bool {
+        ["zonal", "long_zonal", "meridional", "remap"].contains(&self.name)
+    }
+}
 
 fn middle(world: &World) -> u32 {
     world.air.len() as u32 / 2

@@ -1,6 +1,6 @@
 //! What the calls on emitters met in the comparison: each end of their numbers, each fault of a record, refusals alone and together.
 
-use crate::ledgers::BLOCK;
+use crate::ledgers::{BLOCK, EMITTERS};
 use crate::worlds::{cells, in_range, MOST};
 use reference::{Answer, Call, World};
 use std::collections::{BTreeMap, BTreeSet};
@@ -68,7 +68,8 @@ fn records(world: &World) -> Vec<Record<'_>> {
         0
     };
     let blocks = world.ledger.chunks_exact(BLOCK);
-    blocks.map(|block| Record { block, cells }).collect()
+    let records = blocks.map(|block| &block[..EMITTERS]);
+    records.map(|block| Record { block, cells }).collect()
 }
 
 impl Seen<'_> {

@@ -1,10 +1,19 @@
 //! Seeded ledgers and calls on emitters: mostly sound records, some with one of the four faults, some ledgers of a wrong length.
 
+use crate::limiters;
 use crate::worlds::{cells, in_range, index, Random, MOST};
 use reference::{Call, World};
 
-/// A tracer's numbers in the ledger: how many emitters stand, their units a tick in two halves, 16 times id, cell, units.
-pub const BLOCK: usize = 51;
+/// The emitters' numbers in a tracer's block: how many stand, their units a tick in two halves, 16 times id, cell, units.
+pub const EMITTERS: usize = 51;
+/// A tracer's block of the ledger: its emitters, then its limiter.
+pub const BLOCK: usize = EMITTERS + limiters::NUMBERS;
+
+/// The ledger of so many tracers as a load leaves it.
+pub fn after_load(tracers: usize) -> Vec<u32> {
+    let block = [&[0; EMITTERS][..], &limiters::AFTER_LOAD[..]].concat();
+    block.repeat(tracers)
+}
 
 /// Ids at both ends, few enough that they are met again.
 fn id(random: &mut Random) -> u32 {
@@ -27,8 +36,8 @@ fn units(random: &mut Random) -> u32 {
 }
 
 /// A sound record of a tracer. What comes after the standing emitters is 0, or any numbers.
-fn sound_block(random: &mut Random, cells: u64) -> [u32; BLOCK] {
-    let mut block = [0; BLOCK];
+fn sound_record(random: &mut Random, cells: u64) -> [u32; EMITTERS] {
+    let mut block = [0; EMITTERS];
     let standing = [0, 1, 2, random.below(17), 15, 16][random.below(6) as usize] as usize;
     let first_id = id(random);
     let largest = random.one_in(12);
@@ -76,7 +85,7 @@ pub fn lend(random: &mut Random, world: &mut World) {
     }
     let cells = cells(&world.grid);
     for block in world.ledger.chunks_exact_mut(BLOCK) {
-        block.copy_from_slice(&sound_block(random, cells));
+        block[..EMITTERS].copy_from_slice(&sound_record(random, cells));
     }
     if random.one_in(6) {
         let broken = random.below(world.grid.n.into()) as usize;
@@ -84,8 +93,16 @@ pub fn lend(random: &mut Random, world: &mut World) {
     }
     if random.one_in(50) {
         let length = world.ledger.len();
-        let lengths = [0, length - BLOCK, length - 1, length + 1, length + BLOCK];
-        world.ledger.resize(lengths[random.below(5) as usize], 0);
+        // The last is the length that it had before the limiters.
+        let lengths = [
+            0,
+            length - BLOCK,
+            length - 1,
+            length + 1,
+            length + BLOCK,
+            length / BLOCK * EMITTERS,
+        ];
+        world.ledger.resize(lengths[random.below(6) as usize], 0);
     }
 }
 

@@ -54,6 +54,9 @@ pub fn call(world: &mut World, call: &Call) -> Result<u64, Refusal> {
         Call::UnitsATick { tracer } => {
             raw::units_a_tick(grid, air, tracers, ledger, *tracer)
         }
+        Call::SetLimiter { tracer, limiter, lo, hi } => {
+            raw::set_limiter(grid, air, tracers, ledger, *tracer, *limiter, *lo, *hi).map(u64::from)
+        }
     }
 }
 
@@ -75,6 +78,7 @@ pub fn name(call: &Call) -> &'static str {
         Call::RemoveEmitter { .. } => "remove_emitter",
         Call::Tick { .. } => "tick",
         Call::UnitsATick { .. } => "units_a_tick",
+        Call::SetLimiter { .. } => "set_limiter",
     }
 }
 
@@ -84,18 +88,19 @@ pub fn refusals(call: &Call) -> &'static [u32] {
         Call::Load { .. } => &[1, 2, 3, 4],
         Call::Emission { .. } => &[1, 2, 3, 4, 5, 6],
         Call::Withdrawal { .. } => &[1, 2, 3, 4, 5, 7],
-        Call::Zonal { .. } => &[1, 2, 3, 4, 5, 8, 9],
-        Call::CountZonal { .. } => &[1, 2, 3, 4, 5, 8, 9],
-        Call::ZonalWithCount { .. } => &[1, 2, 3, 4, 5, 8, 9, 20],
-        Call::LongZonal { .. } => &[1, 2, 3, 4, 5, 8, 16, 17],
-        Call::Meridional { .. } => &[1, 2, 3, 4, 5, 8, 10],
-        Call::Remap { .. } => &[1, 2, 3, 4, 11, 12],
+        Call::Zonal { .. } => &[1, 2, 3, 4, 21, 5, 8, 9],
+        Call::CountZonal { .. } => &[1, 2, 3, 4, 21, 5, 8, 9],
+        Call::ZonalWithCount { .. } => &[1, 2, 3, 4, 21, 5, 8, 9, 20],
+        Call::LongZonal { .. } => &[1, 2, 3, 4, 21, 5, 8, 16, 17],
+        Call::Meridional { .. } => &[1, 2, 3, 4, 21, 5, 8, 10],
+        Call::Remap { .. } => &[1, 2, 3, 4, 21, 11, 12],
         Call::Total { .. } => &[1, 2, 3, 4, 5],
         Call::Cell { .. } => &[1, 2, 3, 4, 5],
         Call::AddEmitter { .. } => &[1, 2, 3, 4, 5, 18],
         Call::RemoveEmitter { .. } => &[1, 2, 3, 4, 5, 19],
         Call::Tick { .. } => &[1, 2, 3, 4, 5, 6],
         Call::UnitsATick { .. } => &[1, 2, 3, 4, 5],
+        Call::SetLimiter { .. } => &[1, 2, 3, 4, 5, 21],
     }
 }
 
@@ -104,18 +109,19 @@ pub const TABLE: &[(&str, &[u32])] = &[
     ("load", &[1, 2, 3, 4]),
     ("emission", &[1, 2, 3, 4, 5, 6]),
     ("withdrawal", &[1, 2, 3, 4, 5, 7]),
-    ("zonal", &[1, 2, 3, 4, 5, 8, 9]),
-    ("count_zonal", &[1, 2, 3, 4, 5, 8, 9]),
-    ("zonal_with_count", &[1, 2, 3, 4, 5, 8, 9, 20]),
-    ("long_zonal", &[1, 2, 3, 4, 5, 8, 16, 17]),
-    ("meridional", &[1, 2, 3, 4, 5, 8, 10]),
-    ("remap", &[1, 2, 3, 4, 11, 12]),
+    ("zonal", &[1, 2, 3, 4, 21, 5, 8, 9]),
+    ("count_zonal", &[1, 2, 3, 4, 21, 5, 8, 9]),
+    ("zonal_with_count", &[1, 2, 3, 4, 21, 5, 8, 9, 20]),
+    ("long_zonal", &[1, 2, 3, 4, 21, 5, 8, 16, 17]),
+    ("meridional", &[1, 2, 3, 4, 21, 5, 8, 10]),
+    ("remap", &[1, 2, 3, 4, 21, 11, 12]),
     ("total", &[1, 2, 3, 4, 5]),
     ("cell", &[1, 2, 3, 4, 5]),
     ("add_emitter", &[1, 2, 3, 4, 5, 18]),
     ("remove_emitter", &[1, 2, 3, 4, 5, 19]),
     ("tick", &[1, 2, 3, 4, 5, 6]),
     ("units_a_tick", &[1, 2, 3, 4, 5]),
+    ("set_limiter", &[1, 2, 3, 4, 5, 21]),
 ];
 
 /// The call as a line of a script.
@@ -136,6 +142,7 @@ pub fn line(call: &Call) -> String {
         Call::RemoveEmitter { tracer, id } => format!("remove_emitter {tracer} {id}"),
         Call::Tick { tracer } => format!("tick {tracer}"),
         Call::UnitsATick { tracer } => format!("units_a_tick {tracer}"),
+        Call::SetLimiter { tracer, limiter, lo, hi } => format!("set_limiter {tracer} {limiter} {lo} {hi}"),
     }
 }
 

@@ -8,12 +8,14 @@
 //!     compare long-run                    writes one long input of the runner
 //!     compare long-loop [RECORDS]         writes an input of so many records (default 5,000,000)
 
+mod chosen;
 mod emitters;
 mod gases;
 mod inputs;
 mod ledgers;
 #[rustfmt::skip]
 mod library;
+mod limiters;
 mod long;
 mod presses;
 mod reached;
@@ -162,6 +164,7 @@ fn compare_calls(lists: u64) {
     let mut readout = readout::Situations::default();
     let mut presses = presses::Situations::default();
     let mut thin = thin::Situations::default();
+    let mut chosen = chosen::Situations::default();
     for list in 0..lists {
         let size = if list * 10 < lists * 6 {
             0
@@ -194,6 +197,7 @@ fn compare_calls(lists: u64) {
             readout.add(&world, &call, &after, want);
             presses.add(&world, &call, &after, want);
             thin.add(&world, &call, &after, want);
+            chosen.add(&world, &call, &after, want);
             world = after;
             *seen.entry((library::name(&call), want.number)).or_default() += 1;
         }
@@ -207,10 +211,11 @@ fn compare_calls(lists: u64) {
     readout.print();
     presses.print();
     thin.print();
+    chosen.print();
     if lists >= FULL {
         let unmet = long.missing().into_iter().chain(emitters.missing());
         let unmet = unmet.chain(readout.missing()).chain(presses.missing());
-        all_reached(&seen, unmet.chain(thin.missing()));
+        all_reached(&seen, unmet.chain(thin.missing()).chain(chosen.missing()));
     }
 }
 

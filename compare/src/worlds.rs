@@ -1,7 +1,6 @@
 //! Seeded worlds and calls: mostly in range, some at and past the limits, some with lists of a wrong length.
 
-use crate::gases;
-use crate::ledgers;
+use crate::{gases, ledgers, limiters};
 use reference::{Call, Grid, World};
 
 pub const MOST: u64 = 268_435_455;
@@ -76,7 +75,7 @@ pub fn in_range(g: &Grid) -> bool {
         && (1..=8).contains(&g.n)
 }
 
-/// A world in which no emitter stands. The runner's inputs are made from it, and are the same bytes as before the ledger.
+/// A world whose ledger is as a load leaves it. The runner's inputs are made from it, and are the same bytes as before the ledger.
 pub fn world(random: &mut Random, grid: Grid) -> World {
     let (count, tracers) = if in_range(&grid) {
         (cells(&grid), grid.n as u64)
@@ -113,7 +112,7 @@ pub fn world(random: &mut Random, grid: Grid) -> World {
         grid,
         air,
         tracers: amounts,
-        ledger: vec![0; tracers as usize * ledgers::BLOCK],
+        ledger: ledgers::after_load(tracers as usize),
     }
 }
 
@@ -227,16 +226,18 @@ pub fn world_with_ledger(random: &mut Random, grid: Grid) -> World {
     let mut world = world(random, grid);
     ledgers::lend(random, &mut world);
     gases::lend(random, &mut world);
+    limiters::lend(random, &mut world);
     world
 }
 
 /// Any call of the library.
 pub fn call(random: &mut Random, world: &World) -> Call {
-    match random.below(11) {
+    match random.below(12) {
         0 | 1 => long_call(random, world),
         2..=4 => ledgers::call(random, world),
         5 if random.one_in(2) => remap_at_old_edges(random, world),
         6 => press(random, world),
+        7 => limiters::call(random, world),
         _ => recorded_call(random, world),
     }
 }
@@ -255,7 +256,7 @@ fn zonal_fluxes(random: &mut Random, world: &World, typical: u64) -> Vec<i32> {
 }
 
 /// A count before the sweep, or a sweep with a given count: the right one, one beside it, a larger one, 0, 16, 17 or 2^32 − 1. Half of them have one
-/// flux through all faces, so that every count is met.
+/// flux through all faces, so that every count is met; one in 16 has a flux that is too large.
 fn press(random: &mut Random, world: &World) -> Call {
     let (layer, row) = (
         index(random, world.grid.k.into()),
@@ -263,11 +264,15 @@ fn press(random: &mut Random, world: &World) -> Call {
     );
     let air = row_air(world, layer, row);
     let least = air.iter().copied().min().map_or(1, u64::from).max(1);
-    let fluxes = if random.one_in(2) {
+    let mut fluxes = if random.one_in(2) {
         vec![(least * random.between(1, 17)).min(1_048_560) as i32; air.len()]
     } else {
         zonal_fluxes(random, world, least.min(65_535))
     };
+    if random.one_in(16) {
+        let too_large = [1_048_561, -1_048_561, i32::MIN][random.below(3) as usize];
+        fluxes.iter_mut().take(1).for_each(|flux| *flux = too_large);
+    }
     if random.one_in(4) {
         return Call::CountZonal { layer, row, fluxes };
     }
@@ -276,7 +281,8 @@ fn press(random: &mut Random, world: &World) -> Call {
         row,
         fluxes: fluxes.clone(),
     };
-    let right = reference::call(&mut world.clone(), &count).count as u32;
+    // Where a limiter is broken, the count that the row has without it.
+    let right = reference::call(&mut limiters::with_first(world), &count).count as u32;
     let given = match random.below(8) {
         0 => right.wrapping_sub(1),
         1 => right + 1,
