@@ -1,5 +1,5 @@
 /*
- * Puldeho, the transport core of the tracer console, for C (C99 or later) and C++: version 0.6.0.
+ * Puldeho, the transport core of the tracer console, for C (C99 or later) and C++: version 0.7.0.
  * Made by tools/bindings from the tables of bindings/: not to be edited.
  *
  * To compile and link, on x86-64 Linux: cc program.c $(pkg-config --cflags --libs puldeho)
@@ -17,7 +17,7 @@
  *
  * What a call gives: PULDEHO_ACCEPTED, which is 0, or the first refusal that applies. (So a true value
  * is a refusal: do not keep it in a bool called ok.) A refused call changes nothing: neither air nor
- * tracers nor emitters. A count, where a call has one, is written to the last argument, 0 if the call
+ * tracers nor emitters nor limiters. A count, where a call has one, is written to the last argument, 0 if the call
  * is refused; that pointer may be null.
  *
  * What is assumed of pointers:
@@ -27,11 +27,12 @@
  * - a list that is written shares no memory with another list of the same call;
  * - nobody else writes a lent list during the call, or reads one that is written.
  * Nothing is assumed of the numbers: any are answered. The library keeps nothing
- * between calls, and each call tests the whole world before it does anything (the numbers of the ledger
- * only if it is one of the four calls on emitters). Several threads may call it at once, each with a
- * world of its own; a list that is only read may be shared. Between calls you may read the lists. If
- * you write into them, load again: what is promised of a run counts from there, no emitter stands
- * then, and later versions, which keep books of each gas, refuse other calls until then.
+ * between calls, and each call tests the whole world before it does anything (of the ledger the emitters
+ * only in the four calls on emitters, the limiters only in the calls that move air and in
+ * puldeho_count_zonal). Several threads may call it at once, each with a world of its own; a list that is
+ * only read may be shared. Between calls you may read the lists. If you write into them, load again: what
+ * is promised of a run counts from there, no emitter stands then, every tracer has limiter 1, and later
+ * versions, which keep books of each gas, refuse other calls until then.
  * Names that begin with puldeho or PULDEHO are the library's. Take sizes and limits by their names: they may grow.
  *
  * Which version has which scale: ratios, mismatches and pieces have the scale 262,144 (PULDEHO_SCALE) from
@@ -42,22 +43,23 @@
  *
  * What is assumed of the stack: that it has room for the call, PULDEHO_STACK bytes or, of the proved
  * function under each call (return address and libc's functions included, arguments not):
- *   puldeho_raw_load                   16,576
- *   puldeho_raw_emission                  464
- *   puldeho_raw_withdrawal                400
- *   puldeho_raw_zonal                  25,696
+ *   puldeho_raw_load                      384
+ *   puldeho_raw_emission                  480
+ *   puldeho_raw_withdrawal                416
+ *   puldeho_raw_zonal                  25,760
  *   puldeho_raw_count_zonal            17,552
- *   puldeho_raw_zonal_with_count       25,696
- *   puldeho_raw_long_zonal             18,656
- *   puldeho_raw_meridional             93,968
- *   puldeho_raw_remap                  17,840
- *   puldeho_raw_total                     432
- *   puldeho_raw_cell                      400
- *   puldeho_raw_add_emitter               720
- *   puldeho_raw_remove_emitter            704
- *   puldeho_raw_tick                      720
- *   puldeho_raw_units_a_tick              672
- *   puldeho_raw_units_a_tick_number       688
+ *   puldeho_raw_zonal_with_count       25,760
+ *   puldeho_raw_long_zonal             18,672
+ *   puldeho_raw_meridional             93,952
+ *   puldeho_raw_remap                  17,856
+ *   puldeho_raw_total                     448
+ *   puldeho_raw_cell                      416
+ *   puldeho_raw_add_emitter               736
+ *   puldeho_raw_remove_emitter            720
+ *   puldeho_raw_tick                      736
+ *   puldeho_raw_units_a_tick              688
+ *   puldeho_raw_units_a_tick_number       704
+ *   puldeho_raw_set_limiter               384
  * A function puldeho_why_NAME wants at most PULDEHO_WHY_STACK bytes.
  */
 #ifndef PULDEHO_H
@@ -67,14 +69,14 @@
 #include <stdint.h>
 #include <string.h>
 
-#define PULDEHO_VERSION "0.6.0"
+#define PULDEHO_VERSION "0.7.0"
 #define PULDEHO_VERSION_MAJOR 0
-#define PULDEHO_VERSION_MINOR 6
+#define PULDEHO_VERSION_MINOR 7
 #define PULDEHO_VERSION_PATCH 0
-#define PULDEHO_ABI puldeho_abi_0_6
+#define PULDEHO_ABI puldeho_abi_0_7
 
-/* the scale of ratios, mismatches and pieces: 262144 from version 0.6 on, and 65536 before.
- * Builds whose scales differ may give other amounts; no call takes it */
+/* the scale of ratios, mismatches and pieces, in which set_limiter takes its bounds: 262144
+ * from version 0.6 on, and 65536 before. Builds whose scales differ may give other amounts */
 #define PULDEHO_SCALE 262144
 /* the most air of a cell; the least is 1 */
 #define PULDEHO_AIR_LIMIT 65535
@@ -102,10 +104,10 @@
 #define PULDEHO_MOST_EMITTERS 16
 /* how many numbers of the ledger each tracer has; tracer t's block starts at t times this
  * number. Later versions have more */
-#define PULDEHO_LEDGER_BLOCK 51
+#define PULDEHO_LEDGER_BLOCK 56
 
 /* The deepest stack of all calls, in bytes, and room enough for each function that says why one was refused. */
-#define PULDEHO_STACK 93968
+#define PULDEHO_STACK 93952
 #define PULDEHO_WHY_STACK 131072
 
 /* What a compiler that knows them warns of: a result that nobody looks at, a null pointer, and a list that is shorter
@@ -167,7 +169,23 @@ enum puldeho_refusal {
     /* the tracer has no emitter of that id */
     PULDEHO_REFUSAL_EMITTER_ABSENT = 19,
     /* the given count differs from the smallest that serves */
-    PULDEHO_REFUSAL_GIVEN_COUNT = 20
+    PULDEHO_REFUSAL_GIVEN_COUNT = 20,
+    /* a tracer's limiter is none of 1, 2 and 3, or its lo exceeds its hi */
+    PULDEHO_REFUSAL_LIMITERS = 21
+};
+
+/* The limiters, as puldeho_set_limiter takes them; section 12 of the guide says when to use which. Later versions may
+ * have further ones. */
+enum puldeho_limiter_number {
+    /* van Leer's monotone limiter, which a load gives every tracer: no new highs and lows
+     * beyond rounding */
+    PULDEHO_LIMITER_PRESENT = 1,
+    /* keeps steeper slopes: amounts never fall below 0, but may rise above all that was
+     * near */
+    PULDEHO_LIMITER_POSITIVE = 2,
+    /* slopes as steep as keeps the ratio inside a cell between lo and hi; no slope in a cell
+     * whose ratio is outside */
+    PULDEHO_LIMITER_FIXED = 3
 };
 
 /* Why a call was refused: the condition of a refusal, in words. */
@@ -210,6 +228,8 @@ static inline const char *puldeho_refusal_text(enum puldeho_refusal refusal)
         return "the tracer has no emitter of that id";
     case PULDEHO_REFUSAL_GIVEN_COUNT:
         return "the given count differs from the smallest that serves";
+    case PULDEHO_REFUSAL_LIMITERS:
+        return "a tracer's limiter is none of 1, 2 and 3, or its lo exceeds its hi";
     }
     return "no refusal of this version";
 }
@@ -254,6 +274,8 @@ static inline const char *puldeho_refusal_remedy(enum puldeho_refusal refusal)
         return "remove each stack once, from the tracer that it was added to, and add the emitters anew after a load";
     case PULDEHO_REFUSAL_GIVEN_COUNT:
         return "see that layer, row and fluxes are those that were counted; then count again with count_zonal, look at the new count, and give that";
+    case PULDEHO_REFUSAL_LIMITERS:
+        return "load the world before other calls, and again if the ledger was written by anything but calls, then add the emitters and set the limiters anew; give set_limiter 1, 2 or 3, and lo and hi as mixing ratios times 262,144, lo at most hi (with 1 and 2 both 0)";
     }
     return "compile the program anew, with the header of the library that it is linked with";
 }
@@ -283,12 +305,13 @@ static inline size_t puldeho_tracers_length(struct puldeho_grid grid)
     return (size_t)grid.n * (size_t)grid.k * puldeho_cells_in_layer(grid);
 }
 
-/* The length of ledger: N*51. In it: the emitters, a block for each tracer: at its place 0
- * how many stand, at 1 and 2 the sum of their units, low and high 32 bits, from 3 on id, cell
- * and units of each. */
+/* The length of ledger: N*56. In it: the emitters and the limiter, a block for each tracer:
+ * at its place 0 how many emitters stand, at 1 and 2 the sum of their units, low and high 32
+ * bits, from 3 on id, cell and units of each, at 51 the limiter, at 52 and 53 its lo and at 54
+ * and 55 its hi, low and high 32 bits. */
 static inline size_t puldeho_ledger_length(struct puldeho_grid grid)
 {
-    return (size_t)grid.n * 51;
+    return (size_t)grid.n * 56;
 }
 
 /* The length of fluxes of a zonal call: W. In it: flux i crosses the face from column i to
@@ -381,19 +404,23 @@ static inline uint32_t puldeho_north_cap(struct puldeho_grid grid, uint32_t laye
  * - make all calls on the one struct, by its address: a copy of the struct is neither the same world nor
  *   a second one. It may be moved, as by a function that returns it. puldeho_copy copies a state.
  *
- * The ledger holds the emitters that stand. A program need not know of it: where `ledger` is null, the world has
- * one of its own, in the struct. To keep it elsewhere, set `ledger` to puldeho_ledger_length(grid) numbers and
- * `ledger_length` to that length before the load; the load clears it. Tracer t's block of numbers starts at
+ * The ledger holds the emitters that stand and the limiters. A program need not know of it: where `ledger` is null,
+ * the world has one of its own, in the struct. To keep it elsewhere, set `ledger` to puldeho_ledger_length(grid) numbers
+ * and `ledger_length` to that length before the load; the load writes all of it. Tracer t's block of numbers starts at
  * t*PULDEHO_LEDGER_BLOCK. In it stand at
  *   0                          how many emitters stand, 0 to PULDEHO_MOST_EMITTERS
  *   1 and 2                    the sum of their units a tick, its low and its high 32 bits
  *   3 + 3*i, 4 + 3*i, 5 + 3*i  id, cell and units a tick of emitter i, counted from 0
+ *   51                         the limiter's number, one of enum puldeho_limiter_number
+ *   52 and 53, 54 and 55       its bounds lo and hi, of each the low and the high 32 bits
  * A new emitter comes after the last. In place of a removed one comes the last one, whose place becomes 0, 0, 0. A load
- * leaves 0 everywhere. So two programs that make the same calls have the same ledger, number for number.
- * Read it with puldeho_lent_ledger. Only calls may write it: the four calls on emitters refuse with 5 a ledger in which
- * some tracer has more emitters than that, one in an absent cell, an id twice or a false sum; no other call looks into
- * it. To keep the emitters in a file, keep what stands in each block; to bring them back, load, and then add them again
- * in the same order: the ledger is then the same.
+ * leaves limiter 1 in each block, and 0 everywhere else; before the first load a world's own ledger is all zeros.
+ * So two programs that make the same calls have the same ledger, number for number.
+ * Read it with puldeho_lent_ledger, a limiter with puldeho_limiter_of. Only calls may write it. The four calls on emitters
+ * refuse with 5 a ledger in which some tracer has more emitters than that, one in an absent cell, an id twice or a false
+ * sum. The calls that move air and puldeho_count_zonal refuse with 21 one in which some tracer's limiter is unknown or its
+ * lo above its hi. No other call looks into it. To keep emitters and limiters in a file, keep what stands in each block; to
+ * bring them back, load, add the emitters again in the same order, and set the limiters: the ledger is then the same.
  * Later versions have further numbers at the end of each block and after all blocks: take lengths and starts of
  * blocks from the functions and names above, and do not count on those of this version. */
 struct puldeho_world {
@@ -404,12 +431,13 @@ struct puldeho_world {
     /* the amounts of every tracer; tracer t starts at t*K*C: N*K*C numbers */
     uint32_t *tracers;
     size_t tracers_length;
-    /* the emitters, a block for each tracer: at its place 0 how many stand, at 1 and 2 the
-     * sum of their units, low and high 32 bits, from 3 on id, cell and units of each: N*51
-     * numbers; null and 0: the world's own, below */
+    /* the emitters and the limiter, a block for each tracer: at its place 0 how many
+     * emitters stand, at 1 and 2 the sum of their units, low and high 32 bits, from 3 on id,
+     * cell and units of each, at 51 the limiter, at 52 and 53 its lo and at 54 and 55 its hi,
+     * low and high 32 bits: N*56 numbers; null and 0: the world's own, below */
     uint32_t *ledger;
     size_t ledger_length;
-    uint32_t own_ledger[408];
+    uint32_t own_ledger[448];
 };
 
 /* The world of a grid and lent lists; each length is how many numbers the list has. It reads none of them, so they may
@@ -434,7 +462,7 @@ static inline struct puldeho_world puldeho_world_over(
 static inline size_t puldeho_own_ledger_length(struct puldeho_grid grid)
 {
     size_t wanted = puldeho_ledger_length(grid);
-    return wanted < 408 ? wanted : 408;
+    return wanted < 448 ? wanted : 448;
 }
 
 /* How many numbers of ledger are lent: those of the list that was set, or of the world's own. */
@@ -447,6 +475,27 @@ static inline size_t puldeho_lent_ledger_length(const struct puldeho_world *worl
 static inline const uint32_t *puldeho_lent_ledger(const struct puldeho_world *world)
 {
     return world->ledger != NULL ? world->ledger : world->own_ledger;
+}
+
+/* A tracer's limiter: its number, one of enum puldeho_limiter_number, and its bounds, as the call that sets it takes them. */
+struct puldeho_limiter {
+    uint32_t number;
+    uint64_t lo, hi;
+};
+
+/* The limiter that a tracer has now; all 0 where the world was never loaded, or has no such tracer. */
+PULDEHO_NOT_NULL(1)
+static inline struct puldeho_limiter puldeho_limiter_of(const struct puldeho_world *world, uint32_t tracer)
+{
+    struct puldeho_limiter limiter = {0, 0, 0};
+    size_t place = (size_t)tracer * PULDEHO_LEDGER_BLOCK + 51;
+    if (tracer < world->grid.n && place + 5 <= puldeho_lent_ledger_length(world)) {
+        const uint32_t *numbers = puldeho_lent_ledger(world) + place;
+        limiter.number = numbers[0];
+        limiter.lo = (uint64_t)numbers[2] << 32 | numbers[1];
+        limiter.hi = (uint64_t)numbers[4] << 32 | numbers[3];
+    }
+    return limiter;
 }
 
 /* Copies a world's state, all its lists, the ledger and whatever a later version adds, into another world over lists of
@@ -488,8 +537,9 @@ static inline enum puldeho_refusal puldeho_copy(struct puldeho_world *to, const 
 
 /*
  * Tests the grid and the lists air and tracers, which are the world from then on, and changes
- * no number in them. Leaves no emitter standing: it writes 0 over the whole ledger and does not
- * look at what stood there. Writes ledger. Refusals, in order: 1 2 3 4.
+ * no number in them. Leaves no emitter standing, and gives every tracer limiter 1 with both
+ * bounds 0: it writes the whole ledger and does not look at what stood there. Writes ledger.
+ * Refusals, in order: 1 2 3 4.
  */
 PULDEHO_MUST_USE PULDEHO_NOT_NULL(1)
 static inline enum puldeho_refusal puldeho_load(
@@ -519,7 +569,7 @@ static inline enum puldeho_refusal puldeho_withdrawal(
 
 /*
  * Sweeps one row of one layer by W fluxes, positive eastward. Writes air and tracers. Refusals,
- * in order: 1 2 3 4 5 8 9. substeps: the number of substeps, 1 to 16. fluxes has
+ * in order: 1 2 3 4 21 5 8 9. substeps: the number of substeps, 1 to 16. fluxes has
  * puldeho_zonal_fluxes_length(grid) numbers.
  */
 PULDEHO_MUST_USE PULDEHO_NOT_NULL(1) PULDEHO_LIST(read_only, 4, 5)
@@ -533,7 +583,7 @@ static inline enum puldeho_refusal puldeho_zonal(
 /*
  * Counts the substeps of a zonal sweep of one row of one layer by W fluxes, positive eastward,
  * before it is made, to be seen and then given to zonal_with_count. Writes nothing. Refusals,
- * in order: 1 2 3 4 5 8 9. substeps: the number of substeps that the sweep takes, 1 to 16.
+ * in order: 1 2 3 4 21 5 8 9. substeps: the number of substeps that the sweep takes, 1 to 16.
  * fluxes has puldeho_count_zonal_fluxes_length(grid) numbers.
  */
 PULDEHO_MUST_USE PULDEHO_NOT_NULL(1) PULDEHO_LIST(read_only, 4, 5)
@@ -547,7 +597,7 @@ static inline enum puldeho_refusal puldeho_count_zonal(
 /*
  * Makes the sweep of zonal, if the given count is the one that count_zonal gives for the same
  * layer, row and fluxes now; with any other count it is refused with 20. Writes air and
- * tracers. Refusals, in order: 1 2 3 4 5 8 9 20. substeps: the given count. fluxes has
+ * tracers. Refusals, in order: 1 2 3 4 21 5 8 9 20. substeps: the given count. fluxes has
  * puldeho_zonal_with_count_fluxes_length(grid) numbers.
  */
 PULDEHO_MUST_USE PULDEHO_NOT_NULL(1) PULDEHO_LIST(read_only, 5, 6)
@@ -562,7 +612,7 @@ static inline enum puldeho_refusal puldeho_zonal_with_count(
 /*
  * Sweeps one row of one layer by W fluxes, positive eastward, without substeps: a face takes
  * whole cells and then a part of the next. Its amounts are not those of zonal. Writes air and
- * tracers. Refusals, in order: 1 2 3 4 5 8 16 17. fluxes has
+ * tracers. Refusals, in order: 1 2 3 4 21 5 8 16 17. fluxes has
  * puldeho_long_zonal_fluxes_length(grid) numbers.
  */
 PULDEHO_MUST_USE PULDEHO_NOT_NULL(1) PULDEHO_LIST(read_only, 4, 5)
@@ -574,7 +624,7 @@ static inline enum puldeho_refusal puldeho_long_zonal(
 
 /*
  * Sweeps one layer by W*(R + 1) fluxes, positive northward. Writes air and tracers. Refusals,
- * in order: 1 2 3 4 5 8 10. substeps: the number of substeps, 1. fluxes has
+ * in order: 1 2 3 4 21 5 8 10. substeps: the number of substeps, 1. fluxes has
  * puldeho_meridional_fluxes_length(grid) numbers.
  */
 PULDEHO_MUST_USE PULDEHO_NOT_NULL(1) PULDEHO_LIST(read_only, 3, 4)
@@ -588,9 +638,9 @@ static inline enum puldeho_refusal puldeho_meridional(
  * Remaps all columns to the edges of a table of K + 1 pairs a, b, lent as 2*(K + 1) numbers.
  * Makes at most 2*K steps for each column and tracer, in all at most the grid's
  * most_remap_steps. Section 6 of the guide writes a count out by hand. Writes air and tracers.
- * Refusals, in order: 1 2 3 4 11 12. overlaps: exactly the number of pairs of an old and a new
- * layer that share some air, summed over columns. table has puldeho_remap_table_length(grid)
- * numbers.
+ * Refusals, in order: 1 2 3 4 21 11 12. overlaps: exactly the number of pairs of an old and a
+ * new layer that share some air, summed over columns. table has
+ * puldeho_remap_table_length(grid) numbers.
  */
 PULDEHO_MUST_USE PULDEHO_NOT_NULL(1) PULDEHO_LIST(read_only, 2, 3)
 static inline enum puldeho_refusal puldeho_remap(
@@ -662,8 +712,23 @@ static inline enum puldeho_refusal puldeho_units_a_tick(
     uint64_t *units);
 
 /*
+ * Chooses the limiter of one tracer: 1 the present one, 2 the positive one, 3 the fixed one
+ * between lo and hi, which are mixing ratios (units of gas for one of air) times the scale,
+ * 262144. The bounds are stored with every limiter, and only 3 reads them; give 0 and 0 with 1
+ * and 2. Holds until the next set_limiter of this tracer or the next load. Writes ledger.
+ * Refusals, in order: 1 2 3 4 5 21.
+ */
+PULDEHO_MUST_USE PULDEHO_NOT_NULL(1)
+static inline enum puldeho_refusal puldeho_set_limiter(
+    struct puldeho_world *world,
+    uint32_t tracer,
+    uint32_t limiter,
+    uint64_t lo,
+    uint64_t hi);
+
+/*
  * Why a call is refused: for each call a function that takes the same arguments, writes into `text`
- * which cell, row, column or emitter is in the way, how much air it has and how much would leave, and
+ * which cell, row, column, emitter or limiter is in the way, how much air it has and how much would leave, and
  * whether a smaller time step can help, and returns the refusal, 0 if the call would be accepted. Ask after the
  * refusal, before the world changes. `text` gets at most `size` bytes with the final 0;
  * PULDEHO_WHY_SIZE are enough for any. These functions are plain C and not proved; they only read.
@@ -776,6 +841,15 @@ PULDEHO_NOT_NULL(1) PULDEHO_LIST(write_only, 3, 4)
 enum puldeho_refusal puldeho_why_units_a_tick(
     const struct puldeho_world *world,
     uint32_t tracer,
+    char *text, size_t size);
+
+PULDEHO_NOT_NULL(1) PULDEHO_LIST(write_only, 6, 7)
+enum puldeho_refusal puldeho_why_set_limiter(
+    const struct puldeho_world *world,
+    uint32_t tracer,
+    uint32_t limiter,
+    uint64_t lo,
+    uint64_t hi,
     char *text, size_t size);
 
 /*
@@ -928,6 +1002,17 @@ uint64_t puldeho_raw_units_a_tick_number(
     const uint32_t *tracers, size_t tracers_length,
     const uint32_t *ledger, size_t ledger_length,
     uint32_t tracer);
+
+PULDEHO_MUST_USE PULDEHO_LIST(read_only, 5, 6) PULDEHO_LIST(read_only, 7, 8) PULDEHO_LIST(read_write, 9, 10)
+uint64_t puldeho_raw_set_limiter(
+    uint32_t w, uint32_t r, uint32_t k, uint32_t n,
+    const uint32_t *air, size_t air_length,
+    const uint32_t *tracers, size_t tracers_length,
+    uint32_t *ledger, size_t ledger_length,
+    uint32_t tracer,
+    uint32_t limiter,
+    uint64_t lo,
+    uint64_t hi);
 
 /* Does nothing. Its name has the version: the proved functions may take other arguments in another, and a program that is
  * linked with the library of another version wants a name that is not there. */
@@ -1173,6 +1258,24 @@ static inline enum puldeho_refusal puldeho_units_a_tick(
         world->ledger != NULL ? world->ledger : world->own_ledger, puldeho_lent_ledger_length(world),
         tracer);
     return (enum puldeho_refusal)refusal;
+}
+
+static inline enum puldeho_refusal puldeho_set_limiter(
+    struct puldeho_world *world,
+    uint32_t tracer,
+    uint32_t limiter,
+    uint64_t lo,
+    uint64_t hi)
+{
+    return puldeho_refusal_and_count(puldeho_raw_set_limiter(
+        world->grid.w, world->grid.r, world->grid.k, world->grid.n,
+        world->air, world->air_length,
+        world->tracers, world->tracers_length,
+        world->ledger != NULL ? world->ledger : world->own_ledger, puldeho_lent_ledger_length(world),
+        tracer,
+        limiter,
+        lo,
+        hi), NULL);
 }
 
 #ifdef __cplusplus

@@ -226,6 +226,23 @@ static bool make_units_a_tick(struct puldeho_world *world, char *rest, struct ou
     return true;
 }
 
+static bool make_set_limiter(struct puldeho_world *world, char *rest, struct outcome *outcome)
+{
+    uint32_t tracer;
+    uint32_t limiter;
+    uint64_t lo;
+    uint64_t hi;
+    if (!take_u32(&rest, &tracer)
+        || !take_u32(&rest, &limiter)
+        || !take_u64(&rest, &lo)
+        || !take_u64(&rest, &hi)
+        || !at_end(rest))
+        return false;
+    outcome->why = puldeho_why_set_limiter(world, tracer, limiter, lo, hi, outcome->text, sizeof outcome->text);
+    outcome->refusal = puldeho_set_limiter(world, tracer, limiter, lo, hi);
+    return true;
+}
+
 const struct call calls[] = {
     {"load", make_load},
     {"emission", make_emission},
@@ -242,5 +259,6 @@ const struct call calls[] = {
     {"remove_emitter", make_remove_emitter},
     {"tick", make_tick},
     {"units_a_tick", make_units_a_tick},
+    {"set_limiter", make_set_limiter},
     {NULL, NULL},
 };

@@ -72,6 +72,7 @@ static void long_sweep(void)
     static const uint32_t tracers_after[CELLS] = {0, 0, 37, 263, 100, 0};
     static const int32_t fluxes[4] = {0, 50, 0, 0}, turn[4] = {400, 400, 400, 400};
     struct puldeho_world world = first_world();
+    expect("load", puldeho_load(&world), PULDEHO_ACCEPTED);
     expect("long sweep", puldeho_long_zonal(&world, 0, 0, fluxes, 4), PULDEHO_ACCEPTED);
     expect_list("long sweep, tracers after", tracers, tracers_after);
     expect("a whole turn", puldeho_long_zonal(&world, 0, 0, turn, 4), PULDEHO_ACCEPTED);
@@ -118,24 +119,28 @@ static void emitters(void)
     expect_number("how many stand after a load", puldeho_lent_ledger(&world)[0], 0);
 }
 
-/* The load after a program wrote into a list leaves no emitter; added again as the guide does it, they give the ledger as it
- * was. */
+/* The load after a program wrote into a list leaves no emitter and limiter 1; added and set again as the guide does it, they give
+ * the ledger as it was. */
 static void added_again(void)
 {
     uint32_t kept[PULDEHO_MOST_TRACERS * PULDEHO_LEDGER_BLOCK];
+    struct puldeho_limiter limiters[PULDEHO_MOST_TRACERS];
     struct puldeho_world world = first_world();
     struct puldeho_grid grid = world.grid;
-    enum puldeho_refusal refusal = PULDEHO_ACCEPTED;
+    enum puldeho_refusal refusal = puldeho_load(&world);
+    if (!refusal) refusal = puldeho_set_limiter(&world, 0, PULDEHO_LIMITER_FIXED, 7, (uint64_t)1 << 40);
     for (uint32_t id = 0; !refusal && id < 5; id++)
         refusal = puldeho_add_emitter(&world, 0, id, 100 + id, 10 * id);
     expect("five emitters", refusal, PULDEHO_ACCEPTED);
     expect("one stops", puldeho_remove_emitter(&world, 0, 101), PULDEHO_ACCEPTED);
     memcpy(kept, puldeho_lent_ledger(&world), grid.n * PULDEHO_LEDGER_BLOCK * sizeof *kept);
+    for (uint32_t t = 0; t < grid.n; t++) limiters[t] = puldeho_limiter_of(&world, t);
     refusal = puldeho_load(&world);
     for (uint32_t t = 0; t < grid.n; t++) {
         const uint32_t *block = kept + t * PULDEHO_LEDGER_BLOCK;
         for (uint32_t i = 0; !refusal && i < block[0]; i++)
             refusal = puldeho_add_emitter(&world, t, block[4 + 3 * i], block[3 + 3 * i], block[5 + 3 * i]);
+        if (!refusal) refusal = puldeho_set_limiter(&world, t, limiters[t].number, limiters[t].lo, limiters[t].hi);
     }
     expect("loaded and added again", refusal, PULDEHO_ACCEPTED);
     expect_number("the ledger as it was", memcmp(kept, puldeho_lent_ledger(&world), puldeho_lent_ledger_length(&world) * sizeof *kept), 0);
@@ -157,6 +162,52 @@ static void own_ledger(void)
     expect("an emitter", puldeho_add_emitter(&world, 0, 3, 7, 40), PULDEHO_ACCEPTED);
     expect_number("stands in the program's list", ledger[3], 7);
     expect_number("and not in the world's own", world.own_ledger[0], 0);
+}
+
+static void expect_limiter(const char *what, struct puldeho_limiter got, uint32_t number, uint64_t lo, uint64_t hi)
+{
+    expect_number(what, got.number, number);
+    expect_wide("its lo", got.lo, lo);
+    expect_wide("its hi", got.hi, hi);
+}
+
+/* One sweep by a limiter: 50 units of air leave a peak. */
+static void limited_sweep(enum puldeho_limiter_number limiter, uint64_t hi, uint32_t left)
+{
+    static const uint32_t gas[CELLS] = {0, 100, 300, 200, 0, 0};
+    static const int32_t fluxes[4] = {0, 50, 0, 0};
+    struct puldeho_world world = first_world();
+    memcpy(tracers, gas, sizeof gas);
+    expect("load", puldeho_load(&world), PULDEHO_ACCEPTED);
+    expect("a limiter", puldeho_set_limiter(&world, 0, limiter, 0, hi), PULDEHO_ACCEPTED);
+    expect("its sweep", puldeho_zonal(&world, 0, 0, fluxes, 4, NULL), PULDEHO_ACCEPTED);
+    expect_number("what is left of the peak", tracers[2], left);
+}
+
+/* The limiter of a gas: none before a load, 1 after it, another by the call, kept with the state, and 1 again after a load. */
+static void limiters(void)
+{
+    static const int32_t fluxes[4] = {0, 50, 0, 0};
+    uint32_t kept_air[CELLS], kept_tracers[CELLS];
+    struct puldeho_world world = first_world(), kept = puldeho_world_over(world.grid, kept_air, CELLS, kept_tracers, CELLS);
+    expect("a sweep before the load", puldeho_zonal(&world, 0, 0, fluxes, 4, NULL), PULDEHO_REFUSAL_LIMITERS);
+    expect_limiter("the limiter before the load", puldeho_limiter_of(&world, 0), 0, 0, 0);
+    expect("the load", puldeho_load(&world), PULDEHO_ACCEPTED);
+    expect_limiter("the limiter after it", puldeho_limiter_of(&world, 0), PULDEHO_LIMITER_PRESENT, 0, 0);
+    expect("a fixed one", puldeho_set_limiter(&world, 0, PULDEHO_LIMITER_FIXED, 5, UINT64_MAX), PULDEHO_ACCEPTED);
+    expect("lo above hi", puldeho_set_limiter(&world, 0, PULDEHO_LIMITER_PRESENT, 1, 0), PULDEHO_REFUSAL_LIMITERS);
+    expect("limiter 4", puldeho_set_limiter(&world, 0, 4, 0, 0), PULDEHO_REFUSAL_LIMITERS);
+    expect("an absent gas", puldeho_set_limiter(&world, 1, 4, 0, 0), PULDEHO_REFUSAL_INDEX);
+    expect_limiter("the limiter now", puldeho_limiter_of(&world, 0), PULDEHO_LIMITER_FIXED, 5, UINT64_MAX);
+    expect_limiter("of an absent gas", puldeho_limiter_of(&world, 1), 0, 0, 0);
+    expect("a state is kept", puldeho_copy(&kept, &world), PULDEHO_ACCEPTED);
+    expect("another load", puldeho_load(&world), PULDEHO_ACCEPTED);
+    expect_limiter("the limiter after it", puldeho_limiter_of(&world, 0), PULDEHO_LIMITER_PRESENT, 0, 0);
+    expect("the state comes back", puldeho_copy(&world, &kept), PULDEHO_ACCEPTED);
+    expect_limiter("with its limiter", puldeho_limiter_of(&world, 0), PULDEHO_LIMITER_FIXED, 5, UINT64_MAX);
+    limited_sweep(PULDEHO_LIMITER_PRESENT, 0, 150);
+    limited_sweep(PULDEHO_LIMITER_POSITIVE, 0, 144);
+    limited_sweep(PULDEHO_LIMITER_FIXED, (uint64_t)31 * PULDEHO_SCALE / 10, 148);
 }
 
 /* Lists of a wrong length, and of none. */
@@ -183,6 +234,7 @@ static void refusals(void)
     static const int32_t northward[8] = {100, 0, 0, 0, 0, 0, 0, 0};
     struct puldeho_world world = first_world();
     uint32_t substeps = 99;
+    expect("load", puldeho_load(&world), PULDEHO_ACCEPTED);
     expect("cell 6", puldeho_emission(&world, 0, 6, 1), PULDEHO_REFUSAL_INDEX);
     expect("no such cell", puldeho_emission(&world, 0, puldeho_cell_number(world.grid, 0, 1, 0), 1), PULDEHO_REFUSAL_INDEX);
     expect("more than is there", puldeho_withdrawal(&world, 0, 3, 201), PULDEHO_REFUSAL_WITHDRAWAL);
@@ -269,6 +321,7 @@ int main(void)
     emitters();
     added_again();
     own_ledger();
+    limiters();
     lengths();
     readout();
     refusals();

@@ -3,6 +3,7 @@
  * implementation's program `script` prints (reference/README.md has the form of a line). A bad line ends it with status 1,
  * and so does a call for which puldeho_why_NAME names another refusal than the library gives.
  */
+#include <errno.h>
 #include <inttypes.h>
 #include <stdio.h>
 #include <stdlib.h>
@@ -65,6 +66,14 @@ bool take_u32(char **rest, uint32_t *number)
     return take_number(rest, 0, UINT32_MAX, number);
 }
 
+bool take_u64(char **rest, uint64_t *number)
+{
+    char *word = take_word(rest), *end;
+    errno = 0;
+    *number = strtoull(word, &end, 10);
+    return '0' <= *word && *word <= '9' && *end == '\0' && errno == 0;
+}
+
 bool take_u32s(char **rest, struct list *list)
 {
     return take_numbers(rest, 0, UINT32_MAX, list);
@@ -85,7 +94,8 @@ static bool set_list(char *rest, uint32_t **numbers, size_t *length)
     return good;
 }
 
-/* The grid, and zeros for a ledger: the world's own, or an empty list for more tracers than a world may have. */
+/* The grid, and a ledger as an accepted load leaves it, limiter 1 and zeros: the world's own, or an empty list for more tracers
+ * than a world may have. */
 static bool set_grid(char *rest, struct puldeho_world *world)
 {
     struct puldeho_grid *grid = &world->grid;
@@ -95,6 +105,8 @@ static bool set_grid(char *rest, struct puldeho_world *world)
     world->ledger = grid->n <= PULDEHO_MOST_TRACERS ? NULL : reserve(NULL, sizeof *world->ledger);
     world->ledger_length = 0;
     memset(world->own_ledger, 0, sizeof world->own_ledger);
+    for (size_t tracer = 0; tracer < PULDEHO_MOST_TRACERS; tracer++)
+        world->own_ledger[tracer * PULDEHO_LEDGER_BLOCK + 3 + 3 * PULDEHO_MOST_EMITTERS] = PULDEHO_LIMITER_PRESENT;
     return good;
 }
 

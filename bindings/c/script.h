@@ -33,6 +33,7 @@ extern const struct call calls[];
 /* These take numbers from the rest of a line and are false at a bad one; a list takes all that follow. Fluxes are stored as
  * unsigned numbers and read as signed ones. */
 bool take_u32(char **rest, uint32_t *number);
+bool take_u64(char **rest, uint64_t *number);
 bool take_u32s(char **rest, struct list *list);
 bool take_i32s(char **rest, struct list *list);
 

@@ -34,6 +34,7 @@ struct text {
 struct call {
     const struct puldeho_world *world;
     uint32_t tracer, cell, amount, layer, row, id, units, given;
+    struct puldeho_limiter limiter;
     const int32_t *fluxes;
     const uint32_t *table;
     size_t length; /* of fluxes or table */
@@ -461,6 +462,103 @@ static enum puldeho_refusal tick_place(const struct call *call, struct text *tex
     say_number(text, block[entry(largest) + 2]);
     say(text, block[entry(largest) + 2] == 1 ? " unit a tick" : " units a tick");
     return PULDEHO_REFUSAL_EMISSION;
+}
+
+/* 21: the limiters, those that stand, and the one to be set. */
+
+static bool is_limiter(uint32_t number)
+{
+    return PULDEHO_LIMITER_PRESENT <= number && number <= PULDEHO_LIMITER_FIXED;
+}
+
+static bool fits(struct puldeho_limiter limiter)
+{
+    return is_limiter(limiter.number) && limiter.lo <= limiter.hi;
+}
+
+/* A bound. A program with signed numbers may have meant a negative one. */
+static void say_bound(struct text *text, uint64_t bound)
+{
+    say(text, "%llu", (unsigned long long)bound);
+    if (bound > INT64_MAX)
+        say(text, " (-%llu, if the number was signed)", (unsigned long long)(UINT64_MAX - bound) + 1);
+}
+
+/* Whether the ledger is what a world has before its first load. */
+static bool never_loaded(const struct puldeho_world *world)
+{
+    for (size_t i = 0; i < puldeho_ledger_length(world->grid); i++)
+        if (puldeho_lent_ledger(world)[i] != 0)
+            return false;
+    return true;
+}
+
+/* A limiter in the ledger that does not fit, and what mends it. */
+static void say_standing(struct text *text, const struct puldeho_world *world, size_t tracer)
+{
+    struct puldeho_limiter limiter = puldeho_limiter_of(world, (uint32_t)tracer);
+    size_t place = tracer * PULDEHO_LEDGER_BLOCK + entry(PULDEHO_MOST_EMITTERS);
+    if (never_loaded(world)) {
+        say(text, "no tracer has a limiter, as the ledger is all zeros: no load was made; load the world first");
+        return;
+    }
+    say(text, "tracer %zu has the limiter %lld", tracer, (long long)limiter.number);
+    if (!is_limiter(limiter.number))
+        say(text, " (number %zu of the ledger), which is none of 1, 2 and 3", place);
+    else
+        say(text, " with lo %llu above hi %llu (numbers %zu to %zu of the ledger)", (unsigned long long)limiter.lo,
+            (unsigned long long)limiter.hi, place + 1, place + 4);
+    say(text, "; the ledger was written by something else than calls: load again, then add the emitters and set the limiters anew");
+}
+
+static enum puldeho_refusal limiters_place(const struct call *call, struct text *text)
+{
+    for (size_t tracer = 0; tracer < call->world->grid.n; tracer++)
+        if (!fits(puldeho_limiter_of(call->world, (uint32_t)tracer))) {
+            say_standing(text, call->world, tracer);
+            return PULDEHO_REFUSAL_LIMITERS;
+        }
+    return PULDEHO_ACCEPTED;
+}
+
+/* The two numbers before the bounds are easily exchanged: says so if the other way round they are a limiter and a tracer. */
+static void say_limiter_order(struct text *text, const struct call *call)
+{
+    if (is_limiter(call->tracer) && call->limiter.number < call->world->grid.n)
+        say(text, "; the order is tracer, limiter, lo, hi, and %lld was given as the tracer, %lld as the limiter",
+            (long long)call->tracer, (long long)call->limiter.number);
+}
+
+/* The tracer whose limiter is to be set. */
+static enum puldeho_refusal limiter_tracer_place(const struct call *call, struct text *text)
+{
+    enum puldeho_refusal refusal = tracer_place(call, text);
+    if (refusal != PULDEHO_ACCEPTED)
+        say_limiter_order(text, call);
+    return refusal;
+}
+
+static enum puldeho_refusal limiter_place(const struct call *call, struct text *text)
+{
+    struct puldeho_limiter limiter = call->limiter;
+    if (fits(limiter))
+        return PULDEHO_ACCEPTED;
+    if (!is_limiter(limiter.number)) {
+        say(text, "there is no limiter ");
+        say_number(text, limiter.number);
+        say(text, ", it may be 1 (present), 2 (positive) or 3 (fixed)");
+        say_limiter_order(text, call);
+        return PULDEHO_REFUSAL_LIMITERS;
+    }
+    say(text, "lo is ");
+    say_bound(text, limiter.lo);
+    say(text, " and above hi, which is ");
+    say_bound(text, limiter.hi);
+    if (limiter.number == PULDEHO_LIMITER_FIXED)
+        say(text, "; lo must be at most hi, and both are mixing ratios times %d", PULDEHO_SCALE);
+    else
+        say(text, "; limiter %lld does not read them: give 0 and 0", (long long)limiter.number);
+    return PULDEHO_REFUSAL_LIMITERS;
 }
 
 /* The cells and faces of a sweep: a row closed round the globe (zonal, long), or a layer with its caps (meridional). */
@@ -1080,19 +1178,19 @@ static place *const withdrawal_places[] = {
     tracer_place, cell_place, withdrawal_place, NULL};
 static place *const zonal_places[] = {
     grid_place, air_length_place, tracers_length_place, ledger_length_place, zonal_length_place, air_place, totals_place,
-    layer_place, row_place, zonal_fluxes_place, zonal_place, NULL};
+    limiters_place, layer_place, row_place, zonal_fluxes_place, zonal_place, NULL};
 static place *const zonal_with_count_places[] = {
     grid_place, air_length_place, tracers_length_place, ledger_length_place, zonal_length_place, air_place, totals_place,
-    layer_place, row_place, zonal_fluxes_place, zonal_place, given_place, NULL};
+    limiters_place, layer_place, row_place, zonal_fluxes_place, zonal_place, given_place, NULL};
 static place *const long_zonal_places[] = {
     grid_place, air_length_place, tracers_length_place, ledger_length_place, zonal_length_place, air_place, totals_place,
-    layer_place, row_place, zonal_fluxes_place, long_flux_place, long_air_place, NULL};
+    limiters_place, layer_place, row_place, zonal_fluxes_place, long_flux_place, long_air_place, NULL};
 static place *const meridional_places[] = {
     grid_place, air_length_place, tracers_length_place, ledger_length_place, meridional_length_place, air_place, totals_place,
-    layer_place, meridional_fluxes_place, meridional_place, NULL};
+    limiters_place, layer_place, meridional_fluxes_place, meridional_place, NULL};
 static place *const remap_places[] = {
     grid_place, air_length_place, tracers_length_place, ledger_length_place, table_length_place, air_place, totals_place,
-    table_place, remap_place, NULL};
+    limiters_place, table_place, remap_place, NULL};
 static place *const total_places[] = {
     grid_place, air_length_place, tracers_length_place, ledger_length_place, air_place, totals_place, tracer_place, NULL};
 static place *const cell_places[] = {
@@ -1109,6 +1207,9 @@ static place *const tick_places[] = {
 static place *const units_a_tick_places[] = {
     grid_place, air_length_place, tracers_length_place, ledger_length_place, air_place, totals_place,
     tracer_place, ledger_place, NULL};
+static place *const set_limiter_places[] = {
+    grid_place, air_length_place, tracers_length_place, ledger_length_place, air_place, totals_place,
+    limiter_tracer_place, limiter_place, NULL};
 
 /* Every text fits in PULDEHO_WHY_SIZE, so that no more is asked of vsnprintf. */
 static enum puldeho_refusal first_refusal(const struct call *call, place *const *places, char *start, size_t size)
@@ -1234,4 +1335,11 @@ enum puldeho_refusal puldeho_why_units_a_tick(const struct puldeho_world *world,
 {
     struct call call = {.world = world, .tracer = tracer};
     return first_refusal(&call, units_a_tick_places, text, size);
+}
+
+enum puldeho_refusal puldeho_why_set_limiter(
+    const struct puldeho_world *world, uint32_t tracer, uint32_t limiter, uint64_t lo, uint64_t hi, char *text, size_t size)
+{
+    struct call call = {.world = world, .tracer = tracer, .limiter = {limiter, lo, hi}};
+    return first_refusal(&call, set_limiter_places, text, size);
 }

@@ -14,18 +14,20 @@ enum {
     CALLS = 16000,
     MOST_LIST = 256,
     MOST_LEDGER = 3 * PULDEHO_LEDGER_BLOCK + 1,
-    MOST_REFUSAL = PULDEHO_REFUSAL_GIVEN_COUNT
+    LIMITER = 3 + 3 * PULDEHO_MOST_EMITTERS, /* where a block has its limiter */
+    MOST_REFUSAL = PULDEHO_REFUSAL_LIMITERS
 };
 
 enum name {
     LOAD, EMISSION, WITHDRAWAL, ZONAL, COUNT_ZONAL, ZONAL_WITH_COUNT, LONG_ZONAL, MERIDIONAL, REMAP, TOTAL, CELL,
-    ADD_EMITTER, REMOVE_EMITTER, TICK, UNITS_A_TICK, NAMES
+    ADD_EMITTER, REMOVE_EMITTER, TICK, UNITS_A_TICK, SET_LIMITER, NAMES
 };
 
 /* A call with its own arguments. */
 struct request {
     enum name name;
-    uint32_t tracer, cell, amount, layer, row, id, units, given;
+    uint32_t tracer, cell, amount, layer, row, id, units, given, limiter;
+    uint64_t lo, hi;
     int32_t fluxes[MOST_LIST];
     uint32_t table[MOST_LIST];
     size_t length;
@@ -40,6 +42,8 @@ static unsigned long long_instead[2]; /* texts of zonal sweeps that do not name 
 static unsigned long faults[4]; /* texts of ledgers with too many emitters, an absent cell, an id twice, a false sum */
 static unsigned long full[2], twice; /* texts of 16 emitters, with none in the same cell and with one; of an id again */
 static unsigned long absent[2], ticks; /* texts of an absent id that no other tracer has, and that one has; of a tick */
+static unsigned long limiters[3]; /* texts of limiters that are unknown, that have lo above hi, and of no load */
+static unsigned long to_set[3]; /* texts of limiters to be set that are unknown, that have lo above hi, exchanged with the tracer */
 static unsigned long given[4]; /* texts of given counts of 0, above 16, that serve and are not the smallest, that do not serve */
 
 static void differs(const char *what, const char *text)
@@ -82,6 +86,7 @@ static enum puldeho_refusal why(const struct puldeho_world *world, const struct 
     case ADD_EMITTER: refusal = puldeho_why_add_emitter(world, r->tracer, r->cell, r->id, r->units, text, size); break;
     case REMOVE_EMITTER: refusal = puldeho_why_remove_emitter(world, r->tracer, r->id, text, size); break;
     case TICK: refusal = puldeho_why_tick(world, r->tracer, text, size); break;
+    case SET_LIMITER: refusal = puldeho_why_set_limiter(world, r->tracer, r->limiter, r->lo, r->hi, text, size); break;
     default: refusal = puldeho_why_units_a_tick(world, r->tracer, text, size); break;
     }
     free(fluxes);
@@ -107,6 +112,7 @@ static enum puldeho_refusal library(struct puldeho_world *world, const struct re
     case ADD_EMITTER: return puldeho_add_emitter(world, r->tracer, r->cell, r->id, r->units);
     case REMOVE_EMITTER: return puldeho_remove_emitter(world, r->tracer, r->id);
     case TICK: return puldeho_tick(world, r->tracer);
+    case SET_LIMITER: return puldeho_set_limiter(world, r->tracer, r->limiter, r->lo, r->hi);
     default: return puldeho_units_a_tick(world, r->tracer, NULL);
     }
 }
@@ -472,6 +478,54 @@ static void check_emitters(const struct puldeho_world *world, const struct reque
         check_tick(world, r, text);
 }
 
+/* 21 for a limiter that stands: the first tracer at fault is named with what it has. With the limiters mended one by one from that
+ * tracer on, by the call that sets them, the refusal goes; so it does by a load. */
+static void check_limiters(const struct puldeho_world *world, const struct request *r, const char *text)
+{
+    struct puldeho_world mended = copy_of(world), loaded = copy_of(world);
+    bool none = strstr(text, "no load was made") != NULL, unknown = strstr(text, "none of 1, 2 and 3") != NULL;
+    long long tracer = none ? 0 : number_after(text, "tracer ");
+    struct puldeho_limiter had = puldeho_limiter_of(world, (uint32_t)tracer);
+    for (size_t i = 0; none && i < puldeho_lent_ledger_length(world); i++)
+        if (puldeho_lent_ledger(world)[i] != 0)
+            differs("a ledger that is not all zeros", text);
+    if (!none && (number_after(text, " has the limiter ") != had.number || unknown != (had.number < 1 || had.number > 3)))
+        differs("the limiter that stands", text);
+    if (!none && !unknown && had.lo <= had.hi)
+        differs("the bounds of the limiter that stands", text);
+    for (uint32_t t = (uint32_t)tracer; t < world->grid.n; t++)
+        if (puldeho_set_limiter(&mended, t, PULDEHO_LIMITER_POSITIVE, 0, 0) != PULDEHO_ACCEPTED)
+            differs("a limiter cannot be set", text);
+    if (library(&mended, r) == PULDEHO_REFUSAL_LIMITERS || puldeho_load(&loaded) != PULDEHO_ACCEPTED
+        || library(&loaded, r) == PULDEHO_REFUSAL_LIMITERS)
+        differs("neither a load nor other limiters mend it", text);
+    limiters[none ? 2 : unknown ? 0 : 1]++;
+    drop(&mended);
+    drop(&loaded);
+}
+
+/* 21 for a limiter to be set: as the text would have it, the call is accepted. */
+static void check_set_limiter(const struct puldeho_world *world, const struct request *r, const char *text)
+{
+    struct puldeho_world copy = copy_of(world);
+    bool unknown = strstr(text, "there is no limiter ") != NULL, exchanged = strstr(text, "; the order is tracer, limiter, lo, hi") != NULL;
+    struct request other = *r;
+    if (exchanged) {
+        other.tracer = r->limiter;
+        other.limiter = r->tracer;
+    } else if (unknown) {
+        other.limiter = PULDEHO_LIMITER_FIXED;
+    }
+    if (r->lo > r->hi) {
+        other.lo = strstr(text, "give 0 and 0") != NULL ? 0 : r->hi;
+        other.hi = strstr(text, "give 0 and 0") != NULL ? 0 : r->lo;
+    }
+    if (unknown != (r->limiter < 1 || r->limiter > 3) || library(&copy, &other) != PULDEHO_ACCEPTED)
+        differs("the limiter to be set", text);
+    to_set[exchanged ? 2 : unknown ? 0 : 1]++;
+    drop(&copy);
+}
+
 /* The text names the count that the library gives now: with it the sweep is accepted, with the given one it is not. */
 static void check_given(const struct puldeho_world *world, const struct request *r, const char *text)
 {
@@ -527,6 +581,10 @@ static void check_call(const struct puldeho_world *world, const struct request *
         check_sweep(world, &single, text);
     if (refusal == PULDEHO_REFUSAL_GIVEN_COUNT)
         check_given(world, r, text);
+    if (refusal == PULDEHO_REFUSAL_LIMITERS && r->name != SET_LIMITER)
+        check_limiters(world, r, text);
+    if (refusal == PULDEHO_REFUSAL_LIMITERS && r->name == SET_LIMITER)
+        check_set_limiter(world, r, text);
     if (refusal == PULDEHO_REFUSAL_LONG_FLUX || refusal == PULDEHO_REFUSAL_LONG_AIR)
         check_long(world, r, text);
     if (refusal == PULDEHO_REFUSAL_REMAP)
@@ -615,7 +673,32 @@ static void fill_tracers(struct puldeho_world *world)
         world->tracers[any() % world->tracers_length] = wild();
 }
 
-/* A tracer's emitters, as calls could have left them, and anything past them. */
+static uint64_t wild_bound(void)
+{
+    return one_in(2) ? (uint64_t)wild() << 32 | wild() : one_in(2) ? wild() : from_to(0, 2);
+}
+
+/* A limiter as a call could have left it. */
+static void fill_limiter(uint32_t *numbers)
+{
+    uint64_t one = wild_bound(), other = wild_bound(), lo = one < other ? one : other, hi = one < other ? other : one;
+    numbers[0] = from_to(1, 3);
+    numbers[1] = (uint32_t)lo;
+    numbers[2] = (uint32_t)(lo >> 32);
+    numbers[3] = (uint32_t)hi;
+    numbers[4] = (uint32_t)(hi >> 32);
+}
+
+/* A number of it that is another; not always a fault. */
+static void break_limiter(uint32_t *numbers)
+{
+    if (one_in(2))
+        numbers[0] = one_in(2) ? from_to(0, 4) : wild();
+    else
+        numbers[any() % 4 + 1] += one_in(2) ? 1 : wild();
+}
+
+/* A tracer's emitters, as calls could have left them, and anything past them; then its limiter. */
 static void fill_block(const struct puldeho_world *world, uint32_t *block)
 {
     uint32_t most = one_in(3) ? 4000000000u : one_in(2) ? 1000 : 30000000;
@@ -631,6 +714,7 @@ static void fill_block(const struct puldeho_world *world, uint32_t *block)
     }
     block[1] = (uint32_t)sum;
     block[2] = (uint32_t)(sum >> 32);
+    fill_limiter(block + LIMITER);
 }
 
 /* One of the four faults, unless by chance it is none. */
@@ -647,7 +731,7 @@ static void break_block(uint32_t *block)
         block[1 + any() % 2] += one_in(2) ? 1 : wild();
 }
 
-/* Emitters for every tracer, now and then with a fault; a ledger of another length gets any numbers. */
+/* Emitters and a limiter for every tracer, now and then with a fault, or zeros; a ledger of another length gets any numbers. */
 static void fill_ledger(struct puldeho_world *world, uint32_t *ledger)
 {
     size_t length = puldeho_lent_ledger_length(world), blocks = length / PULDEHO_LEDGER_BLOCK;
@@ -657,6 +741,10 @@ static void fill_ledger(struct puldeho_world *world, uint32_t *ledger)
         fill_block(world, ledger + tracer * PULDEHO_LEDGER_BLOCK);
     if (blocks > 0 && one_in(5))
         break_block(ledger + any() % blocks * PULDEHO_LEDGER_BLOCK);
+    if (blocks > 0 && one_in(15))
+        break_limiter(ledger + any() % blocks * PULDEHO_LEDGER_BLOCK + LIMITER);
+    if (one_in(50))
+        memset(ledger, 0, length * sizeof *ledger);
 }
 
 /* An id that stands for some tracer, or another. */
@@ -754,6 +842,9 @@ static void any_request(const struct puldeho_world *world, uint32_t scale, struc
     r->amount = any_amount(world, r);
     r->id = any_id(world);
     r->units = one_in(2) ? from_to(0, 1000) : wild();
+    r->limiter = one_in(4) ? one_in(2) ? from_to(0, 4) : wild() : from_to(1, 3);
+    r->lo = one_in(3) ? 0 : wild_bound();
+    r->hi = one_in(3) ? r->lo + from_to(0, 2) : wild_bound();
     if (r->name == REMAP)
         fill_table(r, grid.k, scale);
     else
@@ -788,6 +879,7 @@ struct fixed {
     struct puldeho_grid grid;
     uint32_t air[16], tracers[16], ledger[2 * PULDEHO_LEDGER_BLOCK];
     size_t air_length, tracers_length, ledger_length;
+    bool as_given; /* else a limiter of 0 in the ledger stands for 1 */
     struct request r;
     enum puldeho_refusal refusal;
     const char *text;
@@ -816,6 +908,8 @@ struct fixed {
 #define SIXTEEN .ledger = {16, 160, 0, 1, 2, 10, 2, 2, 10, 3, 2, 10, 4, 2, 10, 5, 2, 10, 6, 2, 10, 7, 2, 10, 8, 2, 10, \
     9, 2, 10, 10, 2, 10, 11, 2, 10, 12, 2, 10, 13, 2, 10, 14, 2, 10, 15, 2, 10, 16, 2, 10}
 #define ANEW "; load again, which leaves no emitter standing, and add the emitters anew"
+#define SET(TRACER, NUMBER, LO, HI) .r = {.name = SET_LIMITER, .tracer = TRACER, .limiter = NUMBER, .lo = LO, .hi = HI}
+#define WRITTEN "; the ledger was written by something else than calls: load again, then add the emitters and set the limiters anew"
 #define REMAP_TWO(...) .r = {.name = REMAP, .length = 6, .table = LISTED(__VA_ARGS__)}
 
 static const struct fixed fixed[] = {
@@ -862,17 +956,17 @@ static const struct fixed fixed[] = {
              "268435455, so at most 268435055 can be emitted"},
     {CASE_P, .r = {.name = WITHDRAWAL, .cell = 3, .amount = 201}, .refusal = PULDEHO_REFUSAL_WITHDRAWAL,
      .text = "cell 3 (layer 0, row 0, column 2) has 200 of tracer 0, the amount is 201"},
-    {CASE_P, .ledger_length = 50, .r = {.name = LOAD}, .refusal = PULDEHO_REFUSAL_LENGTHS,
-     .text = "ledger has length 50, the grid wants 51 (N*51; here W = 4, R = 1, K = 1, N = 1)"},
-    {CASE_P, .ledger_length = 52, .r = {.name = EMISSION}, .refusal = PULDEHO_REFUSAL_LENGTHS,
-     .text = "ledger has length 52, the grid wants 51 (N*51; here W = 4, R = 1, K = 1, N = 1)"},
+    {CASE_P, .ledger_length = 55, .r = {.name = LOAD}, .refusal = PULDEHO_REFUSAL_LENGTHS,
+     .text = "ledger has length 55, the grid wants 56 (N*56; here W = 4, R = 1, K = 1, N = 1)"},
+    {CASE_P, .ledger_length = 57, .r = {.name = EMISSION}, .refusal = PULDEHO_REFUSAL_LENGTHS,
+     .text = "ledger has length 57, the grid wants 56 (N*56; here W = 4, R = 1, K = 1, N = 1)"},
     {CASE_P, .ledger = {17}, .r = {.name = LOAD}, .refusal = PULDEHO_ACCEPTED, .text = "the call would be accepted"},
     {CASE_P, .ledger = {17}, .r = {.name = EMISSION, .amount = 1}, .refusal = PULDEHO_ACCEPTED,
      .text = "the call would be accepted"},
     {TWO_GASES, .ledger = {[OTHER] = 17}, ADD(0, 3, 7, 50), .refusal = PULDEHO_REFUSAL_INDEX,
-     .text = "tracer 1 has 17 emitters (number 51 of the ledger), at most 16 may stand" ANEW},
+     .text = "tracer 1 has 17 emitters (number 56 of the ledger), at most 16 may stand" ANEW},
     {TWO_GASES, .ledger = {1, 5, 0, 8, 0, 5, [OTHER] = 2, 80, 0, 7, 3, 50, 9, 6, 30}, REMOVE(0, 8), .refusal = PULDEHO_REFUSAL_INDEX,
-     .text = "emitter 1 of tracer 1, id 9, is in the absent cell 6 (number 58 of the ledger), cells are 0 to 5" ANEW},
+     .text = "emitter 1 of tracer 1, id 9, is in the absent cell 6 (number 63 of the ledger), cells are 0 to 5" ANEW},
     {CASE_P, .ledger = {3, 90, 0, 7, 3, 50, 9, 4, 30, 7, 5, 10}, TICK_OF(0), .refusal = PULDEHO_REFUSAL_INDEX,
      .text = "emitters 0 and 2 of tracer 0 both have the id 7 (numbers 3 and 9 of the ledger)" ANEW},
     {CASE_P, .ledger = {2, 80, 1, 7, 3, 50, 9, 4, 30}, .r = {.name = UNITS_A_TICK}, .refusal = PULDEHO_REFUSAL_INDEX,
@@ -929,6 +1023,38 @@ static const struct fixed fixed[] = {
      .text = "the call would be accepted"},
     {SMALL, AIR_100, .tracers = {268435455}, .ledger = {1, 0, 0, 9}, TICK_OF(0), .refusal = PULDEHO_ACCEPTED,
      .text = "the call would be accepted"},
+    {CASE_P, .as_given = true, SWEEP_ROW(0, 50, 0, 0), .refusal = PULDEHO_REFUSAL_LIMITERS,
+     .text = "no tracer has a limiter, as the ledger is all zeros: no load was made; load the world first"},
+    {TWO_GASES, .as_given = true, COUNT_ROW(0, 50, 0, 0), .refusal = PULDEHO_REFUSAL_LIMITERS,
+     .text = "no tracer has a limiter, as the ledger is all zeros: no load was made; load the world first"},
+    {TWO_GASES, .as_given = true, .ledger = {[LIMITER] = 1}, .r = {.name = LONG_ZONAL, .layer = 1, .length = 4},
+     .refusal = PULDEHO_REFUSAL_LIMITERS,
+     .text = "tracer 1 has the limiter 0 (number 107 of the ledger), which is none of 1, 2 and 3" WRITTEN},
+    {CASE_P, .ledger = {[LIMITER] = 4294967295u}, GIVEN_ROW(7, 0, 1048561, 0, 0), .refusal = PULDEHO_REFUSAL_LIMITERS,
+     .text = "tracer 0 has the limiter 4294967295 (number 51 of the ledger), which is none of 1, 2 and 3" WRITTEN},
+    {TWO_GASES, .ledger = {[OTHER + LIMITER] = 2, 10, 3, 11, 2}, SWEEP_LAYER(0, 0, 0, 0, 0, 0, 0, 0), .refusal = PULDEHO_REFUSAL_LIMITERS,
+     .text = "tracer 1 has the limiter 2 with lo 12884901898 above hi 8589934603 (numbers 108 to 111 of the ledger)" WRITTEN},
+    {CASE_P, .ledger = {[LIMITER] = 3, 1, 0, 0, 0}, .r = {.name = REMAP, .length = 4}, .refusal = PULDEHO_REFUSAL_LIMITERS,
+     .text = "tracer 0 has the limiter 3 with lo 1 above hi 0 (numbers 52 to 55 of the ledger)" WRITTEN},
+    {CASE_P, .ledger = {[LIMITER] = 3, 4294967295u, 4294967295u, 4294967295u, 4294967295u}, SWEEP_ROW(0, 50, 0, 0),
+     .refusal = PULDEHO_ACCEPTED, .text = "the call would be accepted"},
+    {CASE_P, .as_given = true, .ledger = {17}, SET(0, 3, 0, 0), .refusal = PULDEHO_ACCEPTED, .text = "the call would be accepted"},
+    {CASE_P, SET(0, 4, 0, 0), .refusal = PULDEHO_REFUSAL_LIMITERS,
+     .text = "there is no limiter 4, it may be 1 (present), 2 (positive) or 3 (fixed)"},
+    {TWO_GASES, SET(1, 0, 9, 8), .refusal = PULDEHO_REFUSAL_LIMITERS,
+     .text = "there is no limiter 0, it may be 1 (present), 2 (positive) or 3 (fixed); the order is tracer, limiter, lo, hi, and 1 "
+             "was given as the tracer, 0 as the limiter"},
+    {TWO_GASES, SET(3, 1, 9, 8), .refusal = PULDEHO_REFUSAL_INDEX,
+     .text = "there is no tracer 3, it may be 0 to 1; the order is tracer, limiter, lo, hi, and 3 was given as the tracer, 1 as the "
+             "limiter"},
+    {TWO_GASES, SET(2, 3, 0, 0), .refusal = PULDEHO_REFUSAL_INDEX, .text = "there is no tracer 2, it may be 0 to 1"},
+    {CASE_P, SET(0, 3, 262145, 262144), .refusal = PULDEHO_REFUSAL_LIMITERS,
+     .text = "lo is 262145 and above hi, which is 262144; lo must be at most hi, and both are mixing ratios times 262144"},
+    {CASE_P, SET(0, 3, UINT64_MAX, 262144), .refusal = PULDEHO_REFUSAL_LIMITERS,
+     .text = "lo is 18446744073709551615 (-1, if the number was signed) and above hi, which is 262144; lo must be at most hi, and "
+             "both are mixing ratios times 262144"},
+    {CASE_P, SET(0, 2, 1, 0), .refusal = PULDEHO_REFUSAL_LIMITERS,
+     .text = "lo is 1 and above hi, which is 0; limiter 2 does not read them: give 0 and 0"},
     {CASE_P, SWEEP_ROW(0, 0, 1048561, -2147483647 - 1), .refusal = PULDEHO_REFUSAL_FLUXES,
      .text = "flux 2 (between columns 2 and 3) is 1048561, its size must be at most 1048560; fluxes above: 2 of 4"},
     {CASE_P, SWEEP_ROW(0, 0, 0, -2147483647 - 1), .refusal = PULDEHO_REFUSAL_FLUXES,
@@ -1126,6 +1252,9 @@ static void check_fixed(const struct fixed *f)
     struct puldeho_world world = puldeho_world_over(
         f->grid, own.air, f->air_length == 0 ? air : f->air_length,
         own.tracers, f->tracers_length == 0 ? tracers : f->tracers_length);
+    for (size_t tracer = 0; tracer < 2; tracer++)
+        if (!f->as_given && own.ledger[tracer * PULDEHO_LEDGER_BLOCK + LIMITER] == 0)
+            own.ledger[tracer * PULDEHO_LEDGER_BLOCK + LIMITER] = PULDEHO_LIMITER_PRESENT;
     world.ledger = own.ledger;
     world.ledger_length = f->ledger_length != 0 ? f->ledger_length : in_range ? puldeho_ledger_length(f->grid) : 0;
     struct puldeho_world lent = copy_of(&world);
@@ -1147,6 +1276,8 @@ static void *check_large(void *nothing)
         air[i] = 65535;
     for (size_t i = 0; i < 72 * 45; i++)
         fluxes[i] = i % 2 == 0 ? 65535 : -65535;
+    if (puldeho_load(&world) != PULDEHO_ACCEPTED)
+        differs("the largest world is not loaded", "");
     if (puldeho_why_meridional(&world, 31, fluxes, 72 * 45, text, sizeof text) != PULDEHO_REFUSAL_MERIDIONAL
         || puldeho_meridional(&world, 31, fluxes, 72 * 45, NULL) != PULDEHO_REFUSAL_MERIDIONAL
         || strlen(text) >= PULDEHO_WHY_SIZE - 1)
@@ -1176,6 +1307,7 @@ static bool all_reached(void)
     bool all = changes > 0 && ends[0] && cuts[0] && uncut[0] && ends[1] && cuts[1] && uncut[1];
     all = all && long_ends && turns[0] && turns[1] && long_instead[0] && long_instead[1];
     all = all && faults[0] && faults[1] && faults[2] && faults[3] && full[0] && full[1] && twice;
+    all = all && limiters[0] && limiters[1] && limiters[2] && to_set[0] && to_set[1] && to_set[2];
     all = all && absent[0] && absent[1] && ticks && given[0] && given[1] && given[2] && given[3];
     for (size_t i = 0; i <= MOST_REFUSAL; i++)
         all = all && (reached[i] > 0 || is_program(i));
@@ -1194,9 +1326,11 @@ int main(void)
         differs("some refusal or kind of text was not reached", "");
     printf("why: %zu texts and %d seeded calls, %lu refused; sweeps of which a cell ends outside %lu, that serve as "
            "parts %lu, that do not %lu; long sweeps of which a cell ends outside %lu, of more than a turn %lu; ledgers with a "
-           "fault %lu, emitters added twice or above 16 %lu, absent %lu, ticks above the limit %lu; other counts given %lu; %d differences\n", texts,
+           "fault %lu, emitters added twice or above 16 %lu, absent %lu, ticks above the limit %lu; other counts given %lu; limiters %lu, to be set %lu; %d "
+           "differences\n", texts,
            CALLS, CALLS + texts - reached[0], ends[0] + ends[1], cuts[0] + cuts[1], uncut[0] + uncut[1], long_ends,
            turns[0] + turns[1], faults[0] + faults[1] + faults[2] + faults[3], full[0] + full[1] + twice,
-           absent[0] + absent[1], ticks, given[0] + given[1] + given[2] + given[3], differences);
+           absent[0] + absent[1], ticks, given[0] + given[1] + given[2] + given[3], limiters[0] + limiters[1] + limiters[2],
+           to_set[0] + to_set[1] + to_set[2], differences);
     return differences == 0 ? 0 : 1;
 }

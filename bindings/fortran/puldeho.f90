@@ -1,4 +1,4 @@
-! Puldeho, the transport core of the tracer console, for Fortran 2003 and later: version 0.6.0.
+! Puldeho, the transport core of the tracer console, for Fortran 2003 and later: version 0.7.0.
 ! Made by tools/bindings from the tables of bindings/: not to be edited.
 !
 ! To compile and link: gfortran $(pkg-config --variable=fortran puldeho) program.f90 $(pkg-config --libs puldeho)
@@ -14,7 +14,8 @@
 ! Each call sets refusal: 0 (puldeho_accepted) or the number of the first refusal that applies. A refused call
 ! changes nothing. Numbers are 32-bit without a sign in the library, so a negative one is far above every limit
 ! and is refused. (Only an emitter has two numbers without a limit: any id is taken, and one of negative units
-! stands, with 2**31 or more, and refuses every tick with 6.) After a refused call NAME, call
+! stands, with 2**31 or more, and refuses every tick with 6.) The bounds lo and hi of a limiter are 64-bit without a
+! sign: a negative one is that number plus 2**64, above every ratio. After a refused call NAME, call
 ! world%why_NAME(.., text) with the same arguments says which cell or column was in the way, and what would help.
 ! docs/GUIDE.md explains grid, units, fluxes and refusals.
 module puldeho
@@ -22,10 +23,10 @@ module puldeho
   implicit none
   private
 
-  character(len=*), parameter, public :: puldeho_version = "0.6.0"
+  character(len=*), parameter, public :: puldeho_version = "0.7.0"
 
-  ! the scale of ratios, mismatches and pieces: 262144 from version 0.6 on, and 65536 before. Builds whose
-  ! scales differ may give other amounts; no call takes it
+  ! the scale of ratios, mismatches and pieces, in which set_limiter takes its bounds: 262144 from version 0.6
+  ! on, and 65536 before. Builds whose scales differ may give other amounts
   integer(c_int32_t), parameter, public :: puldeho_scale = 262144
   ! the most air of a cell; the least is 1
   integer(c_int32_t), parameter, public :: puldeho_air_limit = 65535
@@ -53,7 +54,16 @@ module puldeho
   integer(c_int32_t), parameter, public :: puldeho_most_emitters = 16
   ! how many numbers of the ledger each tracer has; tracer t's block starts at t times this number. Later
   ! versions have more
-  integer(c_int32_t), parameter, public :: puldeho_ledger_block = 51
+  integer(c_int32_t), parameter, public :: puldeho_ledger_block = 56
+
+  ! The limiters, as set_limiter takes them; section 12 of the guide says when to use which.
+  ! van Leer's monotone limiter, which a load gives every tracer: no new highs and lows beyond rounding
+  integer(c_int32_t), parameter, public :: puldeho_limiter_present = 1
+  ! keeps steeper slopes: amounts never fall below 0, but may rise above all that was near
+  integer(c_int32_t), parameter, public :: puldeho_limiter_positive = 2
+  ! slopes as steep as keeps the ratio inside a cell between lo and hi; no slope in a cell whose ratio is
+  ! outside
+  integer(c_int32_t), parameter, public :: puldeho_limiter_fixed = 3
 
   integer(c_int32_t), parameter, public :: puldeho_accepted = 0
   ! W, R, K or N is outside its range
@@ -91,6 +101,8 @@ module puldeho
   integer(c_int32_t), parameter, public :: puldeho_refusal_emitter_absent = 19
   ! the given count differs from the smallest that serves
   integer(c_int32_t), parameter, public :: puldeho_refusal_given_count = 20
+  ! a tracer's limiter is none of 1, 2 and 3, or its lo exceeds its hi
+  integer(c_int32_t), parameter, public :: puldeho_refusal_limiters = 21
 
   ! What cell numbers are for a place that the grid has not; every call refuses it, with 5.
   integer(c_int32_t), parameter, public :: puldeho_no_cell = -1
@@ -125,10 +137,13 @@ module puldeho
     integer(c_int32_t), allocatable :: air(:)
     ! the amounts of every tracer; tracer t starts at t*K*C: N*K*C numbers, the first has the index 0
     integer(c_int32_t), allocatable :: tracers(:)
-    ! the emitters, a block for each tracer: at its place 0 how many stand, at 1 and 2 the sum of their units,
-    ! low and high 32 bits, from 3 on id, cell and units of each: N*51 numbers, the first has the index 0
+    ! the emitters and the limiter, a block for each tracer: at its place 0 how many emitters stand, at 1 and
+    ! 2 the sum of their units, low and high 32 bits, from 3 on id, cell and units of each, at 51 the limiter,
+    ! at 52 and 53 its lo and at 54 and 55 its hi, low and high 32 bits: N*56 numbers, the first has the index
+    ! 0
     integer(c_int32_t), allocatable :: ledger(:)
   contains
+    procedure :: limiter => world_limiter
     procedure :: load => world_load
     procedure :: emission => world_emission
     procedure :: withdrawal => world_withdrawal
@@ -144,6 +159,7 @@ module puldeho
     procedure :: remove_emitter => world_remove_emitter
     procedure :: tick => world_tick
     procedure :: units_a_tick => world_units_a_tick
+    procedure :: set_limiter => world_set_limiter
     procedure :: why_emission => world_why_emission
     procedure :: why_withdrawal => world_why_withdrawal
     procedure :: why_zonal => world_why_zonal
@@ -158,6 +174,7 @@ module puldeho
     procedure :: why_remove_emitter => world_why_remove_emitter
     procedure :: why_tick => world_why_tick
     procedure :: why_units_a_tick => world_why_units_a_tick
+    procedure :: why_set_limiter => world_why_set_limiter
   end type puldeho_world
 
   ! struct puldeho_world of the C header.
@@ -169,7 +186,7 @@ module puldeho
     integer(c_size_t) :: tracers_length = 0
     type(c_ptr) :: ledger = c_null_ptr
     integer(c_size_t) :: ledger_length = 0
-    integer(c_int32_t) :: own_ledger(408) = 0
+    integer(c_int32_t) :: own_ledger(448) = 0
   end type c_world
 
   ! PULDEHO_WHY_SIZE of the C header.
@@ -177,8 +194,8 @@ module puldeho
 
   ! Does nothing. A library of another version, whose functions may take other arguments, has no such name.
   interface
-    subroutine puldeho_abi_0_6() bind(c)
-    end subroutine puldeho_abi_0_6
+    subroutine puldeho_abi_0_7() bind(c)
+    end subroutine puldeho_abi_0_7
   end interface
 
   ! The proved functions. Each returns refusal * 2**32 + count.
@@ -451,6 +468,24 @@ module puldeho
       integer(c_int32_t), value :: tracer
       integer(c_int64_t) :: returned
     end function puldeho_raw_units_a_tick_number
+
+    function puldeho_raw_set_limiter( &
+        w, r, k, n, air, air_length, tracers, tracers_length, ledger, ledger_length, tracer, limiter, lo, hi) &
+        bind(c) result(returned)
+      import :: c_int32_t, c_int64_t, c_size_t
+      integer(c_int32_t), value :: w, r, k, n
+      integer(c_int32_t), intent(in) :: air(*)
+      integer(c_size_t), value :: air_length
+      integer(c_int32_t), intent(in) :: tracers(*)
+      integer(c_size_t), value :: tracers_length
+      integer(c_int32_t), intent(inout) :: ledger(*)
+      integer(c_size_t), value :: ledger_length
+      integer(c_int32_t), value :: tracer
+      integer(c_int32_t), value :: limiter
+      integer(c_int64_t), value :: lo
+      integer(c_int64_t), value :: hi
+      integer(c_int64_t) :: returned
+    end function puldeho_raw_set_limiter
   end interface
 
   ! The functions that say why a call is refused, which are plain C and only read.
@@ -458,7 +493,7 @@ module puldeho
     function c_why_load( &
         world, words, words_size) &
         bind(c, name="puldeho_why_load") result(refusal)
-      import :: c_char, c_int, c_int32_t, c_size_t, c_world
+      import :: c_char, c_int, c_int32_t, c_int64_t, c_size_t, c_world
       type(c_world), intent(in) :: world
       character(kind=c_char), intent(out) :: words(*)
       integer(c_size_t), value :: words_size
@@ -468,7 +503,7 @@ module puldeho
     function c_why_emission( &
         world, tracer, cell, amount, words, words_size) &
         bind(c, name="puldeho_why_emission") result(refusal)
-      import :: c_char, c_int, c_int32_t, c_size_t, c_world
+      import :: c_char, c_int, c_int32_t, c_int64_t, c_size_t, c_world
       type(c_world), intent(in) :: world
       integer(c_int32_t), value :: tracer
       integer(c_int32_t), value :: cell
@@ -481,7 +516,7 @@ module puldeho
     function c_why_withdrawal( &
         world, tracer, cell, amount, words, words_size) &
         bind(c, name="puldeho_why_withdrawal") result(refusal)
-      import :: c_char, c_int, c_int32_t, c_size_t, c_world
+      import :: c_char, c_int, c_int32_t, c_int64_t, c_size_t, c_world
       type(c_world), intent(in) :: world
       integer(c_int32_t), value :: tracer
       integer(c_int32_t), value :: cell
@@ -494,7 +529,7 @@ module puldeho
     function c_why_zonal( &
         world, layer, row, fluxes, fluxes_length, words, words_size) &
         bind(c, name="puldeho_why_zonal") result(refusal)
-      import :: c_char, c_int, c_int32_t, c_size_t, c_world
+      import :: c_char, c_int, c_int32_t, c_int64_t, c_size_t, c_world
       type(c_world), intent(in) :: world
       integer(c_int32_t), value :: layer
       integer(c_int32_t), value :: row
@@ -508,7 +543,7 @@ module puldeho
     function c_why_count_zonal( &
         world, layer, row, fluxes, fluxes_length, words, words_size) &
         bind(c, name="puldeho_why_count_zonal") result(refusal)
-      import :: c_char, c_int, c_int32_t, c_size_t, c_world
+      import :: c_char, c_int, c_int32_t, c_int64_t, c_size_t, c_world
       type(c_world), intent(in) :: world
       integer(c_int32_t), value :: layer
       integer(c_int32_t), value :: row
@@ -522,7 +557,7 @@ module puldeho
     function c_why_zonal_with_count( &
         world, layer, row, given, fluxes, fluxes_length, words, words_size) &
         bind(c, name="puldeho_why_zonal_with_count") result(refusal)
-      import :: c_char, c_int, c_int32_t, c_size_t, c_world
+      import :: c_char, c_int, c_int32_t, c_int64_t, c_size_t, c_world
       type(c_world), intent(in) :: world
       integer(c_int32_t), value :: layer
       integer(c_int32_t), value :: row
@@ -537,7 +572,7 @@ module puldeho
     function c_why_long_zonal( &
         world, layer, row, fluxes, fluxes_length, words, words_size) &
         bind(c, name="puldeho_why_long_zonal") result(refusal)
-      import :: c_char, c_int, c_int32_t, c_size_t, c_world
+      import :: c_char, c_int, c_int32_t, c_int64_t, c_size_t, c_world
       type(c_world), intent(in) :: world
       integer(c_int32_t), value :: layer
       integer(c_int32_t), value :: row
@@ -551,7 +586,7 @@ module puldeho
     function c_why_meridional( &
         world, layer, fluxes, fluxes_length, words, words_size) &
         bind(c, name="puldeho_why_meridional") result(refusal)
-      import :: c_char, c_int, c_int32_t, c_size_t, c_world
+      import :: c_char, c_int, c_int32_t, c_int64_t, c_size_t, c_world
       type(c_world), intent(in) :: world
       integer(c_int32_t), value :: layer
       integer(c_int32_t), intent(in) :: fluxes(*)
@@ -564,7 +599,7 @@ module puldeho
     function c_why_remap( &
         world, table, table_length, words, words_size) &
         bind(c, name="puldeho_why_remap") result(refusal)
-      import :: c_char, c_int, c_int32_t, c_size_t, c_world
+      import :: c_char, c_int, c_int32_t, c_int64_t, c_size_t, c_world
       type(c_world), intent(in) :: world
       integer(c_int32_t), intent(in) :: table(*)
       integer(c_size_t), value :: table_length
@@ -576,7 +611,7 @@ module puldeho
     function c_why_total( &
         world, tracer, words, words_size) &
         bind(c, name="puldeho_why_total") result(refusal)
-      import :: c_char, c_int, c_int32_t, c_size_t, c_world
+      import :: c_char, c_int, c_int32_t, c_int64_t, c_size_t, c_world
       type(c_world), intent(in) :: world
       integer(c_int32_t), value :: tracer
       character(kind=c_char), intent(out) :: words(*)
@@ -587,7 +622,7 @@ module puldeho
     function c_why_cell( &
         world, tracer, cell, words, words_size) &
         bind(c, name="puldeho_why_cell") result(refusal)
-      import :: c_char, c_int, c_int32_t, c_size_t, c_world
+      import :: c_char, c_int, c_int32_t, c_int64_t, c_size_t, c_world
       type(c_world), intent(in) :: world
       integer(c_int32_t), value :: tracer
       integer(c_int32_t), value :: cell
@@ -599,7 +634,7 @@ module puldeho
     function c_why_add_emitter( &
         world, tracer, cell, id, units, words, words_size) &
         bind(c, name="puldeho_why_add_emitter") result(refusal)
-      import :: c_char, c_int, c_int32_t, c_size_t, c_world
+      import :: c_char, c_int, c_int32_t, c_int64_t, c_size_t, c_world
       type(c_world), intent(in) :: world
       integer(c_int32_t), value :: tracer
       integer(c_int32_t), value :: cell
@@ -613,7 +648,7 @@ module puldeho
     function c_why_remove_emitter( &
         world, tracer, id, words, words_size) &
         bind(c, name="puldeho_why_remove_emitter") result(refusal)
-      import :: c_char, c_int, c_int32_t, c_size_t, c_world
+      import :: c_char, c_int, c_int32_t, c_int64_t, c_size_t, c_world
       type(c_world), intent(in) :: world
       integer(c_int32_t), value :: tracer
       integer(c_int32_t), value :: id
@@ -625,7 +660,7 @@ module puldeho
     function c_why_tick( &
         world, tracer, words, words_size) &
         bind(c, name="puldeho_why_tick") result(refusal)
-      import :: c_char, c_int, c_int32_t, c_size_t, c_world
+      import :: c_char, c_int, c_int32_t, c_int64_t, c_size_t, c_world
       type(c_world), intent(in) :: world
       integer(c_int32_t), value :: tracer
       character(kind=c_char), intent(out) :: words(*)
@@ -636,13 +671,27 @@ module puldeho
     function c_why_units_a_tick( &
         world, tracer, words, words_size) &
         bind(c, name="puldeho_why_units_a_tick") result(refusal)
-      import :: c_char, c_int, c_int32_t, c_size_t, c_world
+      import :: c_char, c_int, c_int32_t, c_int64_t, c_size_t, c_world
       type(c_world), intent(in) :: world
       integer(c_int32_t), value :: tracer
       character(kind=c_char), intent(out) :: words(*)
       integer(c_size_t), value :: words_size
       integer(c_int) :: refusal
     end function c_why_units_a_tick
+
+    function c_why_set_limiter( &
+        world, tracer, limiter, lo, hi, words, words_size) &
+        bind(c, name="puldeho_why_set_limiter") result(refusal)
+      import :: c_char, c_int, c_int32_t, c_int64_t, c_size_t, c_world
+      type(c_world), intent(in) :: world
+      integer(c_int32_t), value :: tracer
+      integer(c_int32_t), value :: limiter
+      integer(c_int64_t), value :: lo
+      integer(c_int64_t), value :: hi
+      character(kind=c_char), intent(out) :: words(*)
+      integer(c_size_t), value :: words_size
+      integer(c_int) :: refusal
+    end function c_why_set_limiter
   end interface
 
 contains
@@ -658,7 +707,7 @@ contains
     integer(c_int32_t), intent(out) :: refusal
     type(puldeho_world) :: loaded
 
-    call puldeho_abi_0_6()
+    call puldeho_abi_0_7()
     call copy_lists(loaded, grid, air, tracers)
     refusal = refusal_of(puldeho_raw_load( &
         loaded%grid%w, loaded%grid%r, loaded%grid%k, loaded%grid%n, loaded%air, size(loaded%air, &
@@ -682,7 +731,7 @@ contains
     world%grid = grid
     allocate (world%air(0:size(air) - 1), source=air)
     allocate (world%tracers(0:size(tracers) - 1), source=tracers)
-    allocate (world%ledger(0:min(puldeho_ledger_length(grid), 408) - 1), source=0)
+    allocate (world%ledger(0:min(puldeho_ledger_length(grid), 448) - 1), source=0)
   end subroutine copy_lists
 
   ! Adds amount to one cell of one tracer. Cells are numbered over all layers. Refusals, in order: 1 2 3 4 5
@@ -723,7 +772,7 @@ contains
     refusal = refusal_of(returned)
   end subroutine world_withdrawal
 
-  ! Sweeps one row of one layer by W fluxes, positive eastward. Refusals, in order: 1 2 3 4 5 8 9.
+  ! Sweeps one row of one layer by W fluxes, positive eastward. Refusals, in order: 1 2 3 4 21 5 8 9.
   ! substeps: the number of substeps, 1 to 16.
   subroutine world_zonal(world, layer, row, fluxes, refusal, substeps)
     class(puldeho_world), intent(inout) :: world
@@ -746,7 +795,7 @@ contains
   end subroutine world_zonal
 
   ! Counts the substeps of a zonal sweep of one row of one layer by W fluxes, positive eastward, before it is
-  ! made, to be seen and then given to zonal_with_count. Refusals, in order: 1 2 3 4 5 8 9.
+  ! made, to be seen and then given to zonal_with_count. Refusals, in order: 1 2 3 4 21 5 8 9.
   ! substeps: the number of substeps that the sweep takes, 1 to 16.
   subroutine world_count_zonal(world, layer, row, fluxes, refusal, substeps)
     class(puldeho_world), intent(in) :: world
@@ -769,7 +818,7 @@ contains
   end subroutine world_count_zonal
 
   ! Makes the sweep of zonal, if the given count is the one that count_zonal gives for the same layer, row and
-  ! fluxes now; with any other count it is refused with 20. Refusals, in order: 1 2 3 4 5 8 9 20.
+  ! fluxes now; with any other count it is refused with 20. Refusals, in order: 1 2 3 4 21 5 8 9 20.
   ! substeps: the given count.
   subroutine world_zonal_with_count(world, layer, row, given, fluxes, refusal, substeps)
     class(puldeho_world), intent(inout) :: world
@@ -793,7 +842,7 @@ contains
   end subroutine world_zonal_with_count
 
   ! Sweeps one row of one layer by W fluxes, positive eastward, without substeps: a face takes whole cells and
-  ! then a part of the next. Its amounts are not those of zonal. Refusals, in order: 1 2 3 4 5 8 16 17.
+  ! then a part of the next. Its amounts are not those of zonal. Refusals, in order: 1 2 3 4 21 5 8 16 17.
   subroutine world_long_zonal(world, layer, row, fluxes, refusal)
     class(puldeho_world), intent(inout) :: world
     integer(c_int32_t), intent(out) :: refusal
@@ -811,7 +860,7 @@ contains
     refusal = refusal_of(returned)
   end subroutine world_long_zonal
 
-  ! Sweeps one layer by W*(R + 1) fluxes, positive northward. Refusals, in order: 1 2 3 4 5 8 10.
+  ! Sweeps one layer by W*(R + 1) fluxes, positive northward. Refusals, in order: 1 2 3 4 21 5 8 10.
   ! substeps: the number of substeps, 1.
   subroutine world_meridional(world, layer, fluxes, refusal, substeps)
     class(puldeho_world), intent(inout) :: world
@@ -834,7 +883,7 @@ contains
 
   ! Remaps all columns to the edges of a table of K + 1 pairs a, b, lent as 2*(K + 1) numbers. Makes at most
   ! 2*K steps for each column and tracer, in all at most the grid's most_remap_steps. Section 6 of the guide
-  ! writes a count out by hand. Refusals, in order: 1 2 3 4 11 12.
+  ! writes a count out by hand. Refusals, in order: 1 2 3 4 21 11 12.
   ! overlaps: exactly the number of pairs of an old and a new layer that share some air, summed over columns.
   subroutine world_remap(world, table, refusal, overlaps)
     class(puldeho_world), intent(inout) :: world
@@ -970,6 +1019,28 @@ contains
         world%tracers, size(world%tracers, kind=c_size_t), world%ledger, size(world%ledger, kind=c_size_t), &
         tracer)
   end subroutine world_units_a_tick
+
+  ! Chooses the limiter of one tracer: 1 the present one, 2 the positive one, 3 the fixed one between lo and
+  ! hi, which are mixing ratios (units of gas for one of air) times the scale, 262144. The bounds are stored
+  ! with every limiter, and only 3 reads them; give 0 and 0 with 1 and 2. Holds until the next set_limiter of
+  ! this tracer or the next load. Refusals, in order: 1 2 3 4 5 21.
+  subroutine world_set_limiter(world, tracer, limiter, lo, hi, refusal)
+    class(puldeho_world), intent(inout) :: world
+    integer(c_int32_t), intent(out) :: refusal
+    integer(c_int32_t), intent(in) :: tracer
+    integer(c_int32_t), intent(in) :: limiter
+    integer(c_int64_t), intent(in) :: lo
+    integer(c_int64_t), intent(in) :: hi
+    integer(c_int64_t) :: returned
+
+    refusal = puldeho_refusal_grid_range
+    if (.not. has_lists(world)) return
+    returned = puldeho_raw_set_limiter( &
+        world%grid%w, world%grid%r, world%grid%k, world%grid%n, world%air, size(world%air, kind=c_size_t), &
+        world%tracers, size(world%tracers, kind=c_size_t), world%ledger, size(world%ledger, kind=c_size_t), &
+        tracer, limiter, lo, hi)
+    refusal = refusal_of(returned)
+  end subroutine world_set_limiter
 
   ! Why the call emission is refused in this world, in words; ask after the refusal, before the world changes.
   subroutine world_why_emission(world, tracer, cell, amount, text)
@@ -1173,6 +1244,49 @@ contains
     text = text_of(words)
   end subroutine world_why_units_a_tick
 
+  ! Why the call set_limiter is refused in this world, in words; ask after the refusal, before the world changes.
+  subroutine world_why_set_limiter(world, tracer, limiter, lo, hi, text)
+    class(puldeho_world), intent(in), target :: world
+    integer(c_int32_t), intent(in) :: tracer
+    integer(c_int32_t), intent(in) :: limiter
+    integer(c_int64_t), intent(in) :: lo
+    integer(c_int64_t), intent(in) :: hi
+    character(len=:), allocatable, intent(out) :: text
+    character(kind=c_char) :: words(why_size)
+    integer(c_int) :: refusal
+
+    refusal = c_why_set_limiter( &
+        world_of(world), tracer, limiter, lo, hi, words, int(why_size, c_size_t))
+    text = text_of(words)
+  end subroutine world_why_set_limiter
+
+  ! The limiter that a tracer has now: its number, and its bounds as set_limiter takes them. All are 0 where the
+  ! world was never loaded, or has no such tracer.
+  subroutine world_limiter(world, tracer, number, lo, hi)
+    class(puldeho_world), intent(in) :: world
+    integer(c_int32_t), intent(in) :: tracer
+    integer(c_int32_t), intent(out) :: number
+    integer(c_int64_t), intent(out) :: lo, hi
+    integer(c_int32_t) :: place
+
+    number = 0
+    lo = 0
+    hi = 0
+    if (.not. has_lists(world) .or. tracer < 0 .or. tracer >= world%grid%n) return
+    place = tracer*puldeho_ledger_block + 51
+    number = world%ledger(place)
+    lo = wide_of(world%ledger(place + 1:place + 2))
+    hi = wide_of(world%ledger(place + 3:place + 4))
+  end subroutine world_limiter
+
+  ! A number of 64 bits from its low and its high half.
+  pure function wide_of(halves) result(wide)
+    integer(c_int32_t), intent(in) :: halves(2)
+    integer(c_int64_t) :: wide
+
+    wide = ior(ishft(int(halves(2), c_int64_t), 32), ibits(int(halves(1), c_int64_t), 0, 32))
+  end function wide_of
+
   ! Why a load of these lists is refused, in words.
   subroutine puldeho_why_load(grid, air, tracers, text)
     type(puldeho_grid), intent(in) :: grid
@@ -1299,13 +1413,14 @@ contains
     length = grid%n*grid%k*puldeho_cells_in_layer(grid)
   end function puldeho_tracers_length
 
-  ! The length of ledger: N*51. In it: the emitters, a block for each tracer: at its place 0 how many stand,
-  ! at 1 and 2 the sum of their units, low and high 32 bits, from 3 on id, cell and units of each.
+  ! The length of ledger: N*56. In it: the emitters and the limiter, a block for each tracer: at its place 0
+  ! how many emitters stand, at 1 and 2 the sum of their units, low and high 32 bits, from 3 on id, cell and
+  ! units of each, at 51 the limiter, at 52 and 53 its lo and at 54 and 55 its hi, low and high 32 bits.
   pure function puldeho_ledger_length(grid) result(length)
     type(puldeho_grid), intent(in) :: grid
     integer(c_int32_t) :: length
 
-    length = grid%n*51
+    length = grid%n*56
   end function puldeho_ledger_length
 
   ! The length of fluxes of a zonal call: W. In it: flux i crosses the face from column i to column i + 1, the
@@ -1419,6 +1534,8 @@ contains
       text = "the tracer has no emitter of that id"
     case (puldeho_refusal_given_count)
       text = "the given count differs from the smallest that serves"
+    case (puldeho_refusal_limiters)
+      text = "a tracer's limiter is none of 1, 2 and 3, or its lo exceeds its hi"
     case default
       text = "no refusal of this version"
     end select
@@ -1487,6 +1604,10 @@ contains
     case (puldeho_refusal_given_count)
       text = "see that layer, row and fluxes are those that were counted; then count again with " // &
           "count_zonal, look at the new count, and give that"
+    case (puldeho_refusal_limiters)
+      text = "load the world before other calls, and again if the ledger was written by anything but " // &
+          "calls, then add the emitters and set the limiters anew; give set_limiter 1, 2 or 3, and lo" // &
+          " and hi as mixing ratios times 262,144, lo at most hi (with 1 and 2 both 0)"
     case default
       text = "compile the program anew, with the module of the library that it is linked with"
     end select

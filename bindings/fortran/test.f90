@@ -1,5 +1,5 @@
 ! The Fortran module: words that say why a call is refused, a world that is kept and brought back, a load that is refused,
-! case x1, long sweeps, the count before a sweep, emitters, readings of a world that is only read, lengths, cell numbers, the count and the most steps of a remap.
+! case x1, long sweeps, the count before a sweep, emitters, limiters, readings of a world that is only read, lengths, cell numbers, the count and the most steps of a remap.
 ! The exit status is not 0 if anything differs.
 program test
   use, intrinsic :: iso_fortran_env, only: int64
@@ -9,6 +9,7 @@ program test
   integer, parameter :: air(6) = 100, tracers(6) = [0, 0, 100, 200, 100, 0]
   type(puldeho_world) :: world, kept
   character(len=:), allocatable :: text
+  integer(int64) :: lo, hi
   integer :: refusal
 
   call world%why_total(0, text)
@@ -46,6 +47,8 @@ program test
   call two_presses(world)
   world = kept
   call emitters(world)
+  world = kept
+  call limiters(world)
   world = kept
   world%tracers(3) = 150
   call world%load(world%grid, world%air, world%tracers, refusal)
@@ -160,8 +163,64 @@ contains
     call says("there is no tracer 1")
     call one%load(one%grid, one%air, one%tracers, refusal)
     call gives(puldeho_accepted)
-    if (any(one%ledger /= 0) .or. size(one%ledger) /= puldeho_ledger_length(one%grid)) error stop "emitters after a load"
+    if (any(one%ledger(0:50) /= 0) .or. size(one%ledger) /= puldeho_ledger_length(one%grid)) error stop "emitters after a load"
   end subroutine emitters
+
+  ! A limiter is set, read, refused and kept with the world; a bound above 2**63 - 1 is negative here.
+  subroutine limiters(one)
+    type(puldeho_world), intent(inout) :: one
+    type(puldeho_world) :: before, none
+
+    call none%limiter(0, refusal, lo, hi)
+    if (refusal /= 0 .or. lo /= 0 .or. hi /= 0) error stop "a limiter before a load"
+    call has(one, puldeho_limiter_present, 0_int64, 0_int64)
+    before = one
+    call one%set_limiter(0, puldeho_limiter_fixed, 2_int64**41 - 1, -1_int64, refusal)
+    call gives(puldeho_accepted)
+    call has(one, puldeho_limiter_fixed, 2_int64**41 - 1, -1_int64)
+    call one%set_limiter(0, puldeho_limiter_positive, -1_int64, 5_int64, refusal)
+    call gives(puldeho_refusal_limiters)
+    call one%why_set_limiter(0, puldeho_limiter_fixed, -1_int64, 5_int64, text)
+    call says("lo is 18446744073709551615 (-1, if the number was signed) and above hi, which is 5")
+    call one%set_limiter(0, 4, 0_int64, 0_int64, refusal)
+    call gives(puldeho_refusal_limiters)
+    call one%set_limiter(-1, 4, 0_int64, 0_int64, refusal)
+    call gives(puldeho_refusal_index)
+    call has(one, puldeho_limiter_fixed, 2_int64**41 - 1, -1_int64)
+    one = before
+    call has(one, puldeho_limiter_present, 0_int64, 0_int64)
+    call one%limiter(1, refusal, lo, hi)
+    if (refusal /= 0) error stop "an absent tracer has a limiter"
+    call sweep(puldeho_limiter_present, 0_int64, 150)
+    call sweep(puldeho_limiter_positive, 0_int64, 144)
+    call sweep(puldeho_limiter_fixed, int(3.1d0*puldeho_scale, int64), 148)
+  end subroutine limiters
+
+  ! Tracer 0 of the world has this limiter.
+  subroutine has(one, number, low, high)
+    type(puldeho_world), intent(in) :: one
+    integer, intent(in) :: number
+    integer(int64), intent(in) :: low, high
+    integer :: found
+
+    call one%limiter(0, found, lo, hi)
+    if (found /= number .or. lo /= low .or. hi /= high) error stop "another limiter"
+  end subroutine has
+
+  ! What one sweep by a limiter leaves of a peak, 50 units of whose air go east.
+  subroutine sweep(number, high, left)
+    integer, intent(in) :: number, left
+    integer(int64), intent(in) :: high
+    type(puldeho_world) :: one
+
+    call one%load(grid, air, [0, 100, 300, 200, 0, 0], refusal)
+    call gives(puldeho_accepted)
+    call one%set_limiter(0, number, 0_int64, high, refusal)
+    call gives(puldeho_accepted)
+    call one%zonal(0, 0, [0, 50, 0, 0], refusal)
+    call gives(puldeho_accepted)
+    if (one%tracers(2) /= left) error stop "a sweep by a limiter differs"
+  end subroutine sweep
 
   ! Readings and words take a world that may not be written. A count may be above 65,535.
   subroutine read_only(one)

@@ -3,7 +3,7 @@ from tables import GRID, MADE, OWN, RAW, WHY_SIZE, WORLD, bound_text, constant, 
 from tables import largest, length_name, length_text, own, world_lists, wrapped
 
 TYPES = {"u32": "uint32_t ", "u64": "uint64_t ", "&[u32]": "const uint32_t *", "&mut [u32]": "uint32_t *", "&[i32]": "const int32_t *"}
-TAKEN = {"u32": "take_u32", "&[u32]": "take_u32s", "&[i32]": "take_i32s"}
+TAKEN = {"u32": "take_u32", "u64": "take_u64", "&[u32]": "take_u32s", "&[i32]": "take_i32s"}
 
 
 def comment(text, indent=""):
@@ -172,6 +172,8 @@ def header(tables):
         "DEEPEST": str(max(tables.stack.values())),
         "LIMITS": "\n".join("%s\n#define PULDEHO_%s %d" % (comment(l.what), l.name, l.number) for l in tables.limits),
         "REFUSALS": ",\n".join("%s\n    PULDEHO_REFUSAL_%s = %d" % (comment(r.condition, "    "), constant(r.name), r.number) for r in tables.refusals),
+        "LIMITERS": ",\n".join("%s\n    PULDEHO_LIMITER_%s = %d" % (comment(l.what, "    "), constant(l.name), l.number) for l in tables.limiters),
+        "LIMITERPLACE": str(tables.limiter_place),
         "CONDITIONS": texts(tables.refusals, "condition"),
         "REMEDIES": texts(tables.refusals, "remedy"),
         "FIELDS": "\n".join(map(field, lists)) + "".join(own_field(l, tables) for l in owned),
@@ -197,7 +199,7 @@ def header(tables):
 def made(call):
     """The function that takes the call's own arguments from a line of a script and makes the call."""
     mine = own(call)
-    declarations = ["    %s%s;\n" % ("struct list " if is_list(p) else "uint32_t ", p.name) for p in mine]
+    declarations = ["    %s%s;\n" % ("struct list " if is_list(p) else TYPES[p.type], p.name) for p in mine]
     declarations += ["    %s%s;\n" % (TYPES[call.count.type], call.count.name)] if call.count else []
     taken = ["!%s(&rest, &%s)" % (TAKEN[p.type], p.name) for p in mine] + ["!at_end(rest)"]
     freed = ["    free(%s.numbers);\n" % p.name for p in mine if is_list(p)]

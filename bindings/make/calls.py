@@ -3,7 +3,7 @@
 import collections
 import enum
 
-__all__ = ["Refusal", @EXPORTED@]
+__all__ = ["Limiter", "Refusal", "StandingLimiter", @EXPORTED@]
 
 VERSION = "@VERSION@"
 # The shared library of this version. Another version's functions may take other arguments.
@@ -16,6 +16,23 @@ class Refusal(enum.IntEnum):
     """Why a call was refused."""
 
 @REFUSALS@
+
+class Limiter(enum.IntEnum):
+    """The limiters, by their numbers."""
+
+@LIMITERS@
+
+# Those that read bounds.
+BOUNDED = (@BOUNDED@,)
+# Where a tracer's limiter stands in its block of the ledger: its number, then lo and hi, each as its low and its high 32 bits.
+LIMITER_PLACE = @LIMITERPLACE@
+
+
+class StandingLimiter(collections.namedtuple("StandingLimiter", "limiter lo hi")):
+    """The limiter that a tracer has, with its bounds. World.limiter gives it."""
+
+    __slots__ = ()
+
 
 # Bytes that are room enough for any text that says why a call is refused.
 WHY_SIZE = @WHYSIZE@

@@ -29,6 +29,7 @@ pub const VERSION: &str = "@VERSION@";
 
 @LIMITS@
 @REFUSALS@
+@LIMITERS@
 /// How long the lists are that go with a grid, and bounds on what a call does.
 impl Grid {@LENGTHS@@BOUNDS@}
 
@@ -65,6 +66,13 @@ impl World {
     /// The grid.
     pub fn grid(&self) -> Grid {
         self.grid
+    }
+
+    /// The limiter that a tracer has now, if the grid has the tracer.
+    pub fn limiter(&self, tracer: u32) -> Option<Limiter> {
+        let block = self.ledger.chunks(LEDGER_BLOCK as usize).nth(tracer as usize)?;
+        let wide = |place: usize| u64::from(block[place]) | u64::from(block[place + 1]) << 32;
+        Limiter::standing(block[@LIMITERPLACE@], wide(@LIMITERPLACE@ + 1), wide(@LIMITERPLACE@ + 3))
     }
 @READ@@METHODS@@WHYS@}
 @PAIRS@

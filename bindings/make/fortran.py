@@ -29,7 +29,7 @@ def arguments(parameters):
             declared += "      integer(c_int32_t), intent(%s) :: %s(*)\n" % ("inout" if is_written(p) else "in", p.name)
             declared += "      integer(c_size_t), value :: %s_length\n" % p.name
         else:
-            declared += "      integer(c_int32_t), value :: %s\n" % p.name
+            declared += "      %s, value :: %s\n" % (TYPES[p.type], p.name)
     return names, declared
 
 
@@ -45,12 +45,19 @@ def raw(call):
     return "\n".join(one.format(export.name, *given, TYPES[export.returns]) for export in exports(call))
 
 
+def intents(parameters):
+    """The declarations of a call's own parameters, which it reads."""
+    return "".join(
+        "    %s, intent(in) :: %s%s\n" % (TYPES["u32" if is_list(p) else p.type], p.name, "(:)" if is_list(p) else "") for p in parameters
+    )
+
+
 def why_interface(call):
     """The interface of the C function that says why a call is refused."""
     names, declared = arguments(own(call))
     return (
         "    function c_why_{0}( &\n        {1}) &\n        bind(c, name=\"puldeho_why_{0}\") result(refusal)\n"
-        "      import :: c_char, c_int, c_int32_t, c_size_t, c_world\n      type(c_world), intent(in) :: world\n{2}"
+        "      import :: c_char, c_int, c_int32_t, c_int64_t, c_size_t, c_world\n      type(c_world), intent(in) :: world\n{2}"
         "      character(kind=c_char), intent(out) :: words(*)\n      integer(c_size_t), value :: words_size\n"
         "      integer(c_int) :: refusal\n    end function c_why_{0}\n"
     ).format(call.name, listed(["world"] + names + ["words", "words_size"], "        "), declared)
@@ -60,9 +67,6 @@ def why_method(call):
     """The procedure that says why a call is refused."""
     mine = own(call)
     names = ["world"] + [p.name for p in mine] + ["text"]
-    declared = "".join(
-        "    integer(c_int32_t), intent(in) :: %s%s\n" % (p.name, "(:)" if is_list(p) else "") for p in mine
-    )
     arguments = ["world_of(world)"]
     for p in mine:
         arguments += [p.name, "size(%s, kind=c_size_t)" % p.name] if is_list(p) else [p.name]
@@ -72,7 +76,7 @@ def why_method(call):
         "    character(len=:), allocatable, intent(out) :: text\n"
         "    character(kind=c_char) :: words(why_size)\n    integer(c_int) :: refusal\n\n"
         "    refusal = c_why_{0}( &\n        {3})\n    text = text_of(words)\n  end subroutine world_why_{0}\n"
-    ).format(call.name, ", ".join(names), declared, listed(arguments + ["words", "int(why_size, c_size_t)"], "        "))
+    ).format(call.name, ", ".join(names), intents(mine), listed(arguments + ["words", "int(why_size, c_size_t)"], "        "))
 
 
 def given(call, world):
@@ -100,9 +104,7 @@ def method(call):
     mine = own(call)
     names = ["world"] + [p.name for p in mine] + ["refusal"] + ([call.count.name] if call.count else [])
     count = "  ! %s: %s.\n" % (call.count.name, call.count.text) if call.count else ""
-    declared = "".join(
-        "    integer(c_int32_t), intent(in) :: %s%s\n" % (p.name, "(:)" if is_list(p) else "") for p in mine
-    )
+    declared = intents(mine)
     if call.count:
         declared += "    %s, intent(out), optional :: %s\n" % (TYPES[call.count.type], call.count.name)
     if not is_wide(call):
@@ -164,6 +166,12 @@ def module(tables):
             for l in tables.limits
         ),
         "NAMES": "".join("  public :: puldeho_%s\n" % name for name in [length_name(l) for l in tables.lists] + [b.name for b in tables.bounds]),
+        "LIMITERS": "".join(
+            "%s\n  integer(c_int32_t), parameter, public :: puldeho_limiter_%s = %d\n" % (
+                wrapped(l.what, 110, "  ! "), constant(l.name).lower(), l.number)
+            for l in tables.limiters
+        ),
+        "LIMITERPLACE": str(tables.limiter_place),
         "REFUSALS": "".join(
             "%s\n  integer(c_int32_t), parameter, public :: puldeho_refusal_%s = %d\n" % (
                 wrapped(r.condition, 110, "  ! "), constant(r.name).lower(), r.number)

@@ -2,7 +2,7 @@
 import re
 import sys
 
-from tables import is_list, own, second_of
+from tables import is_list, own, second_of, sets_limiter
 
 GUIDE, README = "docs/GUIDE.md", "README.md"
 
@@ -30,10 +30,11 @@ def guide(tables):
 
 
 def arguments(call, lengths, pairs):
-    """A call's own arguments, a list with its length; of the second call of a pair also what stands for them."""
+    """A call's own arguments, a list with its length; where a language has another value for some of them, that too."""
     words = ["%s (%s numbers)" % (p.name, lengths[call.name, p.name]) if is_list(p) else p.name for p in own(call)]
     pair = second_of(pairs, call)
-    return (", ".join(words) or "–") + ("; in Python and Rust what `%s` gave" % pair.first.name if pair else "")
+    apart = "; in Python and Rust what `%s` gave" % pair.first.name if pair else "; in Rust the last three as one `Limiter`" if sets_limiter(call) else ""
+    return (", ".join(words) or "–") + apart
 
 
 def count(call):

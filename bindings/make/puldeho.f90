@@ -14,7 +14,8 @@
 ! Each call sets refusal: 0 (puldeho_accepted) or the number of the first refusal that applies. A refused call
 ! changes nothing. Numbers are 32-bit without a sign in the library, so a negative one is far above every limit
 ! and is refused. (Only an emitter has two numbers without a limit: any id is taken, and one of negative units
-! stands, with 2**31 or more, and refuses every tick with 6.) After a refused call NAME, call
+! stands, with 2**31 or more, and refuses every tick with 6.) The bounds lo and hi of a limiter are 64-bit without a
+! sign: a negative one is that number plus 2**64, above every ratio. After a refused call NAME, call
 ! world%why_NAME(.., text) with the same arguments says which cell or column was in the way, and what would help.
 ! docs/GUIDE.md explains grid, units, fluxes and refusals.
 module puldeho
@@ -25,6 +26,8 @@ module puldeho
   character(len=*), parameter, public :: puldeho_version = "@VERSION@"
 
 @LIMITS@
+  ! The limiters, as set_limiter takes them; section 12 of the guide says when to use which.
+@LIMITERS@
   integer(c_int32_t), parameter, public :: puldeho_accepted = 0
 @REFUSALS@
   ! What cell numbers are for a place that the grid has not; every call refuses it, with 5.
@@ -47,6 +50,7 @@ module puldeho
     integer(c_int32_t), private :: made_by_load_only
     type(puldeho_grid) :: grid
 @FIELDS@  contains
+    procedure :: limiter => world_limiter
 @METHODS@  end type puldeho_world
 
   ! struct puldeho_world of the C header.
@@ -99,6 +103,33 @@ contains
     world%grid = grid
 @COPIED@  end subroutine copy_lists
 @CALLS@@WHYS@
+  ! The limiter that a tracer has now: its number, and its bounds as set_limiter takes them. All are 0 where the
+  ! world was never loaded, or has no such tracer.
+  subroutine world_limiter(world, tracer, number, lo, hi)
+    class(puldeho_world), intent(in) :: world
+    integer(c_int32_t), intent(in) :: tracer
+    integer(c_int32_t), intent(out) :: number
+    integer(c_int64_t), intent(out) :: lo, hi
+    integer(c_int32_t) :: place
+
+    number = 0
+    lo = 0
+    hi = 0
+    if (.not. has_lists(world) .or. tracer < 0 .or. tracer >= world%grid%n) return
+    place = tracer*puldeho_ledger_block + @LIMITERPLACE@
+    number = world%ledger(place)
+    lo = wide_of(world%ledger(place + 1:place + 2))
+    hi = wide_of(world%ledger(place + 3:place + 4))
+  end subroutine world_limiter
+
+  ! A number of 64 bits from its low and its high half.
+  pure function wide_of(halves) result(wide)
+    integer(c_int32_t), intent(in) :: halves(2)
+    integer(c_int64_t) :: wide
+
+    wide = ior(ishft(int(halves(2), c_int64_t), 32), ibits(int(halves(1), c_int64_t), 0, 32))
+  end function wide_of
+
   ! Why a load of these lists is refused, in words.
   subroutine puldeho_why_load(grid, @LOADED@, text)
     type(puldeho_grid), intent(in) :: grid

@@ -17,7 +17,7 @@
  *
  * What a call gives: PULDEHO_ACCEPTED, which is 0, or the first refusal that applies. (So a true value
  * is a refusal: do not keep it in a bool called ok.) A refused call changes nothing: neither air nor
- * tracers nor emitters. A count, where a call has one, is written to the last argument, 0 if the call
+ * tracers nor emitters nor limiters. A count, where a call has one, is written to the last argument, 0 if the call
  * is refused; that pointer may be null.
  *
  * What is assumed of pointers:
@@ -27,11 +27,12 @@
  * - a list that is written shares no memory with another list of the same call;
  * - nobody else writes a lent list during the call, or reads one that is written.
  * Nothing is assumed of the numbers: any are answered. The library keeps nothing
- * between calls, and each call tests the whole world before it does anything (the numbers of the ledger
- * only if it is one of the four calls on emitters). Several threads may call it at once, each with a
- * world of its own; a list that is only read may be shared. Between calls you may read the lists. If
- * you write into them, load again: what is promised of a run counts from there, no emitter stands
- * then, and later versions, which keep books of each gas, refuse other calls until then.
+ * between calls, and each call tests the whole world before it does anything (of the ledger the emitters
+ * only in the four calls on emitters, the limiters only in the calls that move air and in
+ * puldeho_count_zonal). Several threads may call it at once, each with a world of its own; a list that is
+ * only read may be shared. Between calls you may read the lists. If you write into them, load again: what
+ * is promised of a run counts from there, no emitter stands then, every tracer has limiter 1, and later
+ * versions, which keep books of each gas, refuse other calls until then.
  * Names that begin with puldeho or PULDEHO are the library's. Take sizes and limits by their names: they may grow.
  *
  * Which version has which scale: ratios, mismatches and pieces have the scale 262,144 (PULDEHO_SCALE) from
@@ -88,6 +89,12 @@ enum puldeho_refusal {
     /* the call was made */
     PULDEHO_ACCEPTED = 0,
 @REFUSALS@
+};
+
+/* The limiters, as puldeho_set_limiter takes them; section 12 of the guide says when to use which. Later versions may
+ * have further ones. */
+enum puldeho_limiter_number {
+@LIMITERS@
 };
 
 /* Why a call was refused: the condition of a refusal, in words. */
@@ -160,19 +167,23 @@ static inline uint32_t puldeho_north_cap(struct puldeho_grid grid, uint32_t laye
  * - make all calls on the one struct, by its address: a copy of the struct is neither the same world nor
  *   a second one. It may be moved, as by a function that returns it. puldeho_copy copies a state.
  *
- * The ledger holds the emitters that stand. A program need not know of it: where `ledger` is null, the world has
- * one of its own, in the struct. To keep it elsewhere, set `ledger` to puldeho_ledger_length(grid) numbers and
- * `ledger_length` to that length before the load; the load clears it. Tracer t's block of numbers starts at
+ * The ledger holds the emitters that stand and the limiters. A program need not know of it: where `ledger` is null,
+ * the world has one of its own, in the struct. To keep it elsewhere, set `ledger` to puldeho_ledger_length(grid) numbers
+ * and `ledger_length` to that length before the load; the load writes all of it. Tracer t's block of numbers starts at
  * t*PULDEHO_LEDGER_BLOCK. In it stand at
  *   0                          how many emitters stand, 0 to PULDEHO_MOST_EMITTERS
  *   1 and 2                    the sum of their units a tick, its low and its high 32 bits
  *   3 + 3*i, 4 + 3*i, 5 + 3*i  id, cell and units a tick of emitter i, counted from 0
+ *   51                         the limiter's number, one of enum puldeho_limiter_number
+ *   52 and 53, 54 and 55       its bounds lo and hi, of each the low and the high 32 bits
  * A new emitter comes after the last. In place of a removed one comes the last one, whose place becomes 0, 0, 0. A load
- * leaves 0 everywhere. So two programs that make the same calls have the same ledger, number for number.
- * Read it with puldeho_lent_ledger. Only calls may write it: the four calls on emitters refuse with 5 a ledger in which
- * some tracer has more emitters than that, one in an absent cell, an id twice or a false sum; no other call looks into
- * it. To keep the emitters in a file, keep what stands in each block; to bring them back, load, and then add them again
- * in the same order: the ledger is then the same.
+ * leaves limiter 1 in each block, and 0 everywhere else; before the first load a world's own ledger is all zeros.
+ * So two programs that make the same calls have the same ledger, number for number.
+ * Read it with puldeho_lent_ledger, a limiter with puldeho_limiter_of. Only calls may write it. The four calls on emitters
+ * refuse with 5 a ledger in which some tracer has more emitters than that, one in an absent cell, an id twice or a false
+ * sum. The calls that move air and puldeho_count_zonal refuse with 21 one in which some tracer's limiter is unknown or its
+ * lo above its hi. No other call looks into it. To keep emitters and limiters in a file, keep what stands in each block; to
+ * bring them back, load, add the emitters again in the same order, and set the limiters: the ledger is then the same.
  * Later versions have further numbers at the end of each block and after all blocks: take lengths and starts of
  * blocks from the functions and names above, and do not count on those of this version. */
 struct puldeho_world {
@@ -194,6 +205,27 @@ static inline struct puldeho_world puldeho_world_over(
     return world;
 }
 @OWNLISTS@
+/* A tracer's limiter: its number, one of enum puldeho_limiter_number, and its bounds, as the call that sets it takes them. */
+struct puldeho_limiter {
+    uint32_t number;
+    uint64_t lo, hi;
+};
+
+/* The limiter that a tracer has now; all 0 where the world was never loaded, or has no such tracer. */
+PULDEHO_NOT_NULL(1)
+static inline struct puldeho_limiter puldeho_limiter_of(const struct puldeho_world *world, uint32_t tracer)
+{
+    struct puldeho_limiter limiter = {0, 0, 0};
+    size_t place = (size_t)tracer * PULDEHO_LEDGER_BLOCK + @LIMITERPLACE@;
+    if (tracer < world->grid.n && place + 5 <= puldeho_lent_ledger_length(world)) {
+        const uint32_t *numbers = puldeho_lent_ledger(world) + place;
+        limiter.number = numbers[0];
+        limiter.lo = (uint64_t)numbers[2] << 32 | numbers[1];
+        limiter.hi = (uint64_t)numbers[4] << 32 | numbers[3];
+    }
+    return limiter;
+}
+
 /* Copies a world's state, all its lists, the ledger and whatever a later version adds, into another world over lists of
  * the same lengths: to keep the state before a step, and to go back to it. Gives refusal 2 and copies nothing if a
  * length differs. */
@@ -224,7 +256,7 @@ static inline enum puldeho_refusal puldeho_copy(struct puldeho_world *to, const 
 @CALLS@
 /*
  * Why a call is refused: for each call a function that takes the same arguments, writes into `text`
- * which cell, row, column or emitter is in the way, how much air it has and how much would leave, and
+ * which cell, row, column, emitter or limiter is in the way, how much air it has and how much would leave, and
  * whether a smaller time step can help, and returns the refusal, 0 if the call would be accepted. Ask after the
  * refusal, before the world changes. `text` gets at most `size` bytes with the final 0;
  * PULDEHO_WHY_SIZE are enough for any. These functions are plain C and not proved; they only read.

@@ -1,6 +1,6 @@
 """The Python package's made part, bindings/python/puldeho/calls.py."""
-from tables import MADE, WHY_SIZE, WORLD, abi, bound_text, constant, filled, first_of, full_name, held, holder, in_terms, is_list, is_wide, largest, length_name, length_text, own
-from tables import second_of, world_lists, wrapped
+from tables import LIMITER, MADE, WHY_SIZE, WORLD, abi, bound_text, constant, filled, first_of, full_name, held, holder, in_terms, is_list, is_wide, largest, length_name, length_text, own
+from tables import second_of, sets_limiter, world_lists, wrapped
 
 
 def table(tables, field):
@@ -27,8 +27,21 @@ def signature(call):
     return '    "%s": (%s%s),\n' % (call.name, listed, "," if len(call.parameters) == 1 else "")
 
 
+def set_limiter(call):
+    """The call that sets a limiter, as a method: the bounds by their names, 0 where the limiter does not read them."""
+    bounds = [name for name, _ in LIMITER[1:]]
+    others = [p.name for p in own(call)][: -len(bounds)]
+    text = "%s %s are whole numbers, and 0 if they are not given; a limiter that reads them wants them. Refusals, in order: %s." % (
+        call.does, " and ".join(bounds), call.refusals)
+    given, names = ", ".join("%s=None" % name for name in bounds), ", ".join(bounds)
+    return '\n    def %s(self, %s, *, %s):\n%s\n        %s = self._bounds(limiter, %s)\n        self._make("%s", %s, %s)\n' % (
+        call.name, ", ".join(others), given, wrapped('"""%s"""' % text, 110, "        "), names, names, call.name, ", ".join(others), names)
+
+
 def method(pairs, call):
     """The call as a method of the world."""
+    if sets_limiter(call):
+        return set_limiter(call)
     mine, first, second = [p.name for p in own(call)], first_of(pairs, call), second_of(pairs, call)
     count = "" if call.count is None else " Returns %s." % call.count.text
     made = ["%sself._make(%s)" % ("return " if call.count else "", ", ".join(['"%s"' % call.name] + mine))]
@@ -77,6 +90,9 @@ def calls(tables):
         "SONAME": "libpuldeho.so.%s.%s" % (major, minor),
         "LIMITS": "".join("# %s\n%s = %d\n" % (l.what[0].upper() + l.what[1:], l.name, l.number) for l in tables.limits),
         "EXPORTED": ", ".join('"%s"' % name for name in [pair.type for pair in tables.pairs] + [l.name for l in tables.limits]),
+        "LIMITERS": "".join("    # %s\n    %s = %d\n" % (l.what, constant(l.name), l.number) for l in tables.limiters),
+        "BOUNDED": ", ".join("Limiter.%s" % constant(l.name) for l in tables.limiters if l.bounds),
+        "LIMITERPLACE": str(tables.limiter_place),
         "REFUSALS": "".join("    %s = %d\n" % (constant(r.name), r.number) for r in tables.refusals),
         "WHYSIZE": str(WHY_SIZE),
         "CONDITIONS": table(tables, "condition"),

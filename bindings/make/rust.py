@@ -1,6 +1,6 @@
 """The Rust wrapper's made part, bindings/rust/src/calls.rs, and the comparison's calls, compare/src/library.rs."""
-from tables import GRID, MADE, RAW, WHY_SIZE, WORLD, abi, bound_text, exports, filled, first_of, held, holder, in_terms, is_list, is_wide, is_written, largest, length_name
-from tables import length_text, own, second_of, world_lists
+from tables import GRID, LIMITER, MADE, RAW, WHY_SIZE, WORLD, abi, bound_text, exports, filled, first_of, held, holder, in_terms, is_list, is_wide, is_written, largest, length_name
+from tables import length_text, own, second_of, sets_limiter, world_lists
 
 POINTERS = {"&[u32]": ("*const u32", "as_ptr"), "&mut [u32]": ("*mut u32", "as_mut_ptr"), "&[i32]": ("*const i32", "as_ptr")}
 
@@ -35,7 +35,7 @@ def extern(call):
     """The proved functions as C has them."""
     lines = [", ".join(letter + ": u32" for letter in GRID)]
     for p in call.parameters:
-        lines.append("%s: %s, %s_length: usize" % (p.name, POINTERS[p.type][0], p.name) if is_list(p) else p.name + ": u32")
+        lines.append("%s: %s, %s_length: usize" % (p.name, POINTERS[p.type][0], p.name) if is_list(p) else "%s: %s" % p)
     one = "    fn %s(\n        %s,\n    ) -> %s;\n"
     return "".join(one % (export.name, ",\n        ".join(lines), export.returns) for export in exports(call))
 
@@ -62,9 +62,13 @@ def raw(call):
 def taken(pairs, call):
     """What a method takes after the world, and the value that it has for each of the call's own parameters."""
     pair = second_of(pairs, call)
-    if pair is None:
-        return "".join(", %s: %s" % p for p in own(call)), {p.name: p.name for p in own(call)}
-    return ", counted: &%s" % pair.type, {p.name: "counted." + holder(pair, p) for p in own(call)}
+    if pair is not None:
+        return ", counted: &%s" % pair.type, {p.name: "counted." + holder(pair, p) for p in own(call)}
+    apart, mine = own(call), {p.name: p.name for p in own(call)}
+    if sets_limiter(call):
+        apart = apart[: -len(LIMITER)] + [(LIMITER[0][0], "Limiter")]
+        mine.update((name, "limiter.numbers().%d" % place) for place, (name, _) in enumerate(LIMITER))
+    return "".join(", %s: %s" % (name, kind) for name, kind in apart), mine
 
 
 def lent(pairs, call):
@@ -110,7 +114,7 @@ def method(pairs, call):
 
 def counted(pair):
     """The type of what a pair's first call gives and its second takes. Only the first makes one."""
-    shown = {"u32": ("u32", "u32", ""), "&[u32]": ("Vec<u32>", "&[u32]", "&"), "&[i32]": ("Vec<i32>", "&[i32]", "&")}
+    shown = {"u32": ("u32", "u32", ""), "u64": ("u64", "u64", ""), "&[u32]": ("Vec<u32>", "&[u32]", "&"), "&[i32]": ("Vec<i32>", "&[i32]", "&")}
     fields = "".join("    %s: %s,\n" % (p.name, shown[p.type][0]) for p in held(pair))
     reads = "".join(
         "\n    /// %s.\n    pub fn %s(&self) -> %s {\n        %sself.%s\n    }\n"
@@ -124,11 +128,35 @@ def counted(pair):
     ) % (pair.what, pair.first.name, pair.second.name, pair.type, fields, pair.type, reads)
 
 
+def limiters(tables):
+    """The type of a limiter with the bounds that it reads."""
+    cases = "".join(
+        "    /// %s\n    %s%s,\n" % (l.what[0].upper() + l.what[1:], l.name, " { %s }" % ", ".join("%s: u64" % b for b in l.bounds) if l.bounds else "")
+        for l in tables.limiters
+    )
+
+    def arms(shape):
+        for l in tables.limiters:
+            value = "Limiter::%s%s" % (l.name, " { %s }" % ", ".join(l.bounds) if l.bounds else "")
+            yield shape % dict(value=value, number=l.number, bounds=", ".join(b if b in l.bounds else "0" for b, _ in LIMITER[1:]))
+
+    return (
+        "/// A tracer's limiter, with the bounds that it reads: mixing ratios (units of gas for one of air) in parts of [`SCALE`].\n"
+        "#[derive(Clone, Copy, Debug, PartialEq, Eq)]\n#[non_exhaustive]\npub enum Limiter {\n%s}\n\n"
+        "impl Limiter {\n    /// Its number, lo and hi, as [`raw::set_limiter`] takes them; a bound that it does not read is 0.\n"
+        "    pub fn numbers(self) -> (u32, u64, u64) {\n        match self {\n%s        }\n    }\n\n"
+        "    /// The limiter that has these in the ledger, if the number is one of a limiter.\n"
+        "    fn standing(number: u32, lo: u64, hi: u64) -> Option<Limiter> {\n        match number {\n%s            _ => None,\n        }\n    }\n}\n"
+    ) % (
+        cases, "".join(arms("            %(value)s => (%(number)d, %(bounds)s),\n")), "".join(arms("            %(number)d => Some(%(value)s),\n")),
+    )
+
+
 def why_extern(call):
     """The C function that says why a call is refused."""
     listed = ["world: *const CWorld"]
     for p in own(call):
-        listed.append("%s: %s, %s_length: usize" % (p.name, POINTERS[p.type][0], p.name) if is_list(p) else p.name + ": u32")
+        listed.append("%s: %s, %s_length: usize" % (p.name, POINTERS[p.type][0], p.name) if is_list(p) else "%s: %s" % p)
     return "    fn puldeho_why_%s(%s) -> c_int;\n" % (call.name, ", ".join(listed + ["text: *mut c_char", "size: usize"]))
 
 
@@ -159,6 +187,8 @@ def wrapper(tables):
         "ABI": abi(tables),
         "LIMITS": "".join("/// %s\npub const %s: u32 = %d;\n" % (l.what[0].upper() + l.what[1:], l.name, l.number) for l in tables.limits),
         "REFUSALS": refusals(tables),
+        "LIMITERS": limiters(tables),
+        "LIMITERPLACE": str(tables.limiter_place),
         "LENGTHS": "".join(number(length_name(l), l.length, length_text(l)) for l in tables.lists),
         "BOUNDS": "".join(number(b.name, b.most, bound_text(b, tables)) for b in tables.bounds),
         "FIELDS": "".join("    %s: Vec<u32>,\n" % l.name for l in lists),

@@ -1,4 +1,4 @@
-"""The tables of bindings/: calls, pairs, lists, bounds, limits, refusals, stacks, version. Each is read, and held to the crates that it speaks of."""
+"""The tables of bindings/: calls, pairs, lists, bounds, limits, limiters, refusals, stacks, version. Each is read, and held to the crates that it speaks of."""
 import re
 import sys
 import textwrap
@@ -13,12 +13,15 @@ Bound = namedtuple("Bound", "name counted call most what")
 Refusal = namedtuple("Refusal", "number name condition cause remedy")
 Limit = namedtuple("Limit", "name number what")
 Pair = namedtuple("Pair", "first second given type what")
-Tables = namedtuple("Tables", "calls pairs lists bounds limits refusals programs stack version")
+Limiter = namedtuple("Limiter", "number name bounds what")
+Tables = namedtuple("Tables", "calls pairs lists bounds limits limiters limiter_place refusals programs stack version")
 
 GRID = ("w", "r", "k", "n")
 # The limit of bindings/limits.txt that is the largest of each of the grid's numbers.
 MOST = {"w": "MOST_COLUMNS", "r": "MOST_ROWS", "k": "MOST_LAYERS", "n": "MOST_TRACERS"}
-TYPES = ("u32", "&[u32]", "&mut [u32]", "&[i32]")
+TYPES = ("u32", "u64", "&[u32]", "&mut [u32]", "&[i32]")
+# The parameters that together are a limiter.
+LIMITER = (("limiter", "u32"), ("lo", "u64"), ("hi", "u64"))
 MADE = "Made by tools/bindings from the tables of bindings/: not to be edited."
 RAW = "puldeho_raw_"
 # Bytes that are room enough for any text that says why a call is refused.
@@ -50,7 +53,7 @@ def parameters(text):
 
 
 def is_list(parameter):
-    return parameter.type != "u32"
+    return parameter.type.startswith("&")
 
 
 def is_written(parameter):
@@ -190,14 +193,30 @@ def read_refusals():
     return [r for r in found if r.name != "-"], [r for r in found if r.name == "-"]
 
 
+def unit_numbers():
+    """The numbers that crates/units has by name."""
+    source = open("crates/units/src/lib.rt", encoding="utf-8").read()
+    return dict(re.findall(r"^pub const (\w+): \w+ = (\d+);", source, re.M))
+
+
 def read_limits():
     """The table of the limits, with their numbers from crates/units."""
-    source = open("crates/units/src/lib.rt", encoding="utf-8").read()
-    numbers = dict(re.findall(r"^pub const (\w+): \w+ = (\d+);", source, re.M))
+    numbers = unit_numbers()
     for name, what in rows("bindings/limits.txt", 2):
         if name not in numbers:
             sys.exit("bindings/limits.txt: %s is no constant of crates/units/src/lib.rt" % name)
         yield Limit(name, int(numbers[name]), what)
+
+
+def read_limiters():
+    """The table of the limiters, numbered from 1 on."""
+    limiters = []
+    for number, name, bounds, what in rows("bindings/limiters.txt", 4):
+        limiter = Limiter(int(number), name, [] if bounds == "-" else bounds.split(", "), what)
+        if limiter.number != len(limiters) + 1 or not set(limiter.bounds) <= {bound for bound, _ in LIMITER[1:]}:
+            sys.exit("bindings/limiters.txt: %s: the numbers are 1, 2 and so on, and the bounds lo and hi" % name)
+        limiters.append(limiter)
+    return limiters
 
 
 def read_stack(calls):
@@ -247,7 +266,10 @@ def read_tables():
     version = open("bindings/version.txt", encoding="utf-8").read().strip()
     limits = list(read_limits())
     lists = read_lists(calls, limits)
-    return Tables(calls, read_pairs(calls), lists, read_bounds(calls, lists, limits), limits, refusals, programs, read_stack(calls), version)
+    bounds, place = read_bounds(calls, lists, limits), int(unit_numbers()["LIMITER_PLACE"])
+    return Tables(
+        calls, read_pairs(calls), lists, bounds, limits, read_limiters(), place, refusals, programs, read_stack(calls), version
+    )
 
 
 # What the makers of the languages share.
@@ -271,6 +293,11 @@ def held(pair):
 def holder(pair, parameter):
     """The field of such a value that is a parameter of the second call."""
     return pair.first.count.name if parameter.name == pair.given else parameter.name
+
+
+def sets_limiter(call):
+    """Whether the call takes a limiter, in its last parameters."""
+    return tuple(map(tuple, own(call)[-len(LIMITER) :])) == LIMITER
 
 
 def abi(tables):

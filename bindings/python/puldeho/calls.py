@@ -3,14 +3,14 @@
 import collections
 import enum
 
-__all__ = ["Refusal", "CountedZonal", "SCALE", "AIR_LIMIT", "TOTAL_LIMIT", "ZONAL_LIMIT", "MERIDIONAL_LIMIT", "MOST_SUBSTEPS", "TABLE_LIMIT", "TABLE_SCALE", "MOST_COLUMNS", "MOST_ROWS", "MOST_LAYERS", "MOST_TRACERS", "MOST_EMITTERS", "LEDGER_BLOCK"]
+__all__ = ["Limiter", "Refusal", "StandingLimiter", "CountedZonal", "SCALE", "AIR_LIMIT", "TOTAL_LIMIT", "ZONAL_LIMIT", "MERIDIONAL_LIMIT", "MOST_SUBSTEPS", "TABLE_LIMIT", "TABLE_SCALE", "MOST_COLUMNS", "MOST_ROWS", "MOST_LAYERS", "MOST_TRACERS", "MOST_EMITTERS", "LEDGER_BLOCK"]
 
-VERSION = "0.6.0"
+VERSION = "0.7.0"
 # The shared library of this version. Another version's functions may take other arguments.
-SONAME = "libpuldeho.so.0.6"
-ABI = "puldeho_abi_0_6"
+SONAME = "libpuldeho.so.0.7"
+ABI = "puldeho_abi_0_7"
 
-# The scale of ratios, mismatches and pieces: 262144 from version 0.6 on, and 65536 before. Builds whose scales differ may give other amounts; no call takes it
+# The scale of ratios, mismatches and pieces, in which set_limiter takes its bounds: 262144 from version 0.6 on, and 65536 before. Builds whose scales differ may give other amounts
 SCALE = 262144
 # The most air of a cell; the least is 1
 AIR_LIMIT = 65535
@@ -37,7 +37,7 @@ MOST_TRACERS = 8
 # The most emitters of a tracer that stand at once
 MOST_EMITTERS = 16
 # How many numbers of the ledger each tracer has; tracer t's block starts at t times this number. Later versions have more
-LEDGER_BLOCK = 51
+LEDGER_BLOCK = 56
 
 
 class Refusal(enum.IntEnum):
@@ -60,6 +60,30 @@ class Refusal(enum.IntEnum):
     EMITTER_ADDED = 18
     EMITTER_ABSENT = 19
     GIVEN_COUNT = 20
+    LIMITERS = 21
+
+
+class Limiter(enum.IntEnum):
+    """The limiters, by their numbers."""
+
+    # van Leer's monotone limiter, which a load gives every tracer: no new highs and lows beyond rounding
+    PRESENT = 1
+    # keeps steeper slopes: amounts never fall below 0, but may rise above all that was near
+    POSITIVE = 2
+    # slopes as steep as keeps the ratio inside a cell between lo and hi; no slope in a cell whose ratio is outside
+    FIXED = 3
+
+
+# Those that read bounds.
+BOUNDED = (Limiter.FIXED,)
+# Where a tracer's limiter stands in its block of the ledger: its number, then lo and hi, each as its low and its high 32 bits.
+LIMITER_PLACE = 51
+
+
+class StandingLimiter(collections.namedtuple("StandingLimiter", "limiter lo hi")):
+    """The limiter that a tracer has, with its bounds. World.limiter gives it."""
+
+    __slots__ = ()
 
 
 # Bytes that are room enough for any text that says why a call is refused.
@@ -84,6 +108,7 @@ CONDITIONS = {
     Refusal.EMITTER_ADDED: "the tracer has 16 emitters or already has that id",
     Refusal.EMITTER_ABSENT: "the tracer has no emitter of that id",
     Refusal.GIVEN_COUNT: "the given count differs from the smallest that serves",
+    Refusal.LIMITERS: "a tracer's limiter is none of 1, 2 and 3, or its lo exceeds its hi",
 }
 
 # What to do about each refusal.
@@ -105,12 +130,13 @@ REMEDIES = {
     Refusal.EMITTER_ADDED: "remove a stack before you add it again with another cell or other units; add stacks of one cell as one emitter, with the sum of their units (to close one of them, remove the emitter and add it again with the rest); what does not fit 16 emitters give by emission",
     Refusal.EMITTER_ABSENT: "remove each stack once, from the tracer that it was added to, and add the emitters anew after a load",
     Refusal.GIVEN_COUNT: "see that layer, row and fluxes are those that were counted; then count again with count_zonal, look at the new count, and give that",
+    Refusal.LIMITERS: "load the world before other calls, and again if the ledger was written by anything but calls, then add the emitters and set the limiters anew; give set_limiter 1, 2 or 3, and lo and hi as mixing ratios times 262,144, lo at most hi (with 1 and 2 both 0)",
 }
 
 # The world's lists, in the order of the C struct.
 WORLD = ("air", "tracers", "ledger")
 # Those among them that each world has of its own, with their lengths on the largest grid.
-OWN = {"ledger": 408}
+OWN = {"ledger": 448}
 
 # The parameters of each proved function after the grid's four numbers, with their types in the library.
 SIGNATURES = {
@@ -129,6 +155,7 @@ SIGNATURES = {
     "remove_emitter": (("air", "&[u32]"), ("tracers", "&[u32]"), ("ledger", "&mut [u32]"), ("tracer", "u32"), ("id", "u32")),
     "tick": (("air", "&[u32]"), ("tracers", "&mut [u32]"), ("ledger", "&[u32]"), ("tracer", "u32")),
     "units_a_tick": (("air", "&[u32]"), ("tracers", "&[u32]"), ("ledger", "&[u32]"), ("tracer", "u32")),
+    "set_limiter": (("air", "&[u32]"), ("tracers", "&[u32]"), ("ledger", "&mut [u32]"), ("tracer", "u32"), ("limiter", "u32"), ("lo", "u64"), ("hi", "u64")),
 }
 # The calls whose count has 64 bits: one function gives the refusal, a second, NAME_number, the count.
 WIDE = {"units_a_tick"}
@@ -179,15 +206,16 @@ class Lengths:
 
     @property
     def ledger_length(self):
-        """The length of ledger: N*51. In it: the emitters, a block for each tracer: at its place 0 how many
-        stand, at 1 and 2 the sum of their units, low and high 32 bits, from 3 on id, cell and units of
-        each."""
-        return self.n * 51
+        """The length of ledger: N*56. In it: the emitters and the limiter, a block for each tracer: at its
+        place 0 how many emitters stand, at 1 and 2 the sum of their units, low and high 32 bits, from 3 on
+        id, cell and units of each, at 51 the limiter, at 52 and 53 its lo and at 54 and 55 its hi, low and
+        high 32 bits."""
+        return self.n * 56
 
     @property
     def ledger_shape(self):
         """The shape of such an array of numpy; one of one dimension serves too."""
-        return (self.n, 51,)
+        return (self.n, 56,)
 
     @property
     def zonal_fluxes_length(self):
@@ -284,9 +312,10 @@ class Calls:
 
     @property
     def ledger(self):
-        """The world's own, which only calls write: the emitters, a block for each tracer: at its place 0 how
-        many stand, at 1 and 2 the sum of their units, low and high 32 bits, from 3 on id, cell and units of
-        each."""
+        """The world's own, which only calls write: the emitters and the limiter, a block for each tracer: at
+        its place 0 how many emitters stand, at 1 and 2 the sum of their units, low and high 32 bits, from 3
+        on id, cell and units of each, at 51 the limiter, at 52 and 53 its lo and at 54 and 55 its hi, low and
+        high 32 bits."""
         return memoryview(self._kept["ledger"]).toreadonly()
 
     def emission(self, tracer, cell, amount):
@@ -301,14 +330,14 @@ class Calls:
 
     def zonal(self, layer, row, fluxes):
         """Sweeps one row of one layer by W fluxes, positive eastward. Returns the number of substeps, 1 to
-        16. Refusals, in order: 1 2 3 4 5 8 9."""
+        16. Refusals, in order: 1 2 3 4 21 5 8 9."""
         return self._make("zonal", layer, row, fluxes)
 
     def count_zonal(self, layer, row, fluxes):
         """Counts the substeps of a zonal sweep of one row of one layer by W fluxes, positive eastward, before
         it is made, to be seen and then given to zonal_with_count. Returns a CountedZonal with layer, row,
         fluxes and substeps, the number of substeps that the sweep takes, 1 to 16. Refusals, in order: 1 2 3 4
-        5 8 9."""
+        21 5 8 9."""
         layer = self._held("count_zonal", "layer", layer)
         row = self._held("count_zonal", "row", row)
         fluxes = self._held("count_zonal", "fluxes", fluxes)
@@ -317,27 +346,27 @@ class Calls:
     def zonal_with_count(self, counted):
         """Makes the sweep of zonal, if the given count is the one that count_zonal gives for the same layer,
         row and fluxes now; with any other count it is refused with 20. counted: what count_zonal gave.
-        Returns the count in it. Refusals, in order: 1 2 3 4 5 8 9 20."""
+        Returns the count in it. Refusals, in order: 1 2 3 4 21 5 8 9 20."""
         if not isinstance(counted, CountedZonal):
             raise TypeError("zonal_with_count takes what count_zonal gave, not a value of type %s" % type(counted).__name__)
         return self._make("zonal_with_count", counted.layer, counted.row, counted.substeps, counted.fluxes)
 
     def long_zonal(self, layer, row, fluxes):
         """Sweeps one row of one layer by W fluxes, positive eastward, without substeps: a face takes whole
-        cells and then a part of the next. Its amounts are not those of zonal. Refusals, in order: 1 2 3 4 5 8
-        16 17."""
+        cells and then a part of the next. Its amounts are not those of zonal. Refusals, in order: 1 2 3 4 21
+        5 8 16 17."""
         self._make("long_zonal", layer, row, fluxes)
 
     def meridional(self, layer, fluxes):
         """Sweeps one layer by W*(R + 1) fluxes, positive northward. Returns the number of substeps, 1.
-        Refusals, in order: 1 2 3 4 5 8 10."""
+        Refusals, in order: 1 2 3 4 21 5 8 10."""
         return self._make("meridional", layer, fluxes)
 
     def remap(self, table):
         """Remaps all columns to the edges of a table of K + 1 pairs a, b, lent as 2*(K + 1) numbers. Makes at
         most 2*K steps for each column and tracer, in all at most the grid's most_remap_steps. Section 6 of
         the guide writes a count out by hand. Returns exactly the number of pairs of an old and a new layer
-        that share some air, summed over columns. Refusals, in order: 1 2 3 4 11 12."""
+        that share some air, summed over columns. Refusals, in order: 1 2 3 4 21 11 12."""
         return self._make("remap", table)
 
     def total(self, tracer):
@@ -369,4 +398,13 @@ class Calls:
         """Reads how much a tick of one tracer emits. Returns the units that the tracer's emitters give in a
         tick. Refusals, in order: 1 2 3 4 5."""
         return self._make("units_a_tick", tracer)
+
+    def set_limiter(self, tracer, limiter, *, lo=None, hi=None):
+        """Chooses the limiter of one tracer: 1 the present one, 2 the positive one, 3 the fixed one between
+        lo and hi, which are mixing ratios (units of gas for one of air) times the scale, 262144. The bounds
+        are stored with every limiter, and only 3 reads them; give 0 and 0 with 1 and 2. Holds until the next
+        set_limiter of this tracer or the next load. lo and hi are whole numbers, and 0 if they are not given;
+        a limiter that reads them wants them. Refusals, in order: 1 2 3 4 5 21."""
+        lo, hi = self._bounds(limiter, lo, hi)
+        self._make("set_limiter", tracer, limiter, lo, hi)
 

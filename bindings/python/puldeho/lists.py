@@ -23,15 +23,29 @@ class Lent:
         return self.address, self.length
 
 
-def u32(name, value):
-    """A whole number from 0 to 4,294,967,295; ctypes would cut off any other without a word."""
+def whole(name, value, most):
+    """A whole number from 0 to the most; ctypes would cut off any other without a word."""
     try:
         number = operator.index(value)
     except TypeError:
         raise TypeError("%s: %r is not a whole number" % (name, value)) from None
-    if not 0 <= number <= 0xFFFFFFFF:
-        raise ValueError("%s: %d is %s" % (name, number, "below 0" if number < 0 else "above 4294967295"))
+    if not 0 <= number <= most:
+        raise ValueError("%s: %d is %s" % (name, number, "below 0" if number < 0 else "above %d" % most))
     return number
+
+
+def u32(name, value):
+    """A whole number of 32 bits without a sign."""
+    return whole(name, value, 0xFFFFFFFF)
+
+
+def u64(name, value):
+    """A whole number of 64 bits without a sign."""
+    return whole(name, value, 0xFFFFFFFFFFFFFFFF)
+
+
+# The types of numbers by value.
+VALUES = {"u32": u32, "u64": u64}
 
 
 def flat(value):
@@ -101,8 +115,8 @@ def lent(name, value, kind, shape):
 
 def argument(name, value, kind, shape):
     """One of a call's own arguments: a number, or a list of some shape."""
-    if kind == "u32":
-        return u32(name, value)
+    if kind in VALUES:
+        return VALUES[kind](name, value)
     return lent(name, owner(name, value, kind[-4:-1], shape), kind, shape)
 
 

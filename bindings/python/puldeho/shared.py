@@ -5,6 +5,7 @@ import os
 
 from .calls import ABI, OWN, SIGNATURES, SONAME, WIDE, WORLD
 
+VALUES = {"u32": ctypes.c_uint32, "u64": ctypes.c_uint64}
 HERE = os.path.dirname(os.path.abspath(__file__))
 
 
@@ -39,7 +40,7 @@ def library():
 def types(parameters):
     """The ctypes types of parameters: a list is a pointer and a length."""
     for _, kind in parameters:
-        yield from [ctypes.c_uint32] if kind == "u32" else [ctypes.c_void_p, ctypes.c_size_t]
+        yield from [VALUES[kind]] if kind in VALUES else [ctypes.c_void_p, ctypes.c_size_t]
 
 
 @functools.lru_cache(maxsize=None)

@@ -4,11 +4,12 @@ import collections
 import ctypes
 
 from . import lists, shared
-from .calls import CONDITIONS, OWN, REMEDIES, SHAPES, SIGNATURES, WHY_SIZE, WORLD, Calls, Lengths, Refusal
+from .calls import BOUNDED, CONDITIONS, LEDGER_BLOCK, LIMITER_PLACE, OWN, REMEDIES, SCALE, SHAPES, SIGNATURES, SONAME, WHY_SIZE, WORLD
+from .calls import Calls, Lengths, Limiter, Refusal, StandingLimiter
 
 # Where `why` says for the world at hand what would help, the general remedy is left out.
 CURED = (Refusal.ZONAL, Refusal.MERIDIONAL, Refusal.REMAP, Refusal.LONG_FLUX, Refusal.LONG_AIR, Refusal.EMITTER_ADDED,
-         Refusal.GIVEN_COUNT)
+         Refusal.GIVEN_COUNT, Refusal.LIMITERS)
 
 
 class Grid(Lengths, collections.namedtuple("Grid", "w r k n")):
@@ -72,9 +73,10 @@ class World(Calls):
     Each list is anything with the buffer protocol that holds 32-bit unsigned numbers side by side and may be
     written, such as a numpy array of uint32, and is used without a copy: the calls change it in place. Arrays have
     one dimension or the shape grid.air_shape, grid.tracers_shape. A plain list of numbers is copied; the copy is
-    world.air or world.tracers. Do not write the lists while a call runs. The emitters that stand are in a list that the
-    world has of its own, world.ledger: none after a load, copied, restored and pickled with the world, and written by the
-    calls alone. A world takes no attributes of yours: a later version may give a name to something of its own.
+    world.air or world.tracers. Do not write the lists while a call runs. The emitters that stand and the limiters are in a
+    list that the world has of its own, world.ledger: no emitter and Limiter.PRESENT after a load, copied, restored and
+    pickled with the world, and written by the calls alone. A world takes no attributes of yours: a later version may give a
+    name to something of its own.
     """
 
     __slots__ = ("_grid", "_kept", "_lists", "__weakref__")
@@ -117,8 +119,15 @@ class World(Calls):
         return (World, (tuple(self.grid), self.air, self.tracers)) + ((own,) if own else ())
 
     def __setstate__(self, own):
+        """The world's own lists, after a load. Of a world that a version with shorter blocks has pickled, a block's other numbers
+        stay as the load left them."""
         for name, numbers in own.items():
-            self._kept[name][:] = numbers
+            kept, tracers = self._kept[name], self.grid.n
+            block, had = len(kept) // tracers, len(numbers) // tracers
+            if had > block:
+                raise ValueError("%s: a later version has pickled this world; this one is %s" % (name, SONAME))
+            for tracer in range(tracers):
+                kept[tracer * block : tracer * block + had] = numbers[tracer * had : (tracer + 1) * had]
 
     @property
     def grid(self):
@@ -134,6 +143,21 @@ class World(Calls):
     def tracers(self):
         """The amounts of every tracer: what was given, or the copy of a list."""
         return self._kept["tracers"]
+
+    def limiter(self, tracer):
+        """The limiter that a tracer has now, with its bounds; World.set_limiter sets it."""
+        if not 0 <= tracer < self.grid.n:
+            raise IndexError("tracer %d is not from 0 to %d" % (tracer, self.grid.n - 1))
+        place = tracer * LEDGER_BLOCK + LIMITER_PLACE
+        number, lo_low, lo_high, hi_low, hi_high = self._kept["ledger"][place : place + 5]
+        return StandingLimiter(Limiter(number), lo_high << 32 | lo_low, hi_high << 32 | hi_low)
+
+    @staticmethod
+    def _bounds(limiter, lo, hi):
+        """A limiter's bounds, 0 where they are not given. With 0 and 0 for bounds a limiter that reads them has no slopes."""
+        if limiter in BOUNDED and (lo is None or hi is None):
+            raise TypeError("this limiter wants lo and hi: mixing ratios times %d, the scale" % SCALE)
+        return 0 if lo is None else lo, 0 if hi is None else hi
 
     def __repr__(self):
         return "World(%r)" % (self.grid,)

@@ -65,6 +65,12 @@ class Arrays(unittest.TestCase):
         with self.assertRaisesRegex(ValueError, "another grid"):
             self.world.restore(other)
 
+    def test_limiter(self):
+        self.world.set_limiter(numpy.int64(1), numpy.uint32(3), lo=numpy.array(5), hi=numpy.uint64(2**64 - 1))
+        self.assertEqual(self.world.limiter(1), (puldeho.Limiter.FIXED, 5, 2**64 - 1))
+        with self.assertRaisesRegex(TypeError, "hi: .* is not a whole number"):
+            self.world.set_limiter(1, 3, lo=0, hi=numpy.float64(262144))
+
     def test_masked(self):
         fluxes = numpy.ma.masked_array(numpy.zeros(GRID.w, dtype=numpy.int32), [True] + [False] * 5)
         with self.assertRaisesRegex(ValueError, "fluxes: has masked entries"):

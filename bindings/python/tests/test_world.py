@@ -82,7 +82,7 @@ class CaseP(unittest.TestCase):
         self.assertIsNone(one.tick(0))
         self.assertEqual(one.tracers.tolist(), [0, 0, 100, 300, 130, 0])
         self.assertIsNone(one.remove_emitter(0, 7))
-        self.assertEqual(one.ledger.tolist(), [2, 90, 0, 0, 4, 30, 8, 3, 60] + [0] * (puldeho.LEDGER_BLOCK - 9))
+        self.assertEqual(one.ledger.tolist(), [2, 90, 0, 0, 4, 30, 8, 3, 60] + [0] * 42 + [1, 0, 0, 0, 0])
         self.assertEqual(len(one.ledger), GRID.ledger_length)
         one.add_emitter(0, 0, 2**32 - 1, 2**32 - 1)
         self.assertEqual(one.units_a_tick(0), 2**32 + 89)
@@ -93,16 +93,45 @@ class CaseP(unittest.TestCase):
         again = puldeho.World(GRID, one.air, one.tracers)
         self.assertEqual((one.units_a_tick(0), again.units_a_tick(0)), (40, 0))
 
-    def test_emitters_added_again_after_a_load(self):
+    def test_limiters(self):
+        for limiter, bounds, left in (
+            (puldeho.Limiter.PRESENT, {}, 150),
+            (puldeho.Limiter.POSITIVE, {}, 144),
+            (puldeho.Limiter.FIXED, dict(lo=0, hi=31 * puldeho.SCALE // 10), 148),
+            (3, dict(lo=0, hi=2**64 - 1), 144),
+        ):
+            one = puldeho.World(GRID, AIR, [0, 100, 300, 200, 0, 0])
+            self.assertEqual(one.limiter(0), (puldeho.Limiter.PRESENT, 0, 0))
+            self.assertIsNone(one.set_limiter(0, limiter, **bounds))
+            self.assertEqual(one.limiter(0), (limiter, bounds.get("lo", 0), bounds.get("hi", 0)))
+            one.zonal(0, 0, [0, 50, 0, 0])
+            self.assertEqual(one.tracers[2], left)
+            again = puldeho.World(GRID, one.air, one.tracers)
+            self.assertEqual(again.limiter(0), puldeho.StandingLimiter(puldeho.Limiter.PRESENT, lo=0, hi=0))
+
+    def test_a_limiter_of_each_gas(self):
+        one = puldeho.World(GRID._replace(n=2), AIR, TRACERS + TRACERS)
+        one.set_limiter(1, puldeho.Limiter.FIXED, lo=2**40 + 3, hi=2**64 - 1)
+        self.assertEqual(repr(one.limiter(1)), "StandingLimiter(limiter=<Limiter.FIXED: 3>, lo=1099511627779, hi=18446744073709551615)")
+        self.assertEqual(one.limiter(0).limiter, 1)
+        one.set_limiter(0, **one.limiter(1)._asdict())
+        self.assertEqual(one.limiter(0), one.limiter(1))
+        for absent in (-1, 2):
+            with self.assertRaisesRegex(IndexError, "tracer -?[12] is not from 0 to 1"):
+                one.limiter(absent)
+
+    def test_emitters_and_limiters_again_after_a_load(self):
         """As the guide does it, after chemistry."""
         grid = GRID._replace(n=2)
         one = puldeho.World(grid, AIR, TRACERS + TRACERS)
         for tracer, stack, cell, units in ((0, 101, 3, 40), (1, 101, 3, 7), (0, 102, 3, 25), (0, 103, 5, 10)):
             one.add_emitter(tracer, cell, stack, units)
         one.remove_emitter(0, 101)
-        kept = one.ledger.tolist()
+        one.set_limiter(1, puldeho.Limiter.FIXED, lo=7, hi=2**40)
+        kept, limiters = one.ledger.tolist(), [one.limiter(t) for t in range(grid.n)]
         one = puldeho.World(grid, one.air, one.tracers)
         for t in range(grid.n):
+            one.set_limiter(t, limiters[t].limiter, lo=limiters[t].lo, hi=limiters[t].hi)
             block = kept[t * puldeho.LEDGER_BLOCK:]
             for i in range(block[0]):
                 one.add_emitter(tracer=t, id=block[3 + 3 * i], cell=block[4 + 3 * i], units=block[5 + 3 * i])
@@ -159,6 +188,23 @@ class Copies(unittest.TestCase):
         one.restore(kept)
         self.assertEqual((one.units_a_tick(0), one.ledger), (40, kept.ledger))
 
+    def test_limiters_are_copied(self):
+        one = world()
+        one.set_limiter(0, puldeho.Limiter.FIXED, lo=3, hi=2**40)
+        for second in (one.copy(), copy.copy(one), copy.deepcopy(one), pickle.loads(pickle.dumps(one))):
+            self.assertEqual(second.limiter(0), one.limiter(0))
+            second.set_limiter(0, puldeho.Limiter.POSITIVE)
+            self.assertEqual(one.limiter(0).limiter, puldeho.Limiter.FIXED)
+            second.restore(one)
+            self.assertEqual(second.limiter(0), one.limiter(0))
+
+    def test_pickled_by_a_version_with_shorter_blocks(self):
+        one = puldeho.World(GRID._replace(n=2), AIR, TRACERS + TRACERS)
+        one.__setstate__({"ledger": array.array("I", [0] * 51 + [1, 40, 0, 7, 3, 40] + [0] * 45)})
+        self.assertEqual([(one.units_a_tick(t), one.limiter(t).limiter) for t in range(2)], [(0, 1), (40, 1)])
+        with self.assertRaisesRegex(ValueError, "a later version has pickled this world"):
+            one.__setstate__({"ledger": array.array("I", [0] * 2 * 57)})
+
 
 class NotTaken(unittest.TestCase):
     def test_other_numbers(self):
@@ -178,6 +224,16 @@ class NotTaken(unittest.TestCase):
         for id, units in ((-1, 1), (2**32, 1), (1, -1), (1, 2**32)):
             with self.assertRaisesRegex(ValueError, "is (below 0|above 4294967295)"):
                 world().add_emitter(0, 3, id, units)
+        for lo, hi in ((-1, 1), (0, 2**64)):
+            with self.assertRaisesRegex(ValueError, "is (below 0|above 18446744073709551615)"):
+                world().set_limiter(0, puldeho.Limiter.FIXED, lo=lo, hi=hi)
+        with self.assertRaisesRegex(TypeError, "lo: 0.5 is not a whole number"):
+            world().set_limiter(0, puldeho.Limiter.FIXED, lo=0.5, hi=1)
+        for bounds in ({}, {"lo": 0}, {"hi": 1}):
+            with self.assertRaisesRegex(TypeError, "this limiter wants lo and hi: mixing ratios times 262144"):
+                world().set_limiter(0, puldeho.Limiter.FIXED, **bounds)
+        with self.assertRaisesRegex(TypeError, "positional"):
+            world().set_limiter(0, puldeho.Limiter.FIXED, 0, 1)
         with self.assertRaisesRegex(OverflowError, "fluxes: "):
             world().zonal(0, 0, [0, 2**31, 0, 0])
         with self.assertRaisesRegex(OverflowError, "air: "):
@@ -269,6 +325,24 @@ class Refusals(unittest.TestCase):
             one.tick(0)
         self.assertIn("in the ledger some tracer has", str(caught.exception))
         self.assertNotIn("What to do", str(caught.exception))
+        self.assertEqual(one.total(0), 400)
+
+    def test_of_limiters(self):
+        one = world()
+        for number, tracer, limiter, bounds, words in (
+            (5, 1, 4, {}, "there is no tracer 1"),
+            (21, 0, 4, {}, "there is no limiter 4, it may be 1 (present), 2 (positive) or 3 (fixed)"),
+            (21, 0, 3, dict(lo=2, hi=1), "lo is 2 and above hi, which is 1; lo must be at most hi"),
+        ):
+            with self.assertRaises(puldeho.Refused) as caught:
+                one.set_limiter(tracer, limiter, **bounds)
+            self.assertEqual(caught.exception.number, number)
+            self.assertIn(words, caught.exception.why)
+            self.assertEqual("What to do" in str(caught.exception), number == 5)
+            self.assertEqual(one.limiter(0), (1, 0, 0))
+        one._kept["ledger"][51] = 9
+        with self.assertRaisesRegex(puldeho.Refused, "zonal refused with 21 .*tracer 0 has the limiter 9 .*load again"):
+            one.zonal(0, 0, [0, 50, 0, 0])
         self.assertEqual(one.total(0), 400)
 
     def test_words(self):

@@ -16,7 +16,7 @@ struct CWorld {
     tracers_length: usize,
     ledger: *const u32,
     ledger_length: usize,
-    own_ledger: [u32; 408],
+    own_ledger: [u32; 448],
 }
 
 extern "C" {
@@ -35,21 +35,22 @@ extern "C" {
     fn puldeho_why_remove_emitter(world: *const CWorld, tracer: u32, id: u32, text: *mut c_char, size: usize) -> c_int;
     fn puldeho_why_tick(world: *const CWorld, tracer: u32, text: *mut c_char, size: usize) -> c_int;
     fn puldeho_why_units_a_tick(world: *const CWorld, tracer: u32, text: *mut c_char, size: usize) -> c_int;
+    fn puldeho_why_set_limiter(world: *const CWorld, tracer: u32, limiter: u32, lo: u64, hi: u64, text: *mut c_char, size: usize) -> c_int;
 }
 
 /// Does nothing, and is linked with the library of this version only: another one's functions may take other arguments.
 pub(crate) fn same_version() {
     extern "C" {
-        fn puldeho_abi_0_6();
+        fn puldeho_abi_0_7();
     }
     // SAFETY: it takes nothing and does nothing.
-    unsafe { puldeho_abi_0_6() }
+    unsafe { puldeho_abi_0_7() }
 }
 
 /// The version of the library that this wrapper was made for.
-pub const VERSION: &str = "0.6.0";
+pub const VERSION: &str = "0.7.0";
 
-/// The scale of ratios, mismatches and pieces: 262144 from version 0.6 on, and 65536 before. Builds whose scales differ may give other amounts; no call takes it
+/// The scale of ratios, mismatches and pieces, in which set_limiter takes its bounds: 262144 from version 0.6 on, and 65536 before. Builds whose scales differ may give other amounts
 pub const SCALE: u32 = 262144;
 /// The most air of a cell; the least is 1
 pub const AIR_LIMIT: u32 = 65535;
@@ -76,7 +77,7 @@ pub const MOST_TRACERS: u32 = 8;
 /// The most emitters of a tracer that stand at once
 pub const MOST_EMITTERS: u32 = 16;
 /// How many numbers of the ledger each tracer has; tracer t's block starts at t times this number. Later versions have more
-pub const LEDGER_BLOCK: u32 = 51;
+pub const LEDGER_BLOCK: u32 = 56;
 
 /// Why a call was refused. It then changed nothing. `refusal as u32` is its number.
 #[derive(Clone, Copy, Debug, PartialEq, Eq)]
@@ -116,6 +117,8 @@ pub enum Refusal {
     EmitterAbsent = 19,
     /// the given count differs from the smallest that serves
     GivenCount = 20,
+    /// a tracer's limiter is none of 1, 2 and 3, or its lo exceeds its hi
+    Limiters = 21,
 }
 
 impl Refusal {
@@ -138,6 +141,7 @@ impl Refusal {
         Refusal::EmitterAdded,
         Refusal::EmitterAbsent,
         Refusal::GivenCount,
+        Refusal::Limiters,
     ];
 
     /// The refusal's condition, in words.
@@ -160,6 +164,7 @@ impl Refusal {
             Refusal::EmitterAdded => "the tracer has 16 emitters or already has that id",
             Refusal::EmitterAbsent => "the tracer has no emitter of that id",
             Refusal::GivenCount => "the given count differs from the smallest that serves",
+            Refusal::Limiters => "a tracer's limiter is none of 1, 2 and 3, or its lo exceeds its hi",
         }
     }
 
@@ -183,6 +188,40 @@ impl Refusal {
             Refusal::EmitterAdded => "remove a stack before you add it again with another cell or other units; add stacks of one cell as one emitter, with the sum of their units (to close one of them, remove the emitter and add it again with the rest); what does not fit 16 emitters give by emission",
             Refusal::EmitterAbsent => "remove each stack once, from the tracer that it was added to, and add the emitters anew after a load",
             Refusal::GivenCount => "see that layer, row and fluxes are those that were counted; then count again with count_zonal, look at the new count, and give that",
+            Refusal::Limiters => "load the world before other calls, and again if the ledger was written by anything but calls, then add the emitters and set the limiters anew; give set_limiter 1, 2 or 3, and lo and hi as mixing ratios times 262,144, lo at most hi (with 1 and 2 both 0)",
+        }
+    }
+}
+
+/// A tracer's limiter, with the bounds that it reads: mixing ratios (units of gas for one of air) in parts of [`SCALE`].
+#[derive(Clone, Copy, Debug, PartialEq, Eq)]
+#[non_exhaustive]
+pub enum Limiter {
+    /// Van Leer's monotone limiter, which a load gives every tracer: no new highs and lows beyond rounding
+    Present,
+    /// Keeps steeper slopes: amounts never fall below 0, but may rise above all that was near
+    Positive,
+    /// Slopes as steep as keeps the ratio inside a cell between lo and hi; no slope in a cell whose ratio is outside
+    Fixed { lo: u64, hi: u64 },
+}
+
+impl Limiter {
+    /// Its number, lo and hi, as [`raw::set_limiter`] takes them; a bound that it does not read is 0.
+    pub fn numbers(self) -> (u32, u64, u64) {
+        match self {
+            Limiter::Present => (1, 0, 0),
+            Limiter::Positive => (2, 0, 0),
+            Limiter::Fixed { lo, hi } => (3, lo, hi),
+        }
+    }
+
+    /// The limiter that has these in the ledger, if the number is one of a limiter.
+    fn standing(number: u32, lo: u64, hi: u64) -> Option<Limiter> {
+        match number {
+            1 => Some(Limiter::Present),
+            2 => Some(Limiter::Positive),
+            3 => Some(Limiter::Fixed { lo, hi }),
+            _ => None,
         }
     }
 }
@@ -199,9 +238,9 @@ impl Grid {
         self.n as usize * self.k as usize * self.cells_in_layer()
     }
 
-    /// The length of ledger: N*51. In it: the emitters, a block for each tracer: at its place 0 how many stand, at 1 and 2 the sum of their units, low and high 32 bits, from 3 on id, cell and units of each.
+    /// The length of ledger: N*56. In it: the emitters and the limiter, a block for each tracer: at its place 0 how many emitters stand, at 1 and 2 the sum of their units, low and high 32 bits, from 3 on id, cell and units of each, at 51 the limiter, at 52 and 53 its lo and at 54 and 55 its hi, low and high 32 bits.
     pub fn ledger_length(self) -> usize {
-        self.n as usize * 51
+        self.n as usize * 56
     }
 
     /// The length of fluxes of a zonal call: W. In it: flux i crosses the face from column i to column i + 1, the last to column 0; positive eastward.
@@ -253,14 +292,14 @@ pub struct World {
 impl World {
     /// Takes the lists as the world from now on, if the load is accepted.
     pub fn load(grid: Grid, air: impl Into<Vec<u32>>, tracers: impl Into<Vec<u32>>) -> Result<World, Refusal> {
-        let mut world = World { grid, air: air.into(), tracers: tracers.into(), ledger: vec![0; grid.ledger_length().min(408)] };
+        let mut world = World { grid, air: air.into(), tracers: tracers.into(), ledger: vec![0; grid.ledger_length().min(448)] };
         raw::load(grid, &world.air, &world.tracers, &mut world.ledger)?;
         Ok(world)
     }
 
     /// Why a load of these lists is refused, in words.
     pub fn why_load(grid: Grid, air: impl Into<Vec<u32>>, tracers: impl Into<Vec<u32>>) -> String {
-        let given = World { grid, air: air.into(), tracers: tracers.into(), ledger: vec![0; grid.ledger_length().min(408)] };
+        let given = World { grid, air: air.into(), tracers: tracers.into(), ledger: vec![0; grid.ledger_length().min(448)] };
         let world = given.lent();
         // SAFETY: each pointer goes with its list's length, and nothing but the text is written.
         words(|text, size| unsafe { puldeho_why_load(&world, text, size) })
@@ -276,13 +315,20 @@ impl World {
             tracers_length: self.tracers.len(),
             ledger: self.ledger.as_ptr(),
             ledger_length: self.ledger.len(),
-            own_ledger: [0; 408],
+            own_ledger: [0; 448],
         }
     }
 
     /// The grid.
     pub fn grid(&self) -> Grid {
         self.grid
+    }
+
+    /// The limiter that a tracer has now, if the grid has the tracer.
+    pub fn limiter(&self, tracer: u32) -> Option<Limiter> {
+        let block = self.ledger.chunks(LEDGER_BLOCK as usize).nth(tracer as usize)?;
+        let wide = |place: usize| u64::from(block[place]) | u64::from(block[place + 1]) << 32;
+        Limiter::standing(block[51], wide(51 + 1), wide(51 + 3))
     }
 
     /// The air of every cell; layer k starts at k*C.
@@ -295,7 +341,7 @@ impl World {
         &self.tracers
     }
 
-    /// The emitters, a block for each tracer: at its place 0 how many stand, at 1 and 2 the sum of their units, low and high 32 bits, from 3 on id, cell and units of each.
+    /// The emitters and the limiter, a block for each tracer: at its place 0 how many emitters stand, at 1 and 2 the sum of their units, low and high 32 bits, from 3 on id, cell and units of each, at 51 the limiter, at 52 and 53 its lo and at 54 and 55 its hi, low and high 32 bits.
     pub fn ledger(&self) -> &[u32] {
         &self.ledger
     }
@@ -320,7 +366,7 @@ impl World {
     ///
     /// It gives the number of substeps, 1 to 16.
     ///
-    /// Refusals, in order: 1 2 3 4 5 8 9.
+    /// Refusals, in order: 1 2 3 4 21 5 8 9.
     pub fn zonal(&mut self, layer: u32, row: u32, fluxes: &[i32]) -> Result<u32, Refusal> {
         raw::zonal(self.grid, &mut self.air, &mut self.tracers, &self.ledger, layer, row, fluxes)
     }
@@ -329,7 +375,7 @@ impl World {
     ///
     /// It gives a [`CountedZonal`] with the number of substeps that the sweep takes, 1 to 16.
     ///
-    /// Refusals, in order: 1 2 3 4 5 8 9.
+    /// Refusals, in order: 1 2 3 4 21 5 8 9.
     pub fn count_zonal(&self, layer: u32, row: u32, fluxes: &[i32]) -> Result<CountedZonal, Refusal> {
         let substeps = raw::count_zonal(self.grid, &self.air, &self.tracers, &self.ledger, layer, row, fluxes)?;
         Ok(CountedZonal { layer, row, fluxes: fluxes.to_vec(), substeps })
@@ -339,14 +385,14 @@ impl World {
     ///
     /// It gives the count in `counted`.
     ///
-    /// Refusals, in order: 1 2 3 4 5 8 9 20.
+    /// Refusals, in order: 1 2 3 4 21 5 8 9 20.
     pub fn zonal_with_count(&mut self, counted: &CountedZonal) -> Result<u32, Refusal> {
         raw::zonal_with_count(self.grid, &mut self.air, &mut self.tracers, &self.ledger, counted.layer, counted.row, counted.substeps, &counted.fluxes)
     }
 
     /// Sweeps one row of one layer by W fluxes, positive eastward, without substeps: a face takes whole cells and then a part of the next. Its amounts are not those of zonal.
     ///
-    /// Refusals, in order: 1 2 3 4 5 8 16 17.
+    /// Refusals, in order: 1 2 3 4 21 5 8 16 17.
     pub fn long_zonal(&mut self, layer: u32, row: u32, fluxes: &[i32]) -> Result<(), Refusal> {
         raw::long_zonal(self.grid, &mut self.air, &mut self.tracers, &self.ledger, layer, row, fluxes)?;
         Ok(())
@@ -356,7 +402,7 @@ impl World {
     ///
     /// It gives the number of substeps, 1.
     ///
-    /// Refusals, in order: 1 2 3 4 5 8 10.
+    /// Refusals, in order: 1 2 3 4 21 5 8 10.
     pub fn meridional(&mut self, layer: u32, fluxes: &[i32]) -> Result<u32, Refusal> {
         raw::meridional(self.grid, &mut self.air, &mut self.tracers, &self.ledger, layer, fluxes)
     }
@@ -365,7 +411,7 @@ impl World {
     ///
     /// It gives exactly the number of pairs of an old and a new layer that share some air, summed over columns.
     ///
-    /// Refusals, in order: 1 2 3 4 11 12.
+    /// Refusals, in order: 1 2 3 4 21 11 12.
     pub fn remap(&mut self, table: &[u32]) -> Result<u32, Refusal> {
         raw::remap(self.grid, &mut self.air, &mut self.tracers, &self.ledger, table)
     }
@@ -419,6 +465,14 @@ impl World {
     /// Refusals, in order: 1 2 3 4 5.
     pub fn units_a_tick(&self, tracer: u32) -> Result<u64, Refusal> {
         raw::units_a_tick(self.grid, &self.air, &self.tracers, &self.ledger, tracer)
+    }
+
+    /// Chooses the limiter of one tracer: 1 the present one, 2 the positive one, 3 the fixed one between lo and hi, which are mixing ratios (units of gas for one of air) times the scale, 262144. The bounds are stored with every limiter, and only 3 reads them; give 0 and 0 with 1 and 2. Holds until the next set_limiter of this tracer or the next load.
+    ///
+    /// Refusals, in order: 1 2 3 4 5 21.
+    pub fn set_limiter(&mut self, tracer: u32, limiter: Limiter) -> Result<(), Refusal> {
+        raw::set_limiter(self.grid, &self.air, &self.tracers, &mut self.ledger, tracer, limiter.numbers().0, limiter.numbers().1, limiter.numbers().2)?;
+        Ok(())
     }
 
     /// Why the call is refused in this world, in words; ask after the refusal, before the world changes.
@@ -517,6 +571,13 @@ impl World {
         let world = self.lent();
         // SAFETY: each pointer goes with its list's length, and nothing but the text is written.
         words(|text, size| unsafe { puldeho_why_units_a_tick(&world, tracer, text, size) })
+    }
+
+    /// Why the call is refused in this world, in words; ask after the refusal, before the world changes.
+    pub fn why_set_limiter(&self, tracer: u32, limiter: Limiter) -> String {
+        let world = self.lent();
+        // SAFETY: each pointer goes with its list's length, and nothing but the text is written.
+        words(|text, size| unsafe { puldeho_why_set_limiter(&world, tracer, limiter.numbers().0, limiter.numbers().1, limiter.numbers().2, text, size) })
     }
 }
 
@@ -688,9 +749,19 @@ pub mod raw {
             ledger: *const u32, ledger_length: usize,
             tracer: u32,
         ) -> u64;
+        fn puldeho_raw_set_limiter(
+            w: u32, r: u32, k: u32, n: u32,
+            air: *const u32, air_length: usize,
+            tracers: *const u32, tracers_length: usize,
+            ledger: *mut u32, ledger_length: usize,
+            tracer: u32,
+            limiter: u32,
+            lo: u64,
+            hi: u64,
+        ) -> u64;
 }
 
-    /// Tests the grid and the lists air and tracers, which are the world from then on, and changes no number in them. Leaves no emitter standing: it writes 0 over the whole ledger and does not look at what stood there.
+    /// Tests the grid and the lists air and tracers, which are the world from then on, and changes no number in them. Leaves no emitter standing, and gives every tracer limiter 1 with both bounds 0: it writes the whole ledger and does not look at what stood there.
     ///
     /// Count: 0. Refusals, in order: 1 2 3 4.
     pub fn load(
@@ -764,7 +835,7 @@ pub mod raw {
 
     /// Sweeps one row of one layer by W fluxes, positive eastward.
     ///
-    /// Count: the number of substeps, 1 to 16. Refusals, in order: 1 2 3 4 5 8 9.
+    /// Count: the number of substeps, 1 to 16. Refusals, in order: 1 2 3 4 21 5 8 9.
     pub fn zonal(
         grid: Grid,
         air: &mut [u32],
@@ -790,7 +861,7 @@ pub mod raw {
 
     /// Counts the substeps of a zonal sweep of one row of one layer by W fluxes, positive eastward, before it is made, to be seen and then given to zonal_with_count.
     ///
-    /// Count: the number of substeps that the sweep takes, 1 to 16. Refusals, in order: 1 2 3 4 5 8 9.
+    /// Count: the number of substeps that the sweep takes, 1 to 16. Refusals, in order: 1 2 3 4 21 5 8 9.
     pub fn count_zonal(
         grid: Grid,
         air: &[u32],
@@ -816,7 +887,7 @@ pub mod raw {
 
     /// Makes the sweep of zonal, if the given count is the one that count_zonal gives for the same layer, row and fluxes now; with any other count it is refused with 20.
     ///
-    /// Count: the given count. Refusals, in order: 1 2 3 4 5 8 9 20.
+    /// Count: the given count. Refusals, in order: 1 2 3 4 21 5 8 9 20.
     pub fn zonal_with_count(
         grid: Grid,
         air: &mut [u32],
@@ -844,7 +915,7 @@ pub mod raw {
 
     /// Sweeps one row of one layer by W fluxes, positive eastward, without substeps: a face takes whole cells and then a part of the next. Its amounts are not those of zonal.
     ///
-    /// Count: 0. Refusals, in order: 1 2 3 4 5 8 16 17.
+    /// Count: 0. Refusals, in order: 1 2 3 4 21 5 8 16 17.
     pub fn long_zonal(
         grid: Grid,
         air: &mut [u32],
@@ -870,7 +941,7 @@ pub mod raw {
 
     /// Sweeps one layer by W*(R + 1) fluxes, positive northward.
     ///
-    /// Count: the number of substeps, 1. Refusals, in order: 1 2 3 4 5 8 10.
+    /// Count: the number of substeps, 1. Refusals, in order: 1 2 3 4 21 5 8 10.
     pub fn meridional(
         grid: Grid,
         air: &mut [u32],
@@ -894,7 +965,7 @@ pub mod raw {
 
     /// Remaps all columns to the edges of a table of K + 1 pairs a, b, lent as 2*(K + 1) numbers. Makes at most 2*K steps for each column and tracer, in all at most the grid's most_remap_steps. Section 6 of the guide writes a count out by hand.
     ///
-    /// Count: exactly the number of pairs of an old and a new layer that share some air, summed over columns. Refusals, in order: 1 2 3 4 11 12.
+    /// Count: exactly the number of pairs of an old and a new layer that share some air, summed over columns. Refusals, in order: 1 2 3 4 21 11 12.
     pub fn remap(
         grid: Grid,
         air: &mut [u32],
@@ -1060,6 +1131,34 @@ pub mod raw {
                 tracers.as_ptr(), tracers.len(),
                 ledger.as_ptr(), ledger.len(),
                 tracer,
+            )
+        })
+    }
+
+    /// Chooses the limiter of one tracer: 1 the present one, 2 the positive one, 3 the fixed one between lo and hi, which are mixing ratios (units of gas for one of air) times the scale, 262144. The bounds are stored with every limiter, and only 3 reads them; give 0 and 0 with 1 and 2. Holds until the next set_limiter of this tracer or the next load.
+    ///
+    /// Count: 0. Refusals, in order: 1 2 3 4 5 21.
+    pub fn set_limiter(
+        grid: Grid,
+        air: &[u32],
+        tracers: &[u32],
+        ledger: &mut [u32],
+        tracer: u32,
+        limiter: u32,
+        lo: u64,
+        hi: u64,
+    ) -> Result<u32, Refusal> {
+        // SAFETY: each pointer goes with its slice's length, and the borrows keep all others from what is written.
+        outcome(unsafe {
+            puldeho_raw_set_limiter(
+                grid.w, grid.r, grid.k, grid.n,
+                air.as_ptr(), air.len(),
+                tracers.as_ptr(), tracers.len(),
+                ledger.as_mut_ptr(), ledger.len(),
+                tracer,
+                limiter,
+                lo,
+                hi,
             )
         })
     }

@@ -1,6 +1,6 @@
 //! Case P, m1 and each refusal through the safe wrapper, linked with the proved library.
 
-use puldeho::{raw, Grid, Refusal, World, LEDGER_BLOCK};
+use puldeho::{raw, Grid, Limiter, Refusal, World, LEDGER_BLOCK, SCALE};
 
 const GRID: Grid = Grid {
     w: 4,
@@ -13,7 +13,14 @@ const TRACERS: [u32; 6] = [0, 0, 100, 200, 100, 0];
 const MOST: u32 = 268_435_455;
 /// The ledger of one tracer.
 const BLOCK: usize = LEDGER_BLOCK as usize;
-const NONE: [u32; BLOCK] = [0; BLOCK];
+/// As a load leaves it: no emitter, limiter 1.
+const NONE: [u32; BLOCK] = loaded();
+
+const fn loaded() -> [u32; BLOCK] {
+    let mut ledger = [0; BLOCK];
+    ledger[51] = 1;
+    ledger
+}
 
 #[test]
 fn case_p() {
@@ -126,7 +133,7 @@ fn emitters_that_start_and_stop() {
     assert_eq!(world.tracers(), [0, 0, 100, 300, 130, 0]);
     assert_eq!(world.remove_emitter(0, 7), Ok(()));
     assert_eq!(world.ledger()[..9], [2, 90, 0, 0, 4, 30, 8, 3, 60]);
-    assert!(world.ledger()[9..].iter().all(|&number| number == 0));
+    assert_eq!(world.ledger()[9..], NONE[9..]);
     assert_eq!(world.remove_emitter(0, 7), Err(Refusal::EmitterAbsent));
     assert_eq!(world.add_emitter(0, 1, 8, 1), Err(Refusal::EmitterAdded));
     assert!(world
@@ -158,8 +165,52 @@ fn sixteen_emitters_of_the_largest_units() {
     assert_eq!(world.tracers(), [0; 12]);
     let lists = (world.air().to_vec(), world.tracers().to_vec());
     world = World::load(two, lists.0, lists.1).unwrap();
-    assert!(world.ledger().iter().all(|&number| number == 0));
+    assert_eq!(world.ledger(), [NONE, NONE].concat());
     assert_eq!(world.why_units_a_tick(1), "the call would be accepted");
+}
+
+/// What one sweep leaves of a peak, 50 units of air of which go east, under a limiter.
+fn left_of_the_peak(limiter: Limiter) -> u32 {
+    let mut world = World::load(GRID, AIR, [0, 100, 300, 200, 0, 0]).unwrap();
+    assert_eq!(world.set_limiter(0, limiter), Ok(()));
+    assert_eq!(world.limiter(0), Some(limiter));
+    assert_eq!(world.zonal(0, 0, &[0, 50, 0, 0]), Ok(1));
+    world.tracers()[2]
+}
+
+#[test]
+fn a_limiter_for_each_gas() {
+    let hi = 31 * u64::from(SCALE) / 10;
+    assert_eq!(left_of_the_peak(Limiter::Present), 150);
+    assert_eq!(left_of_the_peak(Limiter::Positive), 144);
+    assert_eq!(left_of_the_peak(Limiter::Fixed { lo: 0, hi }), 148);
+    let two = Grid { n: 2, ..GRID };
+    let mut world = World::load(two, AIR, vec![0; 12]).unwrap();
+    let before = world.clone();
+    let wide = Limiter::Fixed {
+        lo: 1 << 40,
+        hi: u64::MAX,
+    };
+    assert_eq!(wide.numbers(), (3, 1 << 40, u64::MAX));
+    assert_eq!(world.set_limiter(1, wide), Ok(()));
+    assert_eq!(
+        [0, 1, 2].map(|tracer| world.limiter(tracer)),
+        [Some(Limiter::Present), Some(wide), None]
+    );
+    assert_eq!(
+        world.ledger()[BLOCK + 51..],
+        [3, 0, 256, u32::MAX, u32::MAX]
+    );
+    assert_ne!(world, before);
+    let reversed = Limiter::Fixed { lo: 2, hi: 1 };
+    assert_eq!(world.set_limiter(1, reversed), Err(Refusal::Limiters));
+    assert_eq!(
+        world.why_set_limiter(1, reversed),
+        "lo is 2 and above hi, which is 1; lo must be at most hi, and both are mixing ratios times 262144"
+    );
+    assert_eq!(world.set_limiter(2, reversed), Err(Refusal::Index));
+    assert_eq!(world.limiter(1), Some(wide));
+    assert_eq!(before.limiter(1), Some(Limiter::Present));
 }
 
 #[test]
@@ -410,6 +461,36 @@ fn refusals_18_and_19() {
     assert_eq!(changed, ledger);
 }
 
+#[test]
+fn refusal_21() {
+    let unloaded = [0; BLOCK];
+    let (mut air, mut tracers) = (AIR, TRACERS);
+    let fluxes = [0, 50, 0, 0];
+    let zonal = raw::zonal(GRID, &mut air, &mut tracers, &unloaded, 0, 0, &fluxes);
+    assert_eq!(zonal, Err(Refusal::Limiters));
+    let absent = raw::count_zonal(GRID, &air, &tracers, &unloaded, 9, 0, &fluxes);
+    assert_eq!(absent, Err(Refusal::Limiters));
+    let given = raw::zonal_with_count(GRID, &mut air, &mut tracers, &unloaded, 0, 0, 1, &fluxes);
+    assert_eq!(given, Err(Refusal::Limiters));
+    let long = raw::long_zonal(GRID, &mut air, &mut tracers, &unloaded, 0, 0, &fluxes);
+    assert_eq!(long, Err(Refusal::Limiters));
+    let meridional = raw::meridional(GRID, &mut air, &mut tracers, &unloaded, 0, &[0; 8]);
+    assert_eq!(meridional, Err(Refusal::Limiters));
+    let remap = raw::remap(GRID, &mut air, &mut tracers, &unloaded, &[0; 4]);
+    assert_eq!(remap, Err(Refusal::Limiters));
+    assert_eq!((air, tracers), (AIR, TRACERS));
+    assert_eq!(raw::total(GRID, &air, &tracers, &unloaded, 0), Ok(400));
+    let mut ledger = unloaded;
+    let mut set = |number, lo, hi| {
+        let set = raw::set_limiter(GRID, &AIR, &TRACERS, &mut ledger, 0, number, lo, hi);
+        (set, ledger)
+    };
+    assert_eq!(set(0, 0, 0), (Err(Refusal::Limiters), unloaded));
+    assert_eq!(set(4, 0, 0), (Err(Refusal::Limiters), unloaded));
+    assert_eq!(set(2, 1, 0), (Err(Refusal::Limiters), unloaded));
+    assert_eq!(set(1, 0, 0), (Ok(0), NONE));
+}
+
 /// The calls on emitters refuse it with 5 and leave every list as it was; no other call looks into it, and a load clears it.
 fn broken(change: impl Fn(&mut [u32])) {
     let mut ledger = one_emitter();
@@ -451,7 +532,7 @@ fn a_refusal_says_its_number_and_condition() {
     );
     let numbers: Vec<u32> = Refusal::ALL.iter().map(|&r| r as u32).collect();
     // 13 to 15 are the runner program's.
-    assert_eq!(numbers, (1..=12).chain(16..=20).collect::<Vec<u32>>());
+    assert_eq!(numbers, (1..=12).chain(16..=21).collect::<Vec<u32>>());
 }
 
 /// On the greatest grid, in a thread whose whole stack is the 256 KiB that no call may pass.
@@ -469,6 +550,8 @@ fn every_call_runs_on_256_kib_of_stack() {
         let mut l = vec![1; 8 * BLOCK];
         let table: Vec<u32> = (0..=32).flat_map(|j| [0, 2048 * j]).collect();
         assert_eq!(raw::load(grid, &air, &tracers, &mut l), Ok(0));
+        let set = raw::set_limiter(grid, &air, &tracers, &mut l, 7, 3, 0, u64::MAX);
+        assert_eq!(set, Ok(0));
         assert_eq!(raw::emission(grid, &air, &mut tracers, &l, 7, 9, 1), Ok(0));
         assert_eq!(
             raw::withdrawal(grid, &air, &mut tracers, &l, 7, 9, 1),
