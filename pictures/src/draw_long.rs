@@ -1,13 +1,13 @@
 //! The picture of the wave by long sweeps.
 
-use crate::draw_wave::{curve, dotted, sheet, DOT, EXACT, LIBRARY};
+use crate::draw_wave::{curve, dotted, sheet, DOT, EXACT, GREEN, LIBRARY, ORANGE};
 use crate::long::{Run, Sweep};
 use crate::svg::{Anchor, Svg, WORDS};
 
 /// The long sweeps, by Courant number.
 const LONG: [&str; 3] = [
-    "stroke=\"#c75b12\" stroke-width=\"2\" stroke-dasharray=\"7 4\"",
-    "stroke=\"#3a7d34\" stroke-width=\"2\"",
+    ORANGE,
+    GREEN,
     "stroke=\"#8a2b87\" stroke-width=\"2\" stroke-dasharray=\"2 4\"",
 ];
 
@@ -46,10 +46,10 @@ pub fn draw(runs: &[Run], numbers: &[String]) -> String {
     let (mut svg, chart) = sheet(title, more, numbers);
     let (zonal, long) = drawn(runs);
     if let Some(run) = zonal {
-        dotted(&mut svg, &chart, &run.after);
+        dotted(&mut svg, &chart, &run.wave.after);
     }
     for (run, style) in long.iter().zip(LONG) {
-        svg.line(&curve(&chart, &run.after), style);
+        svg.line(&curve(&chart, &run.wave.after), style);
     }
     legend(&mut svg, &long);
     svg.lines((32.0, 478.0), WORDS, numbers);

@@ -7,6 +7,9 @@ use crate::wave::{Run, COURANT, STEPS, W, WAVE};
 pub const EXACT: &str = "fill=\"#dedede\" stroke=\"#8c8c8c\" stroke-width=\"1\"";
 pub const LIBRARY: &str = "stroke=\"#0b5fa5\" stroke-width=\"2.6\" stroke-linejoin=\"round\"";
 pub const DOT: &str = "fill=\"#0b5fa5\"";
+/// Two lines more of the library's.
+pub const ORANGE: &str = "stroke=\"#c75b12\" stroke-width=\"2\" stroke-dasharray=\"7 4\"";
+pub const GREEN: &str = "stroke=\"#3a7d34\" stroke-width=\"2\"";
 const HARMONIC: &str = "stroke=\"#c75b12\" stroke-width=\"1.8\" stroke-dasharray=\"7 4\"";
 const UPSTREAM: &str = "stroke=\"#6b6b6b\" stroke-width=\"1.8\" stroke-dasharray=\"2 4\"";
 
@@ -73,22 +76,18 @@ pub fn dotted(svg: &mut Svg, chart: &Chart, row: &[f64]) {
     }
 }
 
-fn legend(svg: &mut Svg) {
+/// The exact result and three rows, each with its name and what it is: the library's with dots, and two others by their styles.
+pub fn legend(svg: &mut Svg, others: [&str; 2], rows: [(&str, &str); 3]) {
     let (x, y) = (102.0, 100.0);
     let sample = |n: f64| [(x, y + 38.0 * n), (x + 34.0, y + 38.0 * n)];
     svg.rect((x - 10.0, y - 16.0), 262.0, 158.0, "fill=\"#ffffff\"");
     svg.rect((x, y - 7.0), 34.0, 14.0, EXACT);
     svg.line(&sample(1.0), LIBRARY);
     svg.circle((x + 17.0, y + 38.0), 3.4, DOT);
-    svg.line(&sample(2.0), HARMONIC);
-    svg.line(&sample(3.0), UPSTREAM);
-    let entries = [
-        ("start, and exact result", "the wave is back at its place"),
-        ("the proved library", "constraint (5), whole numbers"),
-        ("constraint (4)", "floating point, to compare"),
-        ("first-order upstream scheme", "floating point, to compare"),
-    ];
-    for (n, (name, more)) in entries.into_iter().enumerate() {
+    svg.line(&sample(2.0), others[0]);
+    svg.line(&sample(3.0), others[1]);
+    let exact = ("start, and exact result", "the wave is back at its place");
+    for (n, (name, more)) in std::iter::once(exact).chain(rows).enumerate() {
         let line = y + 38.0 * n as f64;
         svg.text((x + 44.0, line + 4.0), Anchor::Start, WORDS, name);
         svg.text(
@@ -115,7 +114,12 @@ pub fn draw(run: &Run, numbers: &[String]) -> String {
     svg.line(&compared(plain::upstream), UPSTREAM);
     svg.line(&compared(plain::harmonic), HARMONIC);
     dotted(&mut svg, &chart, &run.after);
-    legend(&mut svg);
+    let rows = [
+        ("the proved library", "constraint (5), whole numbers"),
+        ("constraint (4)", "floating point, to compare"),
+        ("first-order upstream scheme", "floating point, to compare"),
+    ];
+    legend(&mut svg, [HARMONIC, UPSTREAM], rows);
     svg.lines((32.0, 478.0), WORDS, numbers);
     svg.finish()
 }

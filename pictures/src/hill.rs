@@ -100,14 +100,14 @@ fn step(world: &mut World, wind: &Wind, before: u32) -> Result<u32, Refusal> {
 pub fn run() -> Result<Run, Refusal> {
     let wind = sphere::over_the_poles(STEPS);
     let mut world = start()?;
-    let mut watch = Watch::start(&world, UNIT, 0..CELLS)?;
-    let mut drawn = vec![world.ratios(UNIT)];
+    let mut watch = Watch::start(&world, 0, UNIT, 0..CELLS)?;
+    let mut drawn = vec![world.ratios(0, UNIT)];
     let mut progress = Progress::new("hill over the poles", STEPS);
     for before in 0..STEPS {
         let most = step(&mut world, &wind, before)?;
         watch.step(&world, most);
         if DRAWN.contains(&(before + 1)) {
-            drawn.push(world.ratios(UNIT));
+            drawn.push(world.ratios(0, UNIT));
         }
         progress.step(before + 1);
     }
@@ -140,7 +140,7 @@ mod tests {
     #[test]
     fn the_gas_starts_round_the_hills_centre() {
         let world = start().unwrap();
-        let apart = sphere::distance(gas_centre(&world.ratios(UNIT)), exact_centre(0.0));
+        let apart = sphere::distance(gas_centre(&world.ratios(0, UNIT)), exact_centre(0.0));
         assert!(apart < 1e-3, "{apart}");
     }
 }

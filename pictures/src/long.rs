@@ -1,9 +1,8 @@
 //! The wave again, as many times round the row, by long sweeps and by zonal sweeps of larger Courant numbers.
 
-use crate::plain;
 use crate::progress::Progress;
-use crate::wave::{self, FLUX, STEPS, UNIT, W};
-use crate::world::{Record, Watch, World};
+use crate::wave::{self, FLUX, STEPS, W};
+use crate::world::World;
 use puldeho::Refusal;
 
 /// The half cells that the row moves in a sweep: Courant numbers 0.5, 1.5 and 4.5. Whole ones are exact shifts.
@@ -22,16 +21,7 @@ pub struct Run {
     /// The sweeps of that Courant number, and the cells of one more, which ends the last turn; 0 if there is none.
     pub sweeps: u32,
     pub rest: f64,
-    pub before: Vec<f64>,
-    pub after: Vec<f64>,
-    pub record: Record,
-}
-
-impl Run {
-    /// The part of the gas that is not where the exact result has it, in per cent.
-    pub fn misplaced(&self) -> f64 {
-        plain::misplaced(&self.before, &self.after)
-    }
+    pub wave: wave::Run,
 }
 
 /// Moves the row by so many half cells.
@@ -44,10 +34,9 @@ fn sweep_row(world: &mut World, sweep: Sweep, halves: u32) -> Result<u32, Refusa
 }
 
 fn one(sweep: Sweep, halves: u32) -> Result<Run, Refusal> {
-    let mut world = wave::start()?;
-    let row = |world: &World| world.ratios(UNIT)[1..=W].to_vec();
-    let before = row(&world);
-    let mut watch = Watch::start(&world, UNIT, 1..W + 1)?;
+    let mut world = wave::start(&[wave::FULL])?;
+    let before = wave::row(&world, 0);
+    let mut watch = wave::watch(&world, 0)?;
     let (sweeps, rest) = (STEPS / halves, STEPS % halves);
     for _ in 0..sweeps {
         let substeps = sweep_row(&mut world, sweep, halves)?;
@@ -62,9 +51,11 @@ fn one(sweep: Sweep, halves: u32) -> Result<Run, Refusal> {
         courant: f64::from(halves) / 2.0,
         sweeps,
         rest: f64::from(rest) / 2.0,
-        before,
-        after: row(&world),
-        record: watch.end(&world)?,
+        wave: wave::Run {
+            before,
+            after: wave::row(&world, 0),
+            record: watch.end(&world)?,
+        },
     })
 }
 

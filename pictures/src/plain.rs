@@ -18,15 +18,28 @@ pub fn harmonic(west: f64, own: f64, east: f64) -> f64 {
     }
 }
 
-/// Equation (5), which document 01 puts on whole numbers.
-pub fn monotonic(west: f64, own: f64, east: f64) -> f64 {
+/// Equation (3c): the mean of the two differences, cut so that the cell's distribution stays between two bounds.
+fn bounded((west, own, east): (f64, f64, f64), least: f64, greatest: f64) -> f64 {
     let mean = (east - west) / 2.0;
-    let (least, greatest) = (own.min(west).min(east), own.max(west).max(east));
-    let size = mean
-        .abs()
-        .min(2.0 * (own - least))
-        .min(2.0 * (greatest - own));
+    let (above, below) = ((own - least).max(0.0), (greatest - own).max(0.0));
+    let size = mean.abs().min(2.0 * above).min(2.0 * below);
     size.copysign(mean)
+}
+
+/// Equation (5), which document 01 puts on whole numbers: the bounds are the least and the greatest of the three.
+pub fn monotonic(west: f64, own: f64, east: f64) -> f64 {
+    let (least, greatest) = (own.min(west).min(east), own.max(west).max(east));
+    bounded((west, own, east), least, greatest)
+}
+
+/// Equation (3b): nothing below 0.
+pub fn positive(west: f64, own: f64, east: f64) -> f64 {
+    bounded((west, own, east), 0.0, f64::INFINITY)
+}
+
+/// Equation (6): the bounds 0 and 1 in every cell.
+pub fn fixed(west: f64, own: f64, east: f64) -> f64 {
+    bounded((west, own, east), 0.0, 1.0)
 }
 
 /// The ratios after so many steps eastward round the row, each of `courant` cells.
@@ -54,6 +67,12 @@ pub fn difference(one: &[f64], other: &[f64]) -> f64 {
 
 pub fn greatest(row: &[f64]) -> f64 {
     row.iter().copied().fold(f64::NEG_INFINITY, f64::max)
+}
+
+/// The root of the mean square of two rows' differences.
+pub fn root_mean_square(one: &[f64], other: &[f64]) -> f64 {
+    let squares: f64 = (one.iter().zip(other)).map(|(a, b)| (a - b).powi(2)).sum();
+    (squares / one.len() as f64).sqrt()
 }
 
 /// The part of a row's gas that is not where the exact result has it, in per cent; all cells have the same air.

@@ -1,6 +1,7 @@
 //! The numbers of the runs in words.
 
 use crate::hill;
+use crate::limiters::{self, Gas};
 use crate::long::{self, Sweep};
 use crate::plain;
 use crate::sphere;
@@ -8,6 +9,7 @@ use crate::thin;
 use crate::wave;
 use crate::whole::{EARLIER, NOW};
 use crate::world::Record;
+use crate::Runs;
 
 /// What the paper says that it keeps of the hill's peak, in per cent.
 const PAPER: u32 = 49;
@@ -103,12 +105,88 @@ pub fn long_lines(runs: &[long::Run]) -> Vec<String> {
             line.push_str(&format!(" and one of {:.1}", run.rest));
         }
         if run.sweep == Sweep::Zonal {
-            line.push_str(&format!(", substeps at most {}", run.record.most_substeps));
+            line.push_str(&format!(
+                ", substeps at most {}",
+                run.wave.record.most_substeps
+            ));
         }
-        let (kept, misplaced) = (run.record.kept(), run.misplaced());
+        let (kept, misplaced) = (run.wave.record.kept(), run.wave.misplaced());
         format!("{line}: peak kept {kept:.2} %, gas out of its place {misplaced:.2} %")
     };
     runs.iter().map(line).collect()
+}
+
+/// The rows of the limiters' table: their names, and what follows the numbers.
+const LIMITER_ROWS: [(&str, &str); 11] = [
+    ("limiter", ""),
+    ("of source 001", ""),
+    ("peak kept", ""),
+    ("greatest value", "in any cell after any step"),
+    ("least value", "in any cell after any step"),
+    ("peak rises in", "steps"),
+    ("peak rises by", "at most in a step"),
+    ("gas out of its place", ""),
+    ("worst cell", "from the exact result"),
+    ("root mean square", "from the exact result"),
+    ("in floating point", "at most apart"),
+];
+
+/// A limiter's column of it.
+fn limiter_column(gas: &Gas) -> [String; LIMITER_ROWS.len()] {
+    let (wave, record) = (&gas.wave, &gas.wave.record);
+    let worst = plain::difference(&wave.before, &wave.after);
+    let error = plain::root_mean_square(&wave.before, &wave.after);
+    let apart = plain::difference(&wave.after, &gas.floating);
+    [
+        gas.number.to_string(),
+        gas.constraint.to_string(),
+        format!("{:.2} %", record.kept()),
+        format!("{:.6}", record.greatest),
+        format!("{:.6}", record.least),
+        record.rises.to_string(),
+        format!("{:.6}", record.rise),
+        format!("{:.2} %", wave.misplaced()),
+        format!("{worst:.4}"),
+        format!("{error:.4}"),
+        format!("{apart:.7}"),
+    ]
+}
+
+/// The table, and a line about the lower wave.
+fn limiter_lines(run: &limiters::Run) -> Vec<String> {
+    let columns: Vec<_> = run.gases.iter().map(limiter_column).collect();
+    let row = |(n, (name, more)): (usize, &(&str, &str))| {
+        let numbers = columns.iter().map(|column| format!("{:>11}", column[n]));
+        let numbers: String = numbers.collect();
+        format!("{name:<20}{numbers}  {more}")
+            .trim_end()
+            .to_string()
+    };
+    let mut lines: Vec<_> = LIMITER_ROWS.iter().enumerate().map(row).collect();
+    let (outside, record) = (run.lower.before[0], &run.lower.record);
+    let (inside, least, greatest) = (record.peak_before, record.least, record.greatest);
+    lines.push(format!(
+        "limiter 3, same bounds, wave of {outside:.1} to {inside:.1}: {least:.4} to {greatest:.4} after any step"
+    ));
+    lines
+}
+
+/// The limiters under the picture, and what source 001's text says of them.
+pub fn limiter_caption(run: &limiters::Run) -> Vec<String> {
+    let line = |gas: &Gas| {
+        let (record, number, constraint) = (&gas.wave.record, gas.number, gas.constraint);
+        let (kept, most, misplaced) =
+            (record.kept(), 100.0 * record.greatest, gas.wave.misplaced());
+        format!("Limiter {number}, {constraint}: peak {kept:.2} % of the wave's height, at most {most:.2} % after any step; gas out of its place {misplaced:.2} %.")
+    };
+    let mut lines: Vec<_> = run.gases.iter().map(line).collect();
+    let [first, _, third] = [0, 1, 2].map(|n| run.gases[n].wave.record.rises);
+    lines.extend([
+        "The paper: (3b) overshoots; (6) gives the best result for this test, and is not strictly monotonic.".to_string(),
+        format!("So here. With (6) peak and worst cell are best, and the peak rises in {third} of {} steps, with (5) in {first}.", wave::STEPS),
+        "But (3b), not (6), has the least gas out of its place. The paper does not say by which measure (6) is best.".to_string(),
+    ]);
+    lines
 }
 
 fn hill_lines(run: &hill::Run) -> Vec<String> {
@@ -156,34 +234,35 @@ pub fn thin_caption(run: &thin::Run) -> Vec<String> {
     ]
 }
 
+fn wave_heading() -> String {
+    let (cells, all, steps) = (wave::WAVE.len(), wave::W, wave::STEPS);
+    format!("Rectangular wave: {cells} of {all} cells, Courant number 0.5, {steps} steps")
+}
+
+fn hill_heading() -> String {
+    let (northward, eastward, steps) = (sphere::NORTHWARD, sphere::EASTWARD, hill::STEPS);
+    format!(
+        "Cosine hill over the poles: {northward} x {eastward} degrees, once round in {steps} steps"
+    )
+}
+
+fn thin_heading() -> String {
+    let (top, cells, steps) = (thin::TOP, thin::W, thin::STEPS);
+    format!("Thin gas, a hill of {top} units: once round {cells} cells in {steps} steps")
+}
+
 /// The text of results.txt.
-pub fn all(wave: &wave::Run, long: &[long::Run], hill: &hill::Run, thin: &thin::Run) -> String {
-    let mut text = String::new();
-    let wave_heading = format!(
-        "Rectangular wave: {} of {} cells, Courant number 0.5, {} steps",
-        wave::WAVE.len(),
-        wave::W,
-        wave::STEPS
-    );
-    let long_heading = "The same wave, five turns, totals and air as loaded".to_string();
-    let hill_heading = format!(
-        "Cosine hill over the poles: {} x {} degrees, once round in {} steps",
-        sphere::NORTHWARD,
-        sphere::EASTWARD,
-        hill::STEPS
-    );
-    let thin_heading = format!(
-        "Thin gas, a hill of {} units: once round {} cells in {} steps",
-        thin::TOP,
-        thin::W,
-        thin::STEPS
-    );
+pub fn all(runs: &Runs) -> String {
+    let long_heading = "The same wave, five turns, totals and air as loaded";
+    let limiter_heading = "The same wave as three gases of one world, each with its limiter, totals and air as loaded";
     let parts = [
-        (wave_heading, wave_lines(wave)),
-        (long_heading, long_lines(long)),
-        (hill_heading, hill_lines(hill)),
-        (thin_heading, thin_lines(thin)),
+        (wave_heading(), wave_lines(&runs.wave)),
+        (long_heading.to_string(), long_lines(&runs.long)),
+        (limiter_heading.to_string(), limiter_lines(&runs.limiters)),
+        (hill_heading(), hill_lines(&runs.hill)),
+        (thin_heading(), thin_lines(&runs.thin)),
     ];
+    let mut text = String::new();
     for (heading, lines) in parts {
         text.push_str(&format!("{heading}\n"));
         for line in lines {

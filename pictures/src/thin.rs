@@ -66,13 +66,13 @@ fn carried(hill: &[u32]) -> Result<Carried, Refusal> {
     let mut gas = vec![0; W + 2];
     gas[1..=W].copy_from_slice(hill);
     let mut world = World::load(W as u32, 1, vec![AIR; W + 2], gas)?;
-    let mut watch = Watch::start(&world, 1, 1..W + 1)?;
+    let mut watch = Watch::start(&world, 0, 1, 1..W + 1)?;
     for _ in 0..STEPS {
         let substeps = world.zonal(0, &[FLUX; W])?;
         watch.step(&world, substeps);
     }
     Ok(Carried {
-        gas: world.gas()[1..=W].to_vec(),
+        gas: world.amounts(0)[1..=W].to_vec(),
         record: watch.end(&world)?,
     })
 }

@@ -1,5 +1,6 @@
 //! The first experiment: the rectangular wave of source 001's Figure 3, five times round a row of 50 cells.
 
+use crate::plain;
 use crate::progress::Progress;
 use crate::world::{Record, Watch, World};
 use puldeho::Refusal;
@@ -22,29 +23,64 @@ pub struct Run {
     pub record: Record,
 }
 
-/// A grid with one row. Its caps have air and no gas, and no sweep of the row reads or writes them.
-pub fn start() -> Result<World, Refusal> {
-    let mut gas = vec![0; W + 2];
-    for column in WAVE {
-        gas[1 + column] = UNIT * AIR;
+impl Run {
+    /// The part of the gas that is not where the exact result has it, in per cent.
+    pub fn misplaced(&self) -> f64 {
+        plain::misplaced(&self.before, &self.after)
     }
-    World::load(W as u32, 1, vec![AIR; W + 2], gas)
+}
+
+/// The units of gas for one unit of air outside a wave and in it.
+pub type Wave = (u32, u32);
+/// Source 001's wave.
+pub const FULL: Wave = (0, UNIT);
+
+/// A grid with one row, and a wave of each gas. Its caps have air and no gas, and no sweep of the row reads or writes them.
+pub fn start(waves: &[Wave]) -> Result<World, Refusal> {
+    let amounts = |&(outside, inside): &Wave| {
+        let mut gas = vec![0; W + 2];
+        gas[1..=W].fill(outside * AIR);
+        gas[1..=W][WAVE].fill(inside * AIR);
+        gas
+    };
+    let gases = waves.iter().flat_map(amounts).collect();
+    World::load(W as u32, 1, vec![AIR; W + 2], gases)
+}
+
+/// A gas's ratios in the row's cells.
+pub fn row(world: &World, gas: u32) -> Vec<f64> {
+    world.ratios(gas, UNIT)[1..=W].to_vec()
+}
+
+pub fn watch(world: &World, gas: u32) -> Result<Watch, Refusal> {
+    Watch::start(world, gas, UNIT, 1..W + 1)
+}
+
+/// Carries a world's waves; a run for each gas.
+pub fn carried(mut world: World, name: &'static str) -> Result<Vec<Run>, Refusal> {
+    let rows = |world: &World| -> Vec<_> { world.gases().map(|gas| row(world, gas)).collect() };
+    let before = rows(&world);
+    let watches = world.gases().map(|gas| watch(&world, gas));
+    let mut watches = watches.collect::<Result<Vec<_>, _>>()?;
+    let mut progress = Progress::new(name, STEPS);
+    for done in 1..=STEPS {
+        let substeps = world.zonal(0, &[FLUX; W])?;
+        for watch in &mut watches {
+            watch.step(&world, substeps);
+        }
+        progress.step(done);
+    }
+    let run = |((before, after), watch): (_, Watch)| {
+        Ok(Run {
+            before,
+            after,
+            record: watch.end(&world)?,
+        })
+    };
+    let rows = before.into_iter().zip(rows(&world));
+    rows.zip(watches).map(run).collect()
 }
 
 pub fn run() -> Result<Run, Refusal> {
-    let mut world = start()?;
-    let row = |world: &World| world.ratios(UNIT)[1..=W].to_vec();
-    let before = row(&world);
-    let mut watch = Watch::start(&world, UNIT, 1..W + 1)?;
-    let mut progress = Progress::new("rectangular wave", STEPS);
-    for done in 1..=STEPS {
-        let substeps = world.zonal(0, &[FLUX; W])?;
-        watch.step(&world, substeps);
-        progress.step(done);
-    }
-    Ok(Run {
-        before,
-        after: row(&world),
-        record: watch.end(&world)?,
-    })
+    carried(start(&[FULL])?, "rectangular wave").map(|mut runs| runs.remove(0))
 }
