@@ -30,7 +30,7 @@ fixedOne = 3
 unfoldable pub positiveRule : Rule
 positiveRule qa q qb = limitedTo (2 * q) qa qb
 
--- "the present rule with lo and hi for least and greatest, and D = 0 where q is outside them": there one of the two differences is cut off at 0, and so the size is 0 (`fixed-outside`, Laws/Limiters)
+-- "the present rule with lo and hi for least and greatest, and D = 0 where q is outside them": there one of the two differences is cut off at 0, and so the size is 0 (`fixed-below`, `fixed-above`, Laws/Limiters)
 abbrev pub fixedRule : ℕ → ℕ → Rule
 fixedRule lo hi = bounded lo hi
 

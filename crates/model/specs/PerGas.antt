@@ -176,7 +176,7 @@ pub given-by-setting-alone :
 given-by-setting-alone w calls loaded no-loads i call other e =
     reached-refusal _ call (reached w calls loaded no-loads i .0) other (sym (answer-is _ call) ∙ e)
 
--- ---- what a tracer's limiter is: that of the last load or setting call, since no other call changes it
+-- ---- what a tracer's limiter is: that of the last accepted load or setting call, since no other call changes it
 abbrev pub setsFor : ℕ → Call → Bool
 setsFor t call = elim (sets call) [ true ↦ not (namesNot t (meaning call .names)) | false ↦ false ]
 
@@ -250,7 +250,7 @@ nextBefore (unitsATick t) w = meaning (unitsATick t) .next w
 nextBefore (countZonal k r fluxes) w = meaning (countZonal k r fluxes) .next w
 nextBefore (setLimiter t number lo hi) w = w
 
--- request 6's `step`: no place 21, and document 01's rule
+-- request 6's `step`, but for the five numbers more of a tracer's block: no place 21, and document 01's rule
 unfoldable pub stepBefore : World → Call → Result
 stepBefore w call =
     elim (firstOf (commonPlaces call ++ ownPlaces call) w) [

@@ -1,16 +1,16 @@
--- Cases y7-1 to y7-132 for document 02, Slip 7: a limiter for each gas, as one table with one theorem about `step`; and y7-133, five hundred sweeps.
+-- Cases y7-1 to y7-134, but y7-133, for document 02, Slip 7: a limiter for each gas, as one table with one theorem about `step`. y7-133, five hundred sweeps, is `not-for-a-list` (FixedBounds.antt).
 -- Assumes nothing. Inputs and numbers are the second implementation's (reference/cases/limiters.txt), whose labels these are; of its calls those that tell wrong definitions apart are here, and all are compared with the library.
-use Prim.Native.Nat.{ℕ, zero, suc}
+use Prim.Native.Nat.{ℕ, zero, suc, _/_, _%_}
 use Prim.Native.String.{String}
 use mathlib.Core.List.{List, [], _∷_, _++_}
 use mathlib.Core.Path.{refl}
 use lib.IntN.{ℤ, pos, negℤ}
 use lib.ListN.{replicate}
-use Rattle.model.specs.Limits.{blockNumbers}
 use Rattle.model.specs.Basic.{zeros}
 use Rattle.model.specs.World.{Grid, World, withAmounts, withLedger}
-use Rattle.model.specs.Limiters.{Limiter, firstLimiter, withLimiter}
-use Rattle.model.specs.Step.{Call, load, emission, withdrawal, zonal, longZonal, meridional, remap, total, cell, addEmitter, removeEmitter, tick, unitsATick, countZonal, zonalWithCount, setLimiter}
+use Rattle.model.specs.Emitters.{half}
+use Rattle.model.specs.Limiters.{Limiter}
+use Rattle.model.specs.Step.{Call, load, emission, zonal, longZonal, meridional, remap, total, addEmitter, removeEmitter, tick, unitsATick, countZonal, zonalWithCount, setLimiter}
 use Rattle.model.specs.Cases.{Case, Hold, hold, computes}
 use Rattle.model.specs.Cases.Marked.{grid, four, six, refuses, hundreds}
 
@@ -19,7 +19,7 @@ abbrev pub limiter : ℕ → ℕ → ℕ → Limiter
 limiter number lo hi = record { number = number; lo = lo; hi = hi }
 
 abbrev pub first : Limiter
-first = firstLimiter
+first = limiter 1 0 0
 
 abbrev pub positive : Limiter
 positive = limiter 2 0 0
@@ -33,7 +33,7 @@ most = 18446744073709551615
 
 unfoldable pub blocks : List Limiter → List ℕ
 blocks [] = []
-blocks (l ∷ ls) = withLimiter (zeros blockNumbers) l ++ blocks ls
+blocks (l ∷ ls) = zeros 51 ++ l .number ∷ l .lo % half ∷ l .lo / half ∷ l .hi % half ∷ l .hi / half ∷ blocks ls
 
 abbrev five : List Limiter
 five = first ∷ positive ∷ fixed 0 most ∷ fixed 0 851968 ∷ fixed 786432 786432 ∷ []
@@ -98,7 +98,6 @@ rows =
     -- y7-6: the five limiters of y7-1 to y7-5 in one zonal sweep, five tracers alike
     moves "y7-6 zonal" (lent (grid 4 1 1 5) hundreds (times 5 rowA) (blocks five)) (zonal 0 0 wind) 1 (six 100 100 50 150 100 100) (six 0 0 150 350 50 0 ++ six 0 0 138 362 50 0 ++ six 0 0 138 362 50 0 ++ six 0 0 144 356 50 0 ++ six 0 0 150 350 50 0) ∷
     -- y7-7: the five by the two presses
-    reads "y7-7 count zonal" (lent (grid 4 1 1 5) hundreds (times 5 rowA) (blocks five)) (countZonal 0 0 wind) 1 ∷
     moves "y7-7 zonal with count" (lent (grid 4 1 1 5) hundreds (times 5 rowA) (blocks five)) (zonalWithCount 0 0 1 wind) 1 (six 100 100 50 150 100 100) (six 0 0 150 350 50 0 ++ six 0 0 138 362 50 0 ++ six 0 0 138 362 50 0 ++ six 0 0 144 356 50 0 ++ six 0 0 150 350 50 0) ∷
     -- y7-8: the five in a meridional sweep, row A along every meridian, flux 50 northward from row 1 in column 0
     moves "y7-8 meridional" (lent (grid 4 4 1 5) (replicate 18 100) (times 5 (six 0 0 0 0 0 300 ++ six 300 300 300 200 200 200 ++ six 200 50 50 50 50 0)) (blocks five)) (meridional 0 (four (pos 0) (pos 0) (pos 0) (pos 0) ++ four (pos 0) (pos 0) (pos 0) (pos 0) ++ four (pos 50) (pos 0) (pos 0) (pos 0) ++ four (pos 0) (pos 0) (pos 0) (pos 0) ++ four (pos 0) (pos 0) (pos 0) (pos 0))) 1 (six 100 100 100 100 100 50 ++ six 100 100 100 150 100 100 ++ hundreds) (six 0 0 0 0 0 150 ++ six 300 300 300 350 200 200 ++ six 200 50 50 50 50 0 ++ six 0 0 0 0 0 138 ++ six 300 300 300 362 200 200 ++ six 200 50 50 50 50 0 ++ six 0 0 0 0 0 138 ++ six 300 300 300 362 200 200 ++ six 200 50 50 50 50 0 ++ six 0 0 0 0 0 144 ++ six 300 300 300 356 200 200 ++ six 200 50 50 50 50 0 ++ six 0 0 0 0 0 150 ++ six 300 300 300 350 200 200 ++ six 200 50 50 50 50 0) ∷
@@ -138,20 +137,15 @@ rows =
 abbrev alone : List Case
 alone =
     -- y7-24: row B twice, the first on limiter 1 and the second on 2 (3 has 13107 to 2^64-1): zonal, then the same layer's caps meridional
-    moves "y7-24 zonal" (lent (grid 4 1 1 2) hundreds (times 2 rowB) (blocks (first ∷ positive ∷ []))) (zonal 0 0 wind) 1 (six 100 100 50 150 100 100) (six 0 300 5 105 0 0 ++ six 0 300 8 102 0 0) ∷
     moves "y7-24 meridional" (lent (grid 4 1 1 2) (six 100 100 50 150 100 100) (six 0 300 5 105 0 0 ++ six 0 300 8 102 0 0) (blocks (first ∷ positive ∷ []))) (meridional 0 (four (pos 0) (pos 20) (pos 0) (pos 0) ++ four (pos 0) (pos 30) (pos 0) (pos 0))) 1 (six 80 100 40 150 100 130) (six 0 300 2 105 0 3 ++ six 0 300 4 102 0 4) ∷
     -- y7-27: row B twice, the first on limiter 3 and the second on 1 (3 has 13107 to 2^64-1): zonal, then the same layer's caps meridional
-    moves "y7-27 zonal" (lent (grid 4 1 1 2) hundreds (times 2 rowB) (blocks (fixed 13107 most ∷ first ∷ []))) (zonal 0 0 wind) 1 (six 100 100 50 150 100 100) (six 0 300 7 103 0 0 ++ six 0 300 5 105 0 0) ∷
     moves "y7-27 meridional" (lent (grid 4 1 1 2) (six 100 100 50 150 100 100) (six 0 300 7 103 0 0 ++ six 0 300 5 105 0 0) (blocks (fixed 13107 most ∷ first ∷ []))) (meridional 0 (four (pos 0) (pos 20) (pos 0) (pos 0) ++ four (pos 0) (pos 30) (pos 0) (pos 0))) 1 (six 80 100 40 150 100 130) (six 0 300 3 103 0 4 ++ six 0 300 2 105 0 3) ∷
     -- y7-29: row B twice, the first on limiter 3 and the second on 2 (3 has 13107 to 2^64-1): zonal, then the same layer's caps meridional
-    moves "y7-29 zonal" (lent (grid 4 1 1 2) hundreds (times 2 rowB) (blocks (fixed 13107 most ∷ positive ∷ []))) (zonal 0 0 wind) 1 (six 100 100 50 150 100 100) (six 0 300 7 103 0 0 ++ six 0 300 8 102 0 0) ∷
     moves "y7-29 meridional" (lent (grid 4 1 1 2) (six 100 100 50 150 100 100) (six 0 300 7 103 0 0 ++ six 0 300 8 102 0 0) (blocks (fixed 13107 most ∷ positive ∷ []))) (meridional 0 (four (pos 0) (pos 20) (pos 0) (pos 0) ++ four (pos 0) (pos 30) (pos 0) (pos 0))) 1 (six 80 100 40 150 100 130) (six 0 300 3 103 0 4 ++ six 0 300 4 102 0 4) ∷
     -- y7-30: row B twice, 1 and 2: long sweep east, then west
-    moves "y7-30 long zonal" (lent (grid 4 1 1 2) hundreds (times 2 rowB) (blocks (first ∷ positive ∷ []))) (longZonal 0 0 wind) 0 (six 100 100 50 150 100 100) (six 0 300 5 105 0 0 ++ six 0 300 7 103 0 0) ∷
-    moves "y7-30 long zonal 2" (lent (grid 4 1 1 2) (six 100 100 50 150 100 100) (six 0 300 5 105 0 0 ++ six 0 300 7 103 0 0) (blocks (first ∷ positive ∷ []))) (longZonal 0 0 (four (minus 10) (minus 70) (minus 30) (minus 20))) 0 (six 100 90 110 110 90 100) (six 0 241 53 56 60 0 ++ six 0 243 54 54 59 0) ∷
+    moves "y7-30 long zonal" (lent (grid 4 1 1 2) (six 100 100 50 150 100 100) (six 0 300 5 105 0 0 ++ six 0 300 7 103 0 0) (blocks (first ∷ positive ∷ []))) (longZonal 0 0 (four (minus 10) (minus 70) (minus 30) (minus 20))) 0 (six 100 90 110 110 90 100) (six 0 241 53 56 60 0 ++ six 0 243 54 54 59 0) ∷
     -- y7-33: row B twice, 1 and 3: long sweep east, then west
-    moves "y7-33 long zonal" (lent (grid 4 1 1 2) hundreds (times 2 rowB) (blocks (first ∷ fixed 13107 most ∷ []))) (longZonal 0 0 wind) 0 (six 100 100 50 150 100 100) (six 0 300 5 105 0 0 ++ six 0 300 6 104 0 0) ∷
-    moves "y7-33 long zonal 2" (lent (grid 4 1 1 2) (six 100 100 50 150 100 100) (six 0 300 5 105 0 0 ++ six 0 300 6 104 0 0) (blocks (first ∷ fixed 13107 most ∷ []))) (longZonal 0 0 (four (minus 10) (minus 70) (minus 30) (minus 20))) 0 (six 100 90 110 110 90 100) (six 0 241 53 56 60 0 ++ six 0 242 54 55 59 0) ∷
+    moves "y7-33 long zonal" (lent (grid 4 1 1 2) (six 100 100 50 150 100 100) (six 0 300 5 105 0 0 ++ six 0 300 6 104 0 0) (blocks (first ∷ fixed 13107 most ∷ []))) (longZonal 0 0 (four (minus 10) (minus 70) (minus 30) (minus 20))) 0 (six 100 90 110 110 90 100) (six 0 241 53 56 60 0 ++ six 0 242 54 55 59 0) ∷
     -- y7-34: row B down every column twice, 1 and 2: remap
     moves "y7-34 remap" (lent (grid 4 1 4 2) (replicate 24 100) (times 2 (replicate 6 300 ++ replicate 6 10 ++ hundreds ++ replicate 6 0)) (blocks (first ∷ positive ∷ []))) (remap ((0 ∷ 0 ∷ 90 ∷ 0 ∷ 150 ∷ 0 ∷ 280 ∷ 0 ∷ 0 ∷ 65536 ∷ []))) 42 (replicate 6 90 ++ replicate 6 60 ++ replicate 6 130 ++ replicate 6 120) (replicate 6 270 ++ replicate 6 35 ++ replicate 6 85 ++ replicate 6 20 ++ replicate 6 270 ++ six 35 37 37 37 37 35 ++ six 85 83 83 83 83 85 ++ replicate 6 20) ∷
     -- y7-37: row B down every column twice, 3 and 2: remap
@@ -164,14 +158,9 @@ alone =
     reads "y7-40 count zonal" (lent (grid 4 1 1 2) hundreds (times 2 rowB) (blocks (first ∷ positive ∷ []))) (countZonal 0 0 (four (pos 130) (pos 140) (pos 120) (pos 130))) 2 ∷
     moves "y7-40 zonal with count" (lent (grid 4 1 1 2) hundreds (times 2 rowB) (blocks (first ∷ positive ∷ []))) (zonalWithCount 0 0 2 (four (pos 130) (pos 140) (pos 120) (pos 130))) 2 (six 100 100 90 120 90 100) (six 0 73 129 167 41 0 ++ six 0 72 132 176 30 0) ∷
     -- y7-42: three tracers, one on each limiter: each kind of call after another
-    moves "y7-42 zonal" (lent (grid 4 1 1 3) hundreds (times 3 rowB) (blocks (fixed 13107 most ∷ first ∷ positive ∷ []))) (zonal 0 0 (four (pos 10) (pos 40) (minus 20) (pos 5))) 1 (six 100 95 70 160 75 100) (six 0 270 38 102 0 0 ++ six 0 270 36 104 0 0 ++ six 0 270 39 101 0 0) ∷
-    moves "y7-42 long zonal" (lent (grid 4 1 1 3) (six 100 95 70 160 75 100) (six 0 270 38 102 0 0 ++ six 0 270 36 104 0 0 ++ six 0 270 39 101 0 0) (blocks (fixed 13107 most ∷ first ∷ positive ∷ []))) (longZonal 0 0 (four (minus 30) (pos 15) (pos 60) (minus 90))) 0 (six 100 35 25 115 225 100) (six 0 39 11 71 289 0 ++ six 0 30 13 73 294 0 ++ six 0 41 11 70 288 0) ∷
-    moves "y7-42 meridional" (lent (grid 4 1 1 3) (six 100 35 25 115 225 100) (six 0 39 11 71 289 0 ++ six 0 30 13 73 294 0 ++ six 0 41 11 70 288 0) (blocks (fixed 13107 most ∷ first ∷ positive ∷ []))) (meridional 0 (four (minus 7) (pos 9) (pos 11) (minus 13) ++ four (pos 20) (minus 5) (pos 3) (pos 8))) 1 (six 100 8 39 123 204 126) (six 23 10 11 70 263 33 ++ six 22 7 13 72 268 28 ++ six 24 10 11 69 262 34) ∷
     moves "y7-42 zonal with count" (lent (grid 4 1 1 3) (six 100 8 39 123 204 126) (six 23 10 11 70 263 33 ++ six 22 7 13 72 268 28 ++ six 24 10 11 69 262 34) (blocks (fixed 13107 most ∷ first ∷ positive ∷ []))) (zonalWithCount 0 0 1 (four (pos 3) (pos 12) (minus 17) (minus 2))) 1 (six 100 3 30 152 189 126) (six 23 5 13 90 246 33 ++ six 22 3 11 98 248 28 ++ six 24 5 13 89 245 34) ∷
     -- y7-44: the same, exchanged
     moves "y7-44 zonal" (two (fixed 0 851968) (fixed 13107 most)) (zonal 0 0 wind) 1 (six 100 100 50 150 100 100) (six 0 0 144 356 50 0 ++ six 0 300 7 103 0 0) ∷
-    -- y7-45: eight tracers, row B and row A in turn, limiters 1 2 3 1 2 3 3 2: zonal
-    moves "y7-45 zonal" (lent (grid 4 1 1 8) hundreds (times 4 (rowB ++ rowA)) (blocks (first ∷ positive ∷ fixed 13107 most ∷ limiter 1 5 9 ∷ limiter 2 7 7 ∷ fixed 0 851968 ∷ fixed 13107 20000000 ∷ limiter 2 1 1099511627776 ∷ []))) (zonal 0 0 wind) 1 (six 100 100 50 150 100 100) (six 0 300 5 105 0 0 ++ six 0 0 138 362 50 0 ++ six 0 300 7 103 0 0 ++ six 0 0 150 350 50 0 ++ six 0 300 8 102 0 0 ++ six 0 0 144 356 50 0 ++ six 0 300 7 103 0 0 ++ six 0 0 138 362 50 0) ∷
     -- y7-46: limiter 1 with bounds 5 to 9, 786432 to 2^64-1 and 0 to 2^64-1 stored: they are not read, 0 150 350 50
     moves "y7-46 zonal" (lent (grid 4 1 1 3) hundreds (times 3 rowA) (blocks (limiter 1 5 9 ∷ limiter 1 786432 most ∷ limiter 1 0 most ∷ []))) (zonal 0 0 wind) 1 (six 100 100 50 150 100 100) (times 3 (six 0 0 150 350 50 0)) ∷
     -- y7-47: limiter 2 with both bounds 786432, and with both 900000: they are not read, 0 138 362 50
@@ -193,14 +182,10 @@ sizes =
     moves "y7-52 long zonal" (lent (grid 4 1 1 6) hundreds (times 6 rowA) (blocks (fixed 720896 most ∷ fixed 0 851968 ∷ fixed 753664 most ∷ fixed 0 819200 ∷ fixed 753664 851968 ∷ fixed 720896 819200 ∷ []))) (longZonal 0 0 wind) 0 (six 100 100 50 150 100 100) (six 0 0 143 357 50 0 ++ six 0 0 143 357 50 0 ++ six 0 0 146 354 50 0 ++ six 0 0 146 354 50 0 ++ six 0 0 146 354 50 0 ++ six 0 0 146 354 50 0) ∷
     -- y7-55: limiter 3 with lo 0 and hi 2^63+786432, 2^63+786442, 2^63, 2^63-1, 2^62+786432, 2^62+786431, 2^32+786432, 2^64-1: 2(hi - q) passes 63 or 64 bits, or its low half is small; 0 138 362 50 in each
     moves "y7-55 zonal" (lent (grid 4 1 1 8) hundreds (times 8 rowA) (blocks (fixed 0 9223372036855562240 ∷ fixed 0 9223372036855562250 ∷ fixed 0 9223372036854775808 ∷ fixed 0 9223372036854775807 ∷ fixed 0 4611686018428174336 ∷ fixed 0 4611686018428174335 ∷ fixed 0 4295753728 ∷ fixed 0 most ∷ []))) (zonal 0 0 wind) 1 (six 100 100 50 150 100 100) (times 8 (six 0 0 138 362 50 0)) ∷
-    -- y7-56: the same in a long sweep
-    moves "y7-56 long zonal" (lent (grid 4 1 1 8) hundreds (times 8 rowA) (blocks (fixed 0 9223372036855562240 ∷ fixed 0 9223372036855562250 ∷ fixed 0 9223372036854775808 ∷ fixed 0 9223372036854775807 ∷ fixed 0 4611686018428174336 ∷ fixed 0 4611686018428174335 ∷ fixed 0 4295753728 ∷ fixed 0 most ∷ []))) (longZonal 0 0 wind) 0 (six 100 100 50 150 100 100) (times 8 (six 0 0 137 363 50 0)) ∷
     -- y7-57: the same in a remap
     moves "y7-57 remap" (lent (grid 4 1 4 8) (replicate 24 100) (times 8 (replicate 6 0 ++ replicate 6 300 ++ replicate 6 200 ++ replicate 6 50)) (blocks (fixed 0 9223372036855562240 ∷ fixed 0 9223372036855562250 ∷ fixed 0 9223372036854775808 ∷ fixed 0 9223372036854775807 ∷ fixed 0 4611686018428174336 ∷ fixed 0 4611686018428174335 ∷ fixed 0 4295753728 ∷ fixed 0 most ∷ []))) (remap ((0 ∷ 0 ∷ 100 ∷ 0 ∷ 150 ∷ 0 ∷ 300 ∷ 0 ∷ 0 ∷ 65536 ∷ []))) 30 (hundreds ++ replicate 6 50 ++ replicate 6 150 ++ hundreds) (times 8 (replicate 6 0 ++ six 150 137 137 137 137 150 ++ six 350 363 363 363 363 350 ++ replicate 6 50)) ∷
     -- y7-58: limiter 3 with lo 2^32 and 2^32+786431, 2^63, 2^64-1 and hi 2^64-1: the ratio is below lo, though not below its low half; 0 150 350 50
     moves "y7-58 zonal" (lent (grid 4 1 1 4) hundreds (times 4 rowA) (blocks (fixed 4294967296 most ∷ fixed 4295753727 most ∷ fixed 9223372036854775808 most ∷ fixed most most ∷ []))) (zonal 0 0 wind) 1 (six 100 100 50 150 100 100) (times 4 (six 0 0 150 350 50 0)) ∷
-    -- y7-59: row A a hundred thousand times over, its ratios above 2^32, with bounds above 2^32
-    moves "y7-59 zonal" (lent (grid 4 1 1 8) hundreds (times 8 (six 0 0 30000000 20000000 5000000 0)) (blocks (first ∷ positive ∷ fixed 0 85196800000 ∷ fixed 65536000000 most ∷ fixed 65536000000 85196800000 ∷ fixed 78643200000 78643200000 ∷ fixed 65536000000 137438953472 ∷ fixed 68719476736 85196800000 ∷ []))) (zonal 0 0 wind) 1 (six 100 100 50 150 100 100) (six 0 0 15000000 35000000 5000000 0 ++ six 0 0 13750000 36250000 5000000 0 ++ six 0 0 14375000 35625000 5000000 0 ++ six 0 0 13750000 36250000 5000000 0 ++ six 0 0 14375000 35625000 5000000 0 ++ six 0 0 15000000 35000000 5000000 0 ++ six 0 0 13750000 36250000 5000000 0 ++ six 0 0 14375000 35625000 5000000 0) ∷
     -- y7-62: a size of 2q: giver 100 between 0 and 1000, 50 of its air west and 49 east: no piece above what it has; limiters 1, 2, 3 with 0 to 2^64-1
     moves "y7-62 zonal" (lent (grid 4 1 1 3) hundreds (times 3 (six 0 0 100 1000 0 0)) (blocks (first ∷ positive ∷ fixed 0 most ∷ []))) (zonal 0 0 (four (minus 50) (pos 49) (pos 0) (pos 0))) 1 (six 100 150 1 149 100 100) (times 3 (six 0 25 2 1073 0 0)) ∷
     -- y7-63: the same giver, all its air east and one unit of air in: all it has
@@ -211,11 +196,7 @@ sizes =
     moves "y7-65 zonal" (lent (grid 4 1 1 3) hundreds (times 3 (six 0 300 10 200 0 0)) (blocks (first ∷ positive ∷ fixed 0 most ∷ []))) (zonal 0 0 (four (minus 60) (pos 0) (pos 0) (pos 0))) 1 (six 100 160 40 100 100 100) (six 0 306 4 200 0 0 ++ six 0 308 2 200 0 0 ++ six 0 308 2 200 0 0) ∷
     -- y7-66: a giver without tracer between others: nothing is given under any limiter
     moves "y7-66 zonal" (lent (grid 4 1 1 4) hundreds (times 4 (six 0 300 0 200 7 0)) (blocks (first ∷ positive ∷ fixed 0 most ∷ fixed 0 0 ∷ []))) (zonal 0 0 (four (pos 0) (pos 60) (pos 0) (pos 0))) 1 (six 100 100 40 160 100 100) (times 4 (six 0 300 0 200 7 0)) ∷
-    -- y7-67: a giver with nine units, both ways; limiters 1, 2, 3 with 0 to 2^64-1, 3 with 20000 to 2^64-1
-    moves "y7-67 zonal" (lent (grid 4 1 1 4) hundreds (times 4 (six 0 300 9 200 7 0)) (blocks (first ∷ positive ∷ fixed 0 most ∷ fixed 20000 most ∷ []))) (zonal 0 0 (four (minus 20) (pos 70) (pos 0) (pos 0))) 1 (six 100 120 10 170 100 100) (six 0 301 2 206 7 0 ++ six 0 303 2 204 7 0 ++ six 0 303 2 204 7 0 ++ six 0 302 1 206 7 0) ∷
     -- y7-68: a whole-number ratio, 3, stays under every limiter: zonal, long and meridional
-    moves "y7-68 zonal" (lent (grid 4 1 1 4) (six 100 100 40 250 70 30) (times 4 (six 300 300 120 750 210 90)) (blocks (first ∷ positive ∷ fixed 786432 786432 ∷ fixed 0 5 ∷ []))) (zonal 0 0 (four (pos 60) (minus 30) (pos 110) (pos 20))) 1 (six 100 60 130 110 160 30) (times 4 (six 300 180 390 330 480 90)) ∷
-    moves "y7-68 long zonal" (lent (grid 4 1 1 4) (six 100 60 130 110 160 30) (times 4 (six 300 180 390 330 480 90)) (blocks (first ∷ positive ∷ fixed 786432 786432 ∷ fixed 0 5 ∷ []))) (longZonal 0 0 (four (minus 150) (minus 100) (minus 180) (minus 160))) 0 (six 100 50 80 190 140 30) (times 4 (six 300 150 240 570 420 90)) ∷
     moves "y7-68 meridional" (lent (grid 4 1 1 4) (six 100 50 80 190 140 30) (times 4 (six 300 150 240 570 420 90)) (blocks (first ∷ positive ∷ fixed 786432 786432 ∷ fixed 0 5 ∷ []))) (meridional 0 (four (pos 10) (minus 20) (pos 30) (minus 40) ++ four (pos 5) (minus 6) (pos 7) (minus 8))) 1 (six 120 55 66 213 108 28) (times 4 (six 360 165 198 639 324 84)) ∷
     -- y7-69: odd |qb - qa|, rounded down after halving: limiters 2, 3 with 0 to 2^64-1; rounded up they would leave 263 178 100 112
     moves "y7-69 zonal" (lent (grid 4 1 1 2) (six 100 46492 44997 49714 60794 100) (times 2 (six 0 264 153 53 183 0)) (blocks (positive ∷ fixed 0 most ∷ []))) (zonal 0 0 (four (pos 15526) (pos 22927) (pos 17402) (pos 23692))) 1 (six 100 54658 37596 55239 54504 100) (times 2 (six 0 262 177 101 113 0)) ∷
@@ -223,14 +204,6 @@ sizes =
     moves "y7-70 zonal" (lent (grid 4 1 1 1) (six 100 30000 65000 58000 64000 100) (six 0 47 19 22 203 0) (blocks (positive ∷ []))) (zonal 0 0 (four (minus 20000) (pos 21000) (pos 15000) (pos 15000))) 1 (six 100 65000 24000 64000 64000 100) (six 0 106 8 15 162 0) ∷
     -- y7-71: bounds to the unit: limiter 3 with lo 1027 (with 1028 239 96 85 34), lo 816 (with 815 264 76 232 78), hi 564 (with 565 156 52 173 78), hi 615 (with 614 230 57 196 74)
     moves "y7-71 zonal" (lent (grid 4 1 1 4) (six 100 30000 65000 58000 64000 100) (six 0 151 256 3 44 0 ++ six 0 193 204 215 38 0 ++ six 0 102 139 173 45 0 ++ six 0 169 152 198 38 0) (blocks (fixed 1027 most ∷ fixed 816 most ∷ fixed 0 564 ∷ fixed 0 615 ∷ []))) (zonal 0 0 (four (minus 20000) (pos 21000) (pos 15000) (pos 15000))) 1 (six 100 65000 24000 64000 64000 100) (six 0 240 95 85 34 0 ++ six 0 264 76 231 79 0 ++ six 0 155 53 173 78 0 ++ six 0 230 58 195 74 0) ∷
-    -- y7-72: many substeps: limiters 1, 2, 3 with 100000 to 500000, in a single sweep and by the presses
-    moves "y7-72 zonal" (lent (grid 4 1 1 3) (six 100 100 30 100 60 100) (times 3 rowB) (blocks (first ∷ positive ∷ fixed 100000 500000 ∷ []))) (zonal 0 0 (four (pos 150) (pos 130) (pos 145) (pos 160))) 5 (six 100 110 50 85 45 100) (six 0 117 56 156 81 0 ++ six 0 108 54 164 84 0 ++ six 0 120 60 153 77 0) ∷
-    moves "y7-72 zonal with count" (lent (grid 4 1 1 3) (six 100 110 50 85 45 100) (six 0 117 56 156 81 0 ++ six 0 108 54 164 84 0 ++ six 0 120 60 153 77 0) (blocks (first ∷ positive ∷ fixed 100000 500000 ∷ []))) (zonalWithCount 0 0 5 (four (minus 200) (minus 220) (minus 190) (minus 210))) 5 (six 100 100 70 55 65 100) (six 0 152 85 72 101 0 ++ six 0 162 76 66 106 0 ++ six 0 155 82 69 104 0) ∷
-    -- y7-73: a long sweep of more than a cell, eastward and westward: limiters 1, 2, 3 with 13107 to 2^64-1, 3 with 0 to 300000
-    moves "y7-73 long zonal" (lent (grid 4 1 1 4) (six 100 100 30 100 60 100) (times 4 rowB) (blocks (first ∷ positive ∷ fixed 13107 most ∷ fixed 0 300000 ∷ []))) (longZonal 0 0 (four (pos 150) (pos 170) (pos 120) (pos 160))) 0 (six 100 110 10 150 20 100) (six 0 100 0 303 7 0 ++ six 0 100 0 305 5 0 ++ six 0 100 0 305 5 0 ++ six 0 100 0 305 5 0) ∷
-    moves "y7-73 long zonal 2" (lent (grid 4 1 1 4) (six 100 110 10 150 20 100) (six 0 100 0 303 7 0 ++ six 0 100 0 305 5 0 ++ six 0 100 0 305 5 0 ++ six 0 100 0 305 5 0) (blocks (first ∷ positive ∷ fixed 13107 most ∷ fixed 0 300000 ∷ []))) (longZonal 0 0 (four (minus 250) (minus 270) (minus 220) (minus 210))) 0 (six 100 150 30 100 10 100) (six 0 192 27 171 20 0 ++ six 0 195 26 169 20 0 ++ six 0 195 26 169 20 0 ++ six 0 192 26 171 21 0) ∷
-    -- y7-74: a remap of seven layers, many edges in one layer: limiters 1, 2, 3 with 13107 to 2^64-1, 3 with 0 to 300000
-    moves "y7-74 remap" (lent (grid 4 1 7 4) (hundreds ++ replicate 6 30 ++ hundreds ++ replicate 6 60 ++ replicate 6 200 ++ replicate 6 10 ++ replicate 6 50) (times 4 (replicate 6 300 ++ replicate 6 10 ++ hundreds ++ replicate 6 0 ++ replicate 6 90 ++ replicate 6 40 ++ replicate 6 2)) (blocks (first ∷ positive ∷ fixed 13107 most ∷ fixed 0 300000 ∷ []))) (remap ((0 ∷ 0 ∷ 20 ∷ 0 ∷ 115 ∷ 0 ∷ 180 ∷ 0 ∷ 320 ∷ 0 ∷ 360 ∷ 0 ∷ 400 ∷ 0 ∷ 0 ∷ 65536 ∷ []))) 78 (replicate 6 20 ++ replicate 6 95 ++ replicate 6 65 ++ replicate 6 140 ++ replicate 12 40 ++ replicate 6 150) (replicate 6 60 ++ replicate 6 245 ++ replicate 6 55 ++ six 63 52 52 52 52 63 ++ six 18 9 9 9 9 18 ++ six 18 16 16 16 16 18 ++ six 83 105 105 105 105 83 ++ replicate 6 60 ++ six 245 247 247 247 247 245 ++ replicate 6 55 ++ six 63 50 50 50 50 63 ++ six 18 9 9 9 9 18 ++ six 18 16 16 16 16 18 ++ six 83 105 105 105 105 83 ++ replicate 6 60 ++ six 245 247 247 247 247 245 ++ replicate 6 55 ++ six 63 51 51 51 51 63 ++ six 18 10 10 10 10 18 ++ six 18 16 16 16 16 18 ++ six 83 103 103 103 103 83 ++ replicate 6 60 ++ six 245 247 247 247 247 245 ++ replicate 6 55 ++ six 63 50 50 50 50 63 ++ six 18 9 9 9 9 18 ++ six 18 16 16 16 16 18 ++ six 83 105 105 105 105 83) ∷
     -- y7-75: end layers: an edge in the top layer of three, at 50, whose one neighbour has more: plain pieces under limiters 2 and 3; the top layer keeps 50
     moves "y7-75 remap" (lent (grid 4 1 3 3) (replicate 18 100) (times 3 (hundreds ++ replicate 6 300 ++ hundreds)) (blocks (positive ∷ fixed 0 most ∷ fixed 100000 900000 ∷ []))) (remap ((0 ∷ 0 ∷ 50 ∷ 0 ∷ 200 ∷ 0 ∷ 0 ∷ 65536 ∷ []))) 24 (replicate 6 50 ++ replicate 6 150 ++ hundreds) (times 3 (replicate 6 50 ++ replicate 6 350 ++ hundreds)) ∷
     -- y7-76: end layers: the same where its neighbour has less
@@ -240,8 +213,7 @@ sizes =
     -- y7-78: end layers: the same where its neighbour has less
     moves "y7-78 remap" (lent (grid 4 1 3 3) (replicate 18 100) (times 3 (replicate 6 300 ++ hundreds ++ replicate 6 300)) (blocks (positive ∷ fixed 0 most ∷ fixed 100000 900000 ∷ []))) (remap ((0 ∷ 0 ∷ 100 ∷ 0 ∷ 250 ∷ 0 ∷ 0 ∷ 65536 ∷ []))) 24 (hundreds ++ replicate 6 150 ++ replicate 6 50) (times 3 (replicate 6 300 ++ replicate 6 250 ++ replicate 6 150)) ∷
     -- y7-79: two layers, both end layers: edge in the upper, then in the lower
-    moves "y7-79 remap" (lent (grid 4 1 2 3) (replicate 12 100) (times 3 (hundreds ++ replicate 6 300)) (blocks (positive ∷ fixed 0 most ∷ fixed 100000 900000 ∷ []))) (remap (six 0 0 50 0 0 65536)) 18 (replicate 6 50 ++ replicate 6 150) (times 3 (replicate 6 50 ++ replicate 6 350)) ∷
-    moves "y7-79 remap 2" (lent (grid 4 1 2 3) (replicate 6 50 ++ replicate 6 150) (times 3 (replicate 6 50 ++ replicate 6 350)) (blocks (positive ∷ fixed 0 most ∷ fixed 100000 900000 ∷ []))) (remap (six 0 0 120 0 0 65536)) 18 (replicate 6 120 ++ replicate 6 80) (times 3 (replicate 6 213 ++ replicate 6 187)) ∷
+    moves "y7-79 remap" (lent (grid 4 1 2 3) (replicate 6 50 ++ replicate 6 150) (times 3 (replicate 6 50 ++ replicate 6 350)) (blocks (positive ∷ fixed 0 most ∷ fixed 100000 900000 ∷ []))) (remap (six 0 0 120 0 0 65536)) 18 (replicate 6 120 ++ replicate 6 80) (times 3 (replicate 6 213 ++ replicate 6 187)) ∷
     -- y7-80: one layer: nothing moves
     reads "y7-80 remap" (lent (grid 4 1 1 3) hundreds (replicate 18 100) (blocks (positive ∷ fixed 0 most ∷ fixed 100000 900000 ∷ []))) (remap (four 0 0 0 65536)) 6 ∷
     -- y7-81: four layers: an edge in each, the inner two lean and the ends do not
@@ -254,8 +226,6 @@ sizes =
     moves "y7-84 meridional" (lent (grid 4 1 1 3) hundreds (times 3 (six 70 300 0 200 50 100)) (blocks (positive ∷ fixed 0 most ∷ fixed 100000 900000 ∷ []))) (meridional 0 (four (pos 0) (pos 0) (pos 0) (pos 0) ++ four (minus 20) (minus 30) (minus 5) (minus 44))) 1 (six 100 120 130 105 144 1) (times 3 (six 70 320 30 205 94 1)) ∷
     -- y7-85: both caps give, and the row leans between their ratios
     moves "y7-85 meridional" (lent (grid 4 1 1 4) hundreds (times 4 (six 40 100 100 100 100 700)) (blocks (positive ∷ fixed 0 most ∷ fixed 100000 900000 ∷ first ∷ []))) (meridional 0 (four (pos 20) (minus 50) (pos 10) (minus 30) ++ four (minus 20) (pos 40) (minus 25) (pos 35))) 1 (six 150 140 10 135 35 130) (six 62 248 11 279 34 506 ++ six 62 248 11 279 34 506 ++ six 79 248 12 279 34 488 ++ six 79 248 12 279 35 487) ∷
-    -- y7-86: both caps of two rows, a column of more and one of less on either side; limiters 1, 2, 3
-    moves "y7-86 meridional" (lent (grid 4 2 1 3) (replicate 10 100) (times 3 ((150 ∷ 300 ∷ 0 ∷ 10 ∷ 90 ∷ 20 ∷ 200 ∷ 310 ∷ 150 ∷ 40 ∷ []))) (blocks (first ∷ positive ∷ fixed 0 most ∷ []))) (meridional 0 (four (pos 25) (minus 30) (pos 25) (pos 20) ++ four (pos 40) (minus 40) (minus 50) (pos 50) ++ four (minus 25) (minus 20) (pos 30) (minus 15))) 1 ((60 ∷ 85 ∷ 110 ∷ 175 ∷ 70 ∷ 165 ∷ 80 ∷ 20 ∷ 165 ∷ 70 ∷ [])) (six 46 217 80 202 75 150 ++ six 128 62 201 109 46 225 ++ six 77 200 75 142 131 63 ++ six 201 110 46 225 77 200 ++ six 75 142 131 63 201 110) ∷
     []
 
 -- 21 for a standing limiter, of any tracer; the other calls do not test it
@@ -274,29 +244,18 @@ standing =
     refuses "y7-89 remap" (two first (limiter 4294967295 0 0)) (remap (four 0 0 0 65536)) 21 ∷
     -- y7-90: the other calls do not test it: they are accepted
     reads "y7-90 total" (two first (limiter 4 9 3)) (total 1) 410 ∷
-    reads "y7-90 cell" (two first (limiter 4 9 3)) (cell 1 2) 10 ∷
     moves "y7-90 emission" (two first (limiter 4 9 3)) (emission 1 2 5) 0 hundreds (rowA ++ six 0 300 15 100 0 0) ∷
-    moves "y7-90 withdrawal" (lent (grid 4 1 1 2) hundreds (rowA ++ six 0 300 15 100 0 0) (blocks (first ∷ limiter 4 9 3 ∷ []))) (withdrawal 1 2 5) 0 hundreds (rowA ++ rowB) ∷
     writes "y7-90 add emitter" (two first (limiter 4 9 3)) (addEmitter 1 3 7 20) (replicate 51 0 ++ (1 ∷ 0 ∷ 0 ∷ 0 ∷ 0 ∷ 1 ∷ 20 ∷ 0 ∷ 7 ∷ 3 ∷ 20 ∷ []) ++ replicate 45 0 ++ (4 ∷ 9 ∷ 0 ∷ 3 ∷ 0 ∷ [])) ∷
     reads "y7-90 units a tick" (lent (grid 4 1 1 2) hundreds (rowA ++ rowB) (replicate 51 0 ++ (1 ∷ 0 ∷ 0 ∷ 0 ∷ 0 ∷ 1 ∷ 20 ∷ 0 ∷ 7 ∷ 3 ∷ 20 ∷ []) ++ replicate 45 0 ++ (4 ∷ 9 ∷ 0 ∷ 3 ∷ 0 ∷ []))) (unitsATick 1) 20 ∷
-    moves "y7-90 tick" (lent (grid 4 1 1 2) hundreds (rowA ++ rowB) (replicate 51 0 ++ (1 ∷ 0 ∷ 0 ∷ 0 ∷ 0 ∷ 1 ∷ 20 ∷ 0 ∷ 7 ∷ 3 ∷ 20 ∷ []) ++ replicate 45 0 ++ (4 ∷ 9 ∷ 0 ∷ 3 ∷ 0 ∷ []))) (tick 1) 0 hundreds (rowA ++ six 0 300 10 120 0 0) ∷
     writes "y7-90 remove emitter" (lent (grid 4 1 1 2) hundreds (rowA ++ six 0 300 10 120 0 0) (replicate 51 0 ++ (1 ∷ 0 ∷ 0 ∷ 0 ∷ 0 ∷ 1 ∷ 20 ∷ 0 ∷ 7 ∷ 3 ∷ 20 ∷ []) ++ replicate 45 0 ++ (4 ∷ 9 ∷ 0 ∷ 3 ∷ 0 ∷ []))) (removeEmitter 1 7) (blocks (first ∷ limiter 4 9 3 ∷ [])) ∷
     -- y7-91: 21: a standing limiter 0 in the first tracer only
     refuses "y7-91 zonal" (two (limiter 0 0 0) first) (zonal 0 0 wind) 21 ∷
-    refuses "y7-91 long zonal" (two (limiter 0 0 0) first) (longZonal 0 0 wind) 21 ∷
-    refuses "y7-91 count zonal" (two (limiter 0 0 0) first) (countZonal 0 0 wind) 21 ∷
-    refuses "y7-91 zonal with count" (two (limiter 0 0 0) first) (zonalWithCount 0 0 1 wind) 21 ∷
-    refuses "y7-91 meridional" (two (limiter 0 0 0) first) (meridional 0 (replicate 8 (pos 0))) 21 ∷
     refuses "y7-91 remap" (two (limiter 0 0 0) first) (remap (four 0 0 0 65536)) 21 ∷
     -- y7-92: 21: limiter 257, whose low byte is 1, and 65538
     refuses "y7-92 zonal" (two first (limiter 257 0 0)) (zonal 0 0 wind) 21 ∷
     refuses "y7-92 remap" (two (limiter 65538 0 0) first) (remap (four 0 0 0 65536)) 21 ∷
     -- y7-93: 21: a fault in the middle one of three
     refuses "y7-93 zonal" (lent (grid 4 1 1 3) hundreds (rowA ++ rowB ++ six 0 5 5 5 5 0) (blocks (first ∷ fixed 1 0 ∷ first ∷ []))) (zonal 0 0 wind) 21 ∷
-    refuses "y7-93 long zonal" (lent (grid 4 1 1 3) hundreds (rowA ++ rowB ++ six 0 5 5 5 5 0) (blocks (first ∷ fixed 1 0 ∷ first ∷ []))) (longZonal 0 0 wind) 21 ∷
-    refuses "y7-93 count zonal" (lent (grid 4 1 1 3) hundreds (rowA ++ rowB ++ six 0 5 5 5 5 0) (blocks (first ∷ fixed 1 0 ∷ first ∷ []))) (countZonal 0 0 wind) 21 ∷
-    refuses "y7-93 zonal with count" (lent (grid 4 1 1 3) hundreds (rowA ++ rowB ++ six 0 5 5 5 5 0) (blocks (first ∷ fixed 1 0 ∷ first ∷ []))) (zonalWithCount 0 0 1 wind) 21 ∷
-    refuses "y7-93 meridional" (lent (grid 4 1 1 3) hundreds (rowA ++ rowB ++ six 0 5 5 5 5 0) (blocks (first ∷ fixed 1 0 ∷ first ∷ []))) (meridional 0 (replicate 8 (pos 0))) 21 ∷
     refuses "y7-93 remap" (lent (grid 4 1 1 3) hundreds (rowA ++ rowB ++ six 0 5 5 5 5 0) (blocks (first ∷ fixed 1 0 ∷ first ∷ []))) (remap (four 0 0 0 65536)) 21 ∷
     -- y7-94: 21: limiter 1 standing with lo above hi: 1 and 0, 2^32 and 2^32-1, 2^64-1 and 2^64-2, 2^33+5 and 2^32+5, 2^32 and 1, 2^63 and 2^63-1, 2^64-1 and 0
     refuses "y7-94 zonal" (two first (limiter 1 1 0)) (zonal 0 0 wind) 21 ∷
@@ -354,17 +313,15 @@ given =
     writes "y7-107 set limiter" (lent (grid 4 1 1 3) hundreds (rowA ++ rowB ++ six 0 5 5 5 5 0) ((2 ∷ 50 ∷ 0 ∷ 7 ∷ 3 ∷ 20 ∷ 8 ∷ 1 ∷ 30 ∷ 99 ∷ 98 ∷ 97 ∷ []) ++ replicate 39 0 ++ (2 ∷ 11 ∷ 0 ∷ 12 ∷ 256 ∷ 1 ∷ 9 ∷ 0 ∷ 5 ∷ 5 ∷ 9 ∷ 4 ∷ 4 ∷ 4 ∷ []) ++ replicate 42 0 ++ (3 ∷ 21 ∷ 0 ∷ 22 ∷ 0 ∷ 0 ∷ 0 ∷ 0 ∷ 6 ∷ 6 ∷ 6 ∷ []) ++ replicate 45 0 ++ (1 ∷ 31 ∷ 0 ∷ 32 ∷ 0 ∷ []))) (setLimiter 1 2 8589934595 21474836486) ((2 ∷ 50 ∷ 0 ∷ 7 ∷ 3 ∷ 20 ∷ 8 ∷ 1 ∷ 30 ∷ 99 ∷ 98 ∷ 97 ∷ []) ++ replicate 39 0 ++ (2 ∷ 11 ∷ 0 ∷ 12 ∷ 256 ∷ 1 ∷ 9 ∷ 0 ∷ 5 ∷ 5 ∷ 9 ∷ 4 ∷ 4 ∷ 4 ∷ []) ++ replicate 42 0 ++ (2 ∷ 3 ∷ 2 ∷ 6 ∷ 5 ∷ 0 ∷ 0 ∷ 0 ∷ 6 ∷ 6 ∷ 6 ∷ []) ++ replicate 45 0 ++ (1 ∷ 31 ∷ 0 ∷ 32 ∷ 0 ∷ [])) ∷
     writes "y7-107 set limiter 2" (lent (grid 4 1 1 3) hundreds (rowA ++ rowB ++ six 0 5 5 5 5 0) ((2 ∷ 50 ∷ 0 ∷ 7 ∷ 3 ∷ 20 ∷ 8 ∷ 1 ∷ 30 ∷ 99 ∷ 98 ∷ 97 ∷ []) ++ replicate 39 0 ++ (2 ∷ 11 ∷ 0 ∷ 12 ∷ 256 ∷ 1 ∷ 9 ∷ 0 ∷ 5 ∷ 5 ∷ 9 ∷ 4 ∷ 4 ∷ 4 ∷ []) ++ replicate 42 0 ++ (2 ∷ 3 ∷ 2 ∷ 6 ∷ 5 ∷ 0 ∷ 0 ∷ 0 ∷ 6 ∷ 6 ∷ 6 ∷ []) ++ replicate 45 0 ++ (1 ∷ 31 ∷ 0 ∷ 32 ∷ 0 ∷ []))) (setLimiter 0 1 most most) ((2 ∷ 50 ∷ 0 ∷ 7 ∷ 3 ∷ 20 ∷ 8 ∷ 1 ∷ 30 ∷ 99 ∷ 98 ∷ 97 ∷ []) ++ replicate 39 0 ++ (1 ∷ 4294967295 ∷ 4294967295 ∷ 4294967295 ∷ 4294967295 ∷ 1 ∷ 9 ∷ 0 ∷ 5 ∷ 5 ∷ 9 ∷ 4 ∷ 4 ∷ 4 ∷ []) ++ replicate 42 0 ++ (2 ∷ 3 ∷ 2 ∷ 6 ∷ 5 ∷ 0 ∷ 0 ∷ 0 ∷ 6 ∷ 6 ∷ 6 ∷ []) ++ replicate 45 0 ++ (1 ∷ 31 ∷ 0 ∷ 32 ∷ 0 ∷ [])) ∷
     writes "y7-107 set limiter 3" (lent (grid 4 1 1 3) hundreds (rowA ++ rowB ++ six 0 5 5 5 5 0) ((2 ∷ 50 ∷ 0 ∷ 7 ∷ 3 ∷ 20 ∷ 8 ∷ 1 ∷ 30 ∷ 99 ∷ 98 ∷ 97 ∷ []) ++ replicate 39 0 ++ (1 ∷ 4294967295 ∷ 4294967295 ∷ 4294967295 ∷ 4294967295 ∷ 1 ∷ 9 ∷ 0 ∷ 5 ∷ 5 ∷ 9 ∷ 4 ∷ 4 ∷ 4 ∷ []) ++ replicate 42 0 ++ (2 ∷ 3 ∷ 2 ∷ 6 ∷ 5 ∷ 0 ∷ 0 ∷ 0 ∷ 6 ∷ 6 ∷ 6 ∷ []) ++ replicate 45 0 ++ (1 ∷ 31 ∷ 0 ∷ 32 ∷ 0 ∷ []))) (setLimiter 2 3 4294967296 18446744069414584320) ((2 ∷ 50 ∷ 0 ∷ 7 ∷ 3 ∷ 20 ∷ 8 ∷ 1 ∷ 30 ∷ 99 ∷ 98 ∷ 97 ∷ []) ++ replicate 39 0 ++ (1 ∷ 4294967295 ∷ 4294967295 ∷ 4294967295 ∷ 4294967295 ∷ 1 ∷ 9 ∷ 0 ∷ 5 ∷ 5 ∷ 9 ∷ 4 ∷ 4 ∷ 4 ∷ []) ++ replicate 42 0 ++ (2 ∷ 3 ∷ 2 ∷ 6 ∷ 5 ∷ 0 ∷ 0 ∷ 0 ∷ 6 ∷ 6 ∷ 6 ∷ []) ++ replicate 45 0 ++ (3 ∷ 0 ∷ 1 ∷ 0 ∷ 4294967295 ∷ [])) ∷
-    -- y7-108: set_limiter times: the last one counts
+    -- y7-108: set_limiter again: the last one counts
     writes "y7-108 set limiter" (two first first) (setLimiter 0 2 0 0) (blocks (positive ∷ first ∷ [])) ∷
     moves "y7-108 zonal" (two (fixed 0 851968) (fixed 13107 most)) (zonal 0 0 wind) 1 (six 100 100 50 150 100 100) (six 0 0 144 356 50 0 ++ six 0 300 7 103 0 0) ∷
     -- y7-109: bounds that the limiter does not read are stored as given, and those of another call are put in their place
     writes "y7-109 set limiter" (two first first) (setLimiter 0 1 0 851968) (blocks (limiter 1 0 851968 ∷ first ∷ [])) ∷
     writes "y7-109 set limiter 2" (two positive (limiter 2 13107 most)) (setLimiter 1 1 0 0) (blocks (positive ∷ first ∷ [])) ∷
     -- y7-110: a tracer set to another limiter between sweeps
-    moves "y7-110 zonal" (lent (grid 4 1 1 1) hundreds (six 0 300 100 200 0 0) (blocks (positive ∷ []))) (zonal 0 0 (four (pos 0) (pos 20) (pos 0) (pos 0))) 1 (six 100 100 80 120 100 100) (six 0 300 84 216 0 0) ∷
     moves "y7-110 long zonal" (lent (grid 4 1 1 1) (six 100 100 40 160 100 100) (six 0 300 44 256 0 0) (blocks (limiter 2 250000 300000 ∷ []))) (longZonal 0 0 (four (pos 0) (pos 20) (pos 0) (pos 0))) 0 (six 100 100 20 180 100 100) (six 0 300 25 275 0 0) ∷
     -- y7-111: moving calls leave the ledger
-    moves "y7-111 zonal" (lent (grid 4 1 1 2) hundreds (rowA ++ rowB) ((1 ∷ 20 ∷ 0 ∷ 7 ∷ 3 ∷ 20 ∷ []) ++ replicate 45 0 ++ (3 ∷ 7 ∷ 0 ∷ 900000 ∷ 0 ∷ 0 ∷ 0 ∷ 0 ∷ 1 ∷ 1 ∷ 1 ∷ []) ++ replicate 45 0 ++ (2 ∷ 5 ∷ 0 ∷ 6 ∷ 0 ∷ []))) (zonal 0 0 (four (pos 0) (pos 20) (pos 0) (pos 0))) 1 (six 100 100 80 120 100 100) (six 0 0 234 266 50 0 ++ rowB) ∷
     reads "y7-111 remap" (lent (grid 4 1 1 2) (six 109 100 62 120 100 109) (six 25 0 174 276 50 25 ++ six 2 300 20 86 0 2) ((1 ∷ 20 ∷ 0 ∷ 7 ∷ 3 ∷ 20 ∷ []) ++ replicate 45 0 ++ (3 ∷ 7 ∷ 0 ∷ 900000 ∷ 0 ∷ 0 ∷ 0 ∷ 0 ∷ 1 ∷ 1 ∷ 1 ∷ []) ++ replicate 45 0 ++ (2 ∷ 5 ∷ 0 ∷ 6 ∷ 0 ∷ []))) (remap (four 0 0 0 65536)) 6 ∷
     -- y7-112: what stands is broken and what is given is good: mended
     refuses "y7-112 zonal" (two first (limiter 0 9 3)) (zonal 0 0 wind) 21 ∷
@@ -384,16 +341,12 @@ given =
     refuses "y7-115 remap" (two (limiter 9 0 0) positive) (remap (four 0 0 0 65536)) 21 ∷
     -- y7-116: both broken: one is mended, then the other
     writes "y7-116 set limiter" (two (fixed 2 1) (limiter 0 0 0)) (setLimiter 1 2 0 0) (blocks (fixed 2 1 ∷ positive ∷ [])) ∷
-    refuses "y7-116 zonal" (two (fixed 2 1) positive) (zonal 0 0 wind) 21 ∷
-    writes "y7-116 set limiter 2" (two (fixed 2 1) positive) (setLimiter 0 3 0 851968) (blocks (fixed 0 851968 ∷ positive ∷ [])) ∷
-    moves "y7-116 zonal 2" (two (fixed 0 851968) positive) (zonal 0 0 wind) 1 (six 100 100 50 150 100 100) (six 0 0 144 356 50 0 ++ six 0 300 8 102 0 0) ∷
+    moves "y7-116 zonal" (two (fixed 0 851968) positive) (zonal 0 0 wind) 1 (six 100 100 50 150 100 100) (six 0 0 144 356 50 0 ++ six 0 300 8 102 0 0) ∷
     -- y7-117: a load over broken limiters and standing emitters: it does not test them, and gives each tracer limiter 1 and bounds 0
     writes "y7-117 load" (lent (grid 4 1 1 2) hundreds (rowA ++ rowB) ((17 ∷ 1 ∷ 1 ∷ 7 ∷ 3 ∷ 20 ∷ []) ++ replicate 45 0 ++ (4 ∷ 9 ∷ 0 ∷ 3 ∷ 0 ∷ 1 ∷ 9 ∷ 0 ∷ 5 ∷ 5 ∷ 9 ∷ []) ++ replicate 45 0 ++ (3 ∷ 5 ∷ 0 ∷ 2 ∷ 0 ∷ []))) load (blocks (replicate 2 first)) ∷
     moves "y7-117 zonal" (two first first) (zonal 0 0 wind) 1 (six 100 100 50 150 100 100) (six 0 0 150 350 50 0 ++ six 0 300 5 105 0 0) ∷
     -- y7-119: a refused load leaves the limiters: 3, 4, 2
     refuses "y7-119 load" (lent (grid 4 1 1 2) (six 100 100 0 100 100 100) (rowA ++ rowB) (blocks (limiter 2 1 2 ∷ fixed 13107 most ∷ []))) load 3 ∷
-    refuses "y7-119 load 2" (lent (grid 4 1 1 2) hundreds (rowA ++ six 0 300 10 100 0 268435455) (blocks (limiter 2 1 2 ∷ fixed 13107 most ∷ []))) load 4 ∷
-    refuses "y7-119 load 3" (lent (grid 4 1 1 2) hundreds ((0 ∷ 0 ∷ 300 ∷ 200 ∷ 50 ∷ 0 ∷ 0 ∷ 300 ∷ 10 ∷ 100 ∷ 0 ∷ [])) (blocks (limiter 2 1 2 ∷ fixed 13107 most ∷ []))) load 2 ∷
     moves "y7-119 zonal" (two (limiter 2 1 2) (fixed 13107 most)) (zonal 0 0 wind) 1 (six 100 100 50 150 100 100) (six 0 0 138 362 50 0 ++ six 0 300 7 103 0 0) ∷
     []
 
@@ -402,114 +355,78 @@ abbrev order : List Case
 order =
     -- y7-120: 1 before 21, and 2 before 21
     refuses "y7-120 zonal" (lent (grid 3 1 1 2) hundreds (rowA ++ rowB) (blocks (first ∷ limiter 0 0 0 ∷ []))) (zonal 0 0 wind) 1 ∷
-    refuses "y7-120 zonal 2" (lent (grid 4 1 1 2) hundreds (rowA ++ rowB) (replicate 107 0 ++ (1 ∷ 0 ∷ 0 ∷ 0 ∷ []))) (zonal 0 0 wind) 2 ∷
-    refuses "y7-120 set limiter" (lent (grid 4 1 1 2) hundreds (rowA ++ rowB) (replicate 107 0 ++ (1 ∷ 0 ∷ 0 ∷ 0 ∷ []))) (setLimiter 0 0 1 0) 2 ∷
-    refuses "y7-120 zonal 3" (lent (grid 4 1 1 2) hundreds (rowA ++ rowB) (replicate 107 0 ++ (1 ∷ 0 ∷ 0 ∷ 0 ∷ 0 ∷ 0 ∷ []))) (zonal 0 0 wind) 2 ∷
-    refuses "y7-120 zonal 4" (two first (limiter 0 0 0)) (zonal 0 0 (pos 0 ∷ pos 50 ∷ pos 0 ∷ [])) 2 ∷
+    refuses "y7-120 set limiter" (lent (grid 4 1 1 2) hundreds (rowA ++ rowB) (replicate 107 0 ++ (1 ∷ 0 ∷ 0 ∷ 0 ∷ []))) (setLimiter 5 0 1 0) 2 ∷
     refuses "y7-120 remap" (two first (limiter 0 0 0)) (remap ((0 ∷ 0 ∷ 0 ∷ []))) 2 ∷
     -- y7-121: 3 before 21
     refuses "y7-121 zonal" (lent (grid 4 1 1 2) (six 100 100 100 100 100 0) (rowA ++ rowB) (blocks (first ∷ limiter 0 0 0 ∷ []))) (zonal 0 0 wind) 3 ∷
-    refuses "y7-121 count zonal" (lent (grid 4 1 1 2) (six 100 100 100 100 100 0) (rowA ++ rowB) (blocks (first ∷ limiter 0 0 0 ∷ []))) (countZonal 0 0 wind) 3 ∷
     refuses "y7-121 meridional" (lent (grid 4 1 1 2) (six 100 100 100 100 100 0) (rowA ++ rowB) (blocks (first ∷ limiter 0 0 0 ∷ []))) (meridional 0 (replicate 8 (pos 0))) 3 ∷
-    refuses "y7-121 set limiter" (lent (grid 4 1 1 2) (six 100 100 100 100 100 0) (rowA ++ rowB) (blocks (first ∷ limiter 0 0 0 ∷ []))) (setLimiter 0 2 0 0) 3 ∷
-    refuses "y7-121 zonal 2" (lent (grid 4 1 1 2) (six 100 100 100 100 100 65536) (rowA ++ rowB) (blocks (first ∷ limiter 0 0 0 ∷ []))) (zonal 0 0 wind) 3 ∷
-    refuses "y7-121 count zonal 2" (lent (grid 4 1 1 2) (six 100 100 100 100 100 65536) (rowA ++ rowB) (blocks (first ∷ limiter 0 0 0 ∷ []))) (countZonal 0 0 wind) 3 ∷
-    refuses "y7-121 meridional 2" (lent (grid 4 1 1 2) (six 100 100 100 100 100 65536) (rowA ++ rowB) (blocks (first ∷ limiter 0 0 0 ∷ []))) (meridional 0 (replicate 8 (pos 0))) 3 ∷
-    refuses "y7-121 set limiter 2" (lent (grid 4 1 1 2) (six 100 100 100 100 100 65536) (rowA ++ rowB) (blocks (first ∷ limiter 0 0 0 ∷ []))) (setLimiter 0 0 0 0) 3 ∷
+    refuses "y7-121 count zonal" (lent (grid 4 1 1 2) (six 100 100 100 100 100 65536) (rowA ++ rowB) (blocks (first ∷ limiter 0 0 0 ∷ []))) (countZonal 0 0 wind) 3 ∷
+    refuses "y7-121 set limiter" (lent (grid 4 1 1 2) (six 100 100 100 100 100 65536) (rowA ++ rowB) (blocks (first ∷ limiter 0 0 0 ∷ []))) (setLimiter 0 0 0 0) 3 ∷
     -- y7-122: 4 before 21
     refuses "y7-122 zonal" (lent (grid 4 1 1 2) hundreds (rowA ++ six 0 300 10 100 0 268435046) (blocks (first ∷ limiter 0 0 0 ∷ []))) (zonal 0 0 wind) 4 ∷
-    refuses "y7-122 long zonal" (lent (grid 4 1 1 2) hundreds (rowA ++ six 0 300 10 100 0 268435046) (blocks (first ∷ limiter 0 0 0 ∷ []))) (longZonal 0 0 wind) 4 ∷
     refuses "y7-122 count zonal" (lent (grid 4 1 1 2) hundreds (rowA ++ six 0 300 10 100 0 268435046) (blocks (first ∷ limiter 0 0 0 ∷ []))) (countZonal 0 0 wind) 4 ∷
-    refuses "y7-122 zonal with count" (lent (grid 4 1 1 2) hundreds (rowA ++ six 0 300 10 100 0 268435046) (blocks (first ∷ limiter 0 0 0 ∷ []))) (zonalWithCount 0 0 1 wind) 4 ∷
-    refuses "y7-122 meridional" (lent (grid 4 1 1 2) hundreds (rowA ++ six 0 300 10 100 0 268435046) (blocks (first ∷ limiter 0 0 0 ∷ []))) (meridional 0 (replicate 8 (pos 0))) 4 ∷
     refuses "y7-122 remap" (lent (grid 4 1 1 2) hundreds (rowA ++ six 0 300 10 100 0 268435046) (blocks (first ∷ limiter 0 0 0 ∷ []))) (remap (four 0 0 0 65536)) 4 ∷
-    refuses "y7-122 set limiter" (lent (grid 4 1 1 2) hundreds (rowA ++ six 0 300 10 100 0 268435046) (blocks (first ∷ limiter 0 0 0 ∷ []))) (setLimiter 0 2 0 0) 4 ∷
-    refuses "y7-122 set limiter 2" (lent (grid 4 1 1 2) hundreds (rowA ++ six 0 300 10 100 0 268435046) (blocks (first ∷ limiter 0 0 0 ∷ []))) (setLimiter 1 0 0 0) 4 ∷
+    refuses "y7-122 set limiter" (lent (grid 4 1 1 2) hundreds (rowA ++ six 0 300 10 100 0 268435046) (blocks (first ∷ limiter 0 0 0 ∷ []))) (setLimiter 1 0 0 0) 4 ∷
     -- y7-123: 21 before 5, and 5 after the limiters are mended
     refuses "y7-123 zonal" (two first (limiter 0 0 0)) (zonal 1 0 wind) 21 ∷
-    refuses "y7-123 zonal 2" (two first (limiter 0 0 0)) (zonal 0 1 wind) 21 ∷
     refuses "y7-123 long zonal" (two first (limiter 0 0 0)) (longZonal 1 0 wind) 21 ∷
-    refuses "y7-123 long zonal 2" (two first (limiter 0 0 0)) (longZonal 0 1 wind) 21 ∷
-    refuses "y7-123 count zonal" (two first (limiter 0 0 0)) (countZonal 1 0 wind) 21 ∷
-    refuses "y7-123 count zonal 2" (two first (limiter 0 0 0)) (countZonal 0 1 wind) 21 ∷
-    refuses "y7-123 zonal with count" (two first (limiter 0 0 0)) (zonalWithCount 1 0 1 wind) 21 ∷
-    refuses "y7-123 zonal with count 2" (two first (limiter 0 0 0)) (zonalWithCount 0 1 1 wind) 21 ∷
+    refuses "y7-123 count zonal" (two first (limiter 0 0 0)) (countZonal 0 1 wind) 21 ∷
     refuses "y7-123 meridional" (two first (limiter 0 0 0)) (meridional 1 (replicate 8 (pos 0))) 21 ∷
-    writes "y7-123 set limiter" (two first (limiter 0 0 0)) (setLimiter 1 1 0 0) (blocks (replicate 2 first)) ∷
-    refuses "y7-123 zonal 3" (two first first) (zonal 1 0 wind) 5 ∷
-    refuses "y7-123 zonal 4" (two first first) (zonal 0 1 wind) 5 ∷
-    refuses "y7-123 long zonal 3" (two first first) (longZonal 1 0 wind) 5 ∷
-    refuses "y7-123 count zonal 3" (two first first) (countZonal 0 1 wind) 5 ∷
-    refuses "y7-123 zonal with count 3" (two first first) (zonalWithCount 0 1 1 wind) 5 ∷
+    refuses "y7-123 zonal 2" (two first first) (zonal 1 0 wind) 5 ∷
+    refuses "y7-123 long zonal 2" (two first first) (longZonal 1 0 wind) 5 ∷
     refuses "y7-123 meridional 2" (two first first) (meridional 1 (replicate 8 (pos 0))) 5 ∷
     -- y7-124: 21 before 8, 9 and 20, and these after the limiters are mended
     refuses "y7-124 zonal" (two first (limiter 0 0 0)) (zonal 0 0 (four (pos 1048561) (pos 0) (pos 0) (pos 0))) 21 ∷
-    refuses "y7-124 count zonal" (two first (limiter 0 0 0)) (countZonal 0 0 (four (pos 1048561) (pos 0) (pos 0) (pos 0))) 21 ∷
     refuses "y7-124 zonal with count" (two first (limiter 0 0 0)) (zonalWithCount 0 0 1 (four (pos 1048561) (pos 0) (pos 0) (pos 0))) 21 ∷
-    refuses "y7-124 long zonal" (two first (limiter 0 0 0)) (longZonal 0 0 (four (pos 1048561) (pos 0) (pos 0) (pos 0))) 21 ∷
     refuses "y7-124 zonal 2" (two first (limiter 0 0 0)) (zonal 0 0 (four (pos 0) (pos 100) (pos 0) (pos 0))) 21 ∷
-    refuses "y7-124 count zonal 2" (two first (limiter 0 0 0)) (countZonal 0 0 (four (pos 0) (pos 100) (pos 0) (pos 0))) 21 ∷
-    refuses "y7-124 zonal with count 2" (two first (limiter 0 0 0)) (zonalWithCount 0 0 1 (four (pos 0) (pos 100) (pos 0) (pos 0))) 21 ∷
-    refuses "y7-124 zonal with count 3" (two first (limiter 0 0 0)) (zonalWithCount 0 0 2 wind) 21 ∷
-    refuses "y7-124 meridional" (two first (limiter 0 0 0)) (meridional 0 (four (pos 65536) (pos 0) (pos 0) (pos 0) ++ four (pos 0) (pos 0) (pos 0) (pos 0))) 21 ∷
+    refuses "y7-124 zonal with count 2" (two first (limiter 0 0 0)) (zonalWithCount 0 0 2 wind) 21 ∷
     writes "y7-124 set limiter" (two first (limiter 0 0 0)) (setLimiter 1 1 0 0) (blocks (replicate 2 first)) ∷
-    refuses "y7-124 zonal 3" (two first first) (zonal 0 0 (four (pos 1048561) (pos 0) (pos 0) (pos 0))) 8 ∷
-    refuses "y7-124 count zonal 3" (two first first) (countZonal 0 0 (four (pos 1048561) (pos 0) (pos 0) (pos 0))) 8 ∷
-    refuses "y7-124 zonal with count 4" (two first first) (zonalWithCount 0 0 1 (four (pos 1048561) (pos 0) (pos 0) (pos 0))) 8 ∷
-    refuses "y7-124 long zonal 2" (two first first) (longZonal 0 0 (four (pos 1048561) (pos 0) (pos 0) (pos 0))) 8 ∷
-    refuses "y7-124 zonal 4" (two first first) (zonal 0 0 (four (pos 0) (pos 100) (pos 0) (pos 0))) 9 ∷
-    refuses "y7-124 count zonal 4" (two first first) (countZonal 0 0 (four (pos 0) (pos 100) (pos 0) (pos 0))) 9 ∷
-    refuses "y7-124 zonal with count 5" (two first first) (zonalWithCount 0 0 1 (four (pos 0) (pos 100) (pos 0) (pos 0))) 9 ∷
-    refuses "y7-124 zonal with count 6" (two first first) (zonalWithCount 0 0 2 wind) 20 ∷
-    refuses "y7-124 meridional 2" (two first first) (meridional 0 (four (pos 65536) (pos 0) (pos 0) (pos 0) ++ four (pos 0) (pos 0) (pos 0) (pos 0))) 8 ∷
+    refuses "y7-124 count zonal" (two first first) (countZonal 0 0 (four (pos 1048561) (pos 0) (pos 0) (pos 0))) 8 ∷
+    refuses "y7-124 zonal 3" (two first first) (zonal 0 0 (four (pos 0) (pos 100) (pos 0) (pos 0))) 9 ∷
+    refuses "y7-124 zonal with count 3" (two first first) (zonalWithCount 0 0 1 (four (pos 0) (pos 100) (pos 0) (pos 0))) 9 ∷
+    refuses "y7-124 meridional" (two first first) (meridional 0 (four (pos 65536) (pos 0) (pos 0) (pos 0) ++ four (pos 0) (pos 0) (pos 0) (pos 0))) 8 ∷
     -- y7-125: 21 before 10, 16, 17 and 11, and these after the limiters are mended
     refuses "y7-125 meridional" (two first (limiter 0 0 0)) (meridional 0 (four (pos 100) (pos 0) (pos 0) (pos 0) ++ four (pos 0) (pos 0) (pos 0) (pos 0))) 21 ∷
-    refuses "y7-125 long zonal" (two first (limiter 0 0 0)) (longZonal 0 0 (four (pos 401) (pos 0) (pos 0) (pos 0))) 21 ∷
-    refuses "y7-125 long zonal 2" (two first (limiter 0 0 0)) (longZonal 0 0 (four (pos 100) (pos 0) (pos 0) (pos 0))) 21 ∷
-    refuses "y7-125 remap" (two first (limiter 0 0 0)) (remap (four 0 0 0 65535)) 21 ∷
+    refuses "y7-125 long zonal" (two first (limiter 0 0 0)) (longZonal 0 0 (four (pos 100) (pos 0) (pos 0) (pos 0))) 21 ∷
     writes "y7-125 set limiter" (two first (limiter 0 0 0)) (setLimiter 1 1 0 0) (blocks (replicate 2 first)) ∷
-    refuses "y7-125 meridional 2" (two first first) (meridional 0 (four (pos 100) (pos 0) (pos 0) (pos 0) ++ four (pos 0) (pos 0) (pos 0) (pos 0))) 10 ∷
-    refuses "y7-125 long zonal 3" (two first first) (longZonal 0 0 (four (pos 401) (pos 0) (pos 0) (pos 0))) 16 ∷
-    refuses "y7-125 long zonal 4" (two first first) (longZonal 0 0 (four (pos 100) (pos 0) (pos 0) (pos 0))) 17 ∷
-    refuses "y7-125 remap 2" (two first first) (remap (four 0 0 0 65535)) 11 ∷
+    refuses "y7-125 long zonal 2" (two first first) (longZonal 0 0 (four (pos 401) (pos 0) (pos 0) (pos 0))) 16 ∷
+    refuses "y7-125 remap" (two first first) (remap (four 0 0 0 65535)) 11 ∷
     -- y7-126: 21 before 12 in two layers
     refuses "y7-126 remap" (lent (grid 4 1 2 1) (replicate 12 100) (replicate 12 5) (blocks (limiter 7 0 0 ∷ []))) (remap (six 0 0 0 0 0 65536)) 21 ∷
-    refuses "y7-126 remap 2" (lent (grid 4 1 2 1) (replicate 12 100) (replicate 12 5) (blocks (limiter 7 0 0 ∷ []))) (remap (six 0 0 0 32768 0 65535)) 21 ∷
     writes "y7-126 set limiter" (lent (grid 4 1 2 1) (replicate 12 100) (replicate 12 5) (blocks (limiter 7 0 0 ∷ []))) (setLimiter 0 2 0 0) (blocks (positive ∷ [])) ∷
-    refuses "y7-126 remap 3" (lent (grid 4 1 2 1) (replicate 12 100) (replicate 12 5) (blocks (positive ∷ []))) (remap (six 0 0 0 0 0 65536)) 12 ∷
-    refuses "y7-126 remap 4" (lent (grid 4 1 2 1) (replicate 12 100) (replicate 12 5) (blocks (positive ∷ []))) (remap (six 0 0 0 32768 0 65535)) 11 ∷
+    refuses "y7-126 remap 2" (lent (grid 4 1 2 1) (replicate 12 100) (replicate 12 5) (blocks (positive ∷ []))) (remap (six 0 0 0 32768 0 65535)) 11 ∷
     -- y7-127: set_limiter: 5 for an absent tracer, before 21
     refuses "y7-127 set limiter" (two first first) (setLimiter 2 2 0 0) 5 ∷
-    refuses "y7-127 set limiter 2" (two first first) (setLimiter 4294967295 2 0 0) 5 ∷
-    refuses "y7-127 set limiter 3" (two first first) (setLimiter 2 0 0 0) 5 ∷
-    refuses "y7-127 set limiter 4" (two first first) (setLimiter 2 3 1 0) 5 ∷
-    refuses "y7-127 set limiter 5" (two first first) (setLimiter 8 9 1 0) 5 ∷
+    refuses "y7-127 set limiter 2" (two first first) (setLimiter 2 0 0 0) 5 ∷
+    refuses "y7-127 set limiter 3" (two first first) (setLimiter 8 9 1 0) 5 ∷
     -- y7-128: set_limiter: 3 and 4 before 5
     refuses "y7-128 set limiter" (lent (grid 4 1 1 2) (six 100 100 100 100 100 0) (rowA ++ rowB) (blocks (replicate 2 first))) (setLimiter 2 2 0 0) 3 ∷
-    refuses "y7-128 set limiter 2" (lent (grid 4 1 1 2) hundreds (rowA ++ six 0 300 10 100 0 268435455) (blocks (replicate 2 first))) (setLimiter 2 2 0 0) 4 ∷
-    refuses "y7-128 set limiter 3" (lent (grid 4 1 1 2) hundreds (rowA ++ six 0 300 10 100 0 268435455) (blocks (replicate 2 first))) (setLimiter 1 2 0 0) 4 ∷
-    refuses "y7-128 set limiter 4" (two first first) (setLimiter 2 2 0 0) 5 ∷
-    writes "y7-128 set limiter 5" (two first first) (setLimiter 1 2 0 0) (blocks (first ∷ positive ∷ [])) ∷
+    refuses "y7-128 set limiter 2" (lent (grid 4 1 1 2) hundreds (rowA ++ six 0 300 10 100 0 268435455) (blocks (replicate 2 first))) (setLimiter 1 2 0 0) 4 ∷
+    writes "y7-128 set limiter 3" (two first first) (setLimiter 1 2 0 0) (blocks (first ∷ positive ∷ [])) ∷
     -- y7-129: set_limiter with broken emitters, which it does not test: accepted; a tick gets 5 before and after
     refuses "y7-129 tick" (lent (grid 4 1 1 2) hundreds (rowA ++ rowB) ((17 ∷ 1 ∷ 1 ∷ []) ++ replicate 48 0 ++ (1 ∷ 0 ∷ 0 ∷ 0 ∷ 0 ∷ 1 ∷ 9 ∷ 0 ∷ 5 ∷ 6 ∷ 9 ∷ []) ++ replicate 45 0 ++ (1 ∷ 0 ∷ 0 ∷ 0 ∷ 0 ∷ []))) (tick 0) 5 ∷
-    writes "y7-129 set limiter" (lent (grid 4 1 1 2) hundreds (rowA ++ rowB) ((17 ∷ 1 ∷ 1 ∷ []) ++ replicate 48 0 ++ (1 ∷ 0 ∷ 0 ∷ 0 ∷ 0 ∷ 1 ∷ 9 ∷ 0 ∷ 5 ∷ 6 ∷ 9 ∷ []) ++ replicate 45 0 ++ (1 ∷ 0 ∷ 0 ∷ 0 ∷ 0 ∷ []))) (setLimiter 0 2 0 0) ((17 ∷ 1 ∷ 1 ∷ []) ++ replicate 48 0 ++ (2 ∷ 0 ∷ 0 ∷ 0 ∷ 0 ∷ 1 ∷ 9 ∷ 0 ∷ 5 ∷ 6 ∷ 9 ∷ []) ++ replicate 45 0 ++ (1 ∷ 0 ∷ 0 ∷ 0 ∷ 0 ∷ [])) ∷
-    writes "y7-129 set limiter 2" (lent (grid 4 1 1 2) hundreds (rowA ++ rowB) ((17 ∷ 1 ∷ 1 ∷ []) ++ replicate 48 0 ++ (2 ∷ 0 ∷ 0 ∷ 0 ∷ 0 ∷ 1 ∷ 9 ∷ 0 ∷ 5 ∷ 6 ∷ 9 ∷ []) ++ replicate 45 0 ++ (1 ∷ 0 ∷ 0 ∷ 0 ∷ 0 ∷ []))) (setLimiter 1 3 13107 most) ((17 ∷ 1 ∷ 1 ∷ []) ++ replicate 48 0 ++ (2 ∷ 0 ∷ 0 ∷ 0 ∷ 0 ∷ 1 ∷ 9 ∷ 0 ∷ 5 ∷ 6 ∷ 9 ∷ []) ++ replicate 45 0 ++ (3 ∷ 13107 ∷ 0 ∷ 4294967295 ∷ 4294967295 ∷ [])) ∷
-    refuses "y7-129 tick 2" (lent (grid 4 1 1 2) hundreds (rowA ++ rowB) ((17 ∷ 1 ∷ 1 ∷ []) ++ replicate 48 0 ++ (2 ∷ 0 ∷ 0 ∷ 0 ∷ 0 ∷ 1 ∷ 9 ∷ 0 ∷ 5 ∷ 6 ∷ 9 ∷ []) ++ replicate 45 0 ++ (3 ∷ 13107 ∷ 0 ∷ 4294967295 ∷ 4294967295 ∷ []))) (tick 0) 5 ∷
-    refuses "y7-129 units a tick" (lent (grid 4 1 1 2) hundreds (rowA ++ rowB) ((17 ∷ 1 ∷ 1 ∷ []) ++ replicate 48 0 ++ (2 ∷ 0 ∷ 0 ∷ 0 ∷ 0 ∷ 1 ∷ 9 ∷ 0 ∷ 5 ∷ 6 ∷ 9 ∷ []) ++ replicate 45 0 ++ (3 ∷ 13107 ∷ 0 ∷ 4294967295 ∷ 4294967295 ∷ []))) (unitsATick 1) 5 ∷
+    writes "y7-129 set limiter" (lent (grid 4 1 1 2) hundreds (rowA ++ rowB) ((17 ∷ 1 ∷ 1 ∷ []) ++ replicate 48 0 ++ (2 ∷ 0 ∷ 0 ∷ 0 ∷ 0 ∷ 1 ∷ 9 ∷ 0 ∷ 5 ∷ 6 ∷ 9 ∷ []) ++ replicate 45 0 ++ (1 ∷ 0 ∷ 0 ∷ 0 ∷ 0 ∷ []))) (setLimiter 1 3 13107 most) ((17 ∷ 1 ∷ 1 ∷ []) ++ replicate 48 0 ++ (2 ∷ 0 ∷ 0 ∷ 0 ∷ 0 ∷ 1 ∷ 9 ∷ 0 ∷ 5 ∷ 6 ∷ 9 ∷ []) ++ replicate 45 0 ++ (3 ∷ 13107 ∷ 0 ∷ 4294967295 ∷ 4294967295 ∷ [])) ∷
     moves "y7-129 zonal" (lent (grid 4 1 1 2) hundreds (rowA ++ rowB) ((17 ∷ 1 ∷ 1 ∷ []) ++ replicate 48 0 ++ (2 ∷ 0 ∷ 0 ∷ 0 ∷ 0 ∷ 1 ∷ 9 ∷ 0 ∷ 5 ∷ 6 ∷ 9 ∷ []) ++ replicate 45 0 ++ (3 ∷ 13107 ∷ 0 ∷ 4294967295 ∷ 4294967295 ∷ []))) (zonal 0 0 wind) 1 (six 100 100 50 150 100 100) (six 0 0 138 362 50 0 ++ six 0 300 7 103 0 0) ∷
     -- y7-130: emitters come and go beside limiters: neither alters the other
     writes "y7-130 set limiter" (two first first) (setLimiter 0 2 4294967299 21474836487) (blocks (limiter 2 4294967299 21474836487 ∷ first ∷ [])) ∷
-    writes "y7-130 add emitter" (lent (grid 4 1 1 2) hundreds (rowA ++ rowB) ((1 ∷ 250 ∷ 0 ∷ 7 ∷ 3 ∷ 250 ∷ []) ++ replicate 45 0 ++ (2 ∷ 3 ∷ 1 ∷ 7 ∷ 5 ∷ []) ++ replicate 51 0 ++ (1 ∷ 0 ∷ 0 ∷ 0 ∷ 0 ∷ []))) (addEmitter 1 2 8 20) ((1 ∷ 250 ∷ 0 ∷ 7 ∷ 3 ∷ 250 ∷ []) ++ replicate 45 0 ++ (2 ∷ 3 ∷ 1 ∷ 7 ∷ 5 ∷ 1 ∷ 20 ∷ 0 ∷ 8 ∷ 2 ∷ 20 ∷ []) ++ replicate 45 0 ++ (1 ∷ 0 ∷ 0 ∷ 0 ∷ 0 ∷ [])) ∷
     moves "y7-130 tick" (lent (grid 4 1 1 2) hundreds (rowA ++ rowB) ((1 ∷ 250 ∷ 0 ∷ 7 ∷ 3 ∷ 250 ∷ []) ++ replicate 45 0 ++ (2 ∷ 3 ∷ 1 ∷ 7 ∷ 5 ∷ 1 ∷ 20 ∷ 0 ∷ 8 ∷ 2 ∷ 20 ∷ []) ++ replicate 45 0 ++ (3 ∷ 13107 ∷ 0 ∷ 4294967295 ∷ 4294967295 ∷ []))) (tick 0) 0 hundreds (six 0 0 300 450 50 0 ++ rowB) ∷
-    reads "y7-130 units a tick" (lent (grid 4 1 1 2) hundreds (six 0 0 300 450 50 0 ++ six 0 300 30 100 0 0) ((1 ∷ 250 ∷ 0 ∷ 7 ∷ 3 ∷ 250 ∷ []) ++ replicate 45 0 ++ (2 ∷ 3 ∷ 1 ∷ 7 ∷ 5 ∷ 1 ∷ 20 ∷ 0 ∷ 8 ∷ 2 ∷ 20 ∷ []) ++ replicate 45 0 ++ (3 ∷ 13107 ∷ 0 ∷ 4294967295 ∷ 4294967295 ∷ []))) (unitsATick 0) 250 ∷
     moves "y7-130 zonal" (lent (grid 4 1 1 2) hundreds (six 0 0 300 450 50 0 ++ six 0 300 30 100 0 0) (replicate 51 0 ++ (2 ∷ 3 ∷ 1 ∷ 7 ∷ 5 ∷ 1 ∷ 20 ∷ 0 ∷ 8 ∷ 2 ∷ 20 ∷ []) ++ replicate 45 0 ++ (3 ∷ 13107 ∷ 0 ∷ 4294967295 ∷ 4294967295 ∷ []))) (zonal 0 0 wind) 1 (six 100 100 50 150 100 100) (six 0 0 122 628 50 0 ++ six 0 300 22 108 0 0) ∷
     -- y7-132: counts do not depend on limiters: 2 under 1 and 2, and under 3 and 3
-    reads "y7-132 count zonal" (two first first) (countZonal 0 0 (four (pos 150) (pos 150) (pos 150) (pos 150))) 2 ∷
     moves "y7-132 zonal with count" (two positive (fixed 13107 most)) (zonalWithCount 0 0 2 (four (pos 150) (pos 150) (pos 150) (pos 150))) 2 hundreds (six 0 119 21 131 279 0 ++ six 0 69 123 183 35 0) ∷
     []
 
+-- the last of eight tracers
+abbrev eight : World
+eight = lent (grid 4 1 1 8) hundreds (replicate 48 0) (blocks (replicate 7 first ++ limiter 4 0 0 ∷ []))
+
+abbrev last : List Case
+last =
+    refuses "y7-134 zonal" eight (zonal 0 0 wind) 21 ∷
+    writes "y7-134 load" eight load (blocks (replicate 8 first)) ∷
+    []
+
 pub limiter-cases : List Case
-limiter-cases = rows ++ alone ++ sizes ++ standing ++ given ++ order
+limiter-cases = rows ++ alone ++ sizes ++ standing ++ given ++ order ++ last
 
 pub limiter-cases-hold : Hold limiter-cases
 unfolding limiter-cases blocks times computes

@@ -6,9 +6,8 @@ use mathlib.Core.List.{List, [], _∷_, _++_}
 use mathlib.Core.Path.{refl}
 use lib.IntN.{ℤ, pos, negℤ}
 use lib.ListN.{replicate}
-use Rattle.model.specs.Basic.{joined, tab}
+use Rattle.model.specs.Basic.{joined, tab, zeros}
 use Rattle.model.specs.World.{Grid, World}
-use Rattle.model.specs.Limiters.{freshBlock}
 use Rattle.model.specs.Step.{Call, emission, zonal, remap}
 use Rattle.model.specs.Cases.{Case, Hold, hold, computes}
 
@@ -17,7 +16,7 @@ abbrev pub grid : ℕ → ℕ → ℕ → ℕ → Grid
 grid W R K N = record { W = W; R = R; K = K; N = N }
 
 abbrev pub world : Grid → List ℕ → List ℕ → World
-world g air tracers = record { grid = g; air = air; tracers = tracers; ledger = joined (tab (g .N) (λ t. freshBlock)) }
+world g air tracers = record { grid = g; air = air; tracers = tracers; ledger = joined (tab (g .N) (λ t. zeros 51 ++ 1 ∷ 0 ∷ 0 ∷ 0 ∷ 0 ∷ [])) }
 
 abbrev pub four : {A : Type 0} → A → A → A → A → List A
 four a b c d = a ∷ b ∷ c ∷ d ∷ []

@@ -77,8 +77,8 @@ pub rule-monotone : (w : World) (t : ℕ) → eqb (limiterOf w t .number) presen
 rule-monotone w t e = rw (rule-first (limiterOf w t) (eqb-true (limiterOf w t .number) presentOne e)) mismatch-monotone
 
 -- ---- "D = 0 where q is outside them"
-pub fixed-outside : (lo hi qa q qb : ℕ) → q < lo → fixedRule lo hi qa q qb .size ≡ 0
-fixed-outside lo hi qa q qb h = omega (arith, bounded-below lo hi qa q qb)
+pub fixed-below : (lo hi qa q qb : ℕ) → q < lo → fixedRule lo hi qa q qb .size ≡ 0
+fixed-below lo hi qa q qb h = omega (arith, bounded-below lo hi qa q qb)
 
 pub fixed-above : (lo hi qa q qb : ℕ) → hi < q → fixedRule lo hi qa q qb .size ≡ 0
 fixed-above lo hi qa q qb h = omega (arith, bounded-above lo hi qa q qb)

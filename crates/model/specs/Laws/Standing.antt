@@ -571,12 +571,17 @@ removed-limiter w reached t u id e =
     let sound = reached .blocks u (p .there) in
     block-limiter w reached u (p .there) _ (removed-sound sound id has .many) t (removed-keeps-limiter sound id has)
 
+-- in every world, also in one whose limiters were broken
 pub limiter-given :
-    (w : World) → Reached w → (t number lo hi : ℕ) → step w (setLimiter t number lo hi) .answer ≡ 0 →
+    (w : World) (t number lo hi : ℕ) → step w (setLimiter t number lo hi) .answer ≡ 0 →
     limiterOf (step w (setLimiter t number lo hi) .next) t ≡ record { number = number; lo = lo; hi = hi }
 unfolding ownPlaces
-limiter-given w reached t number lo hi e =
-    let p = limiter-set t number lo hi w (own-passed w (setLimiter t number lo hi) e .1) in
-    let many = reached .blocks t (p .0) .many in
+limiter-given w t number lo hi e =
+    let q = own-passed w (setLimiter t number lo hi) e in
+    let p = limiter-set t number lo hi w (q .1) in
+    let long = q .0 .ledgerLength in
+    let many : length (block w t) ≡ blockNumbers =
+    length-part (w .ledger) (t * blockNumbers) blockNumbers (omega (arith, mul-le-mul-right blockNumbers (p .0))) in
     ap (λ (v : World). limiterOf v t) (step-next w (setLimiter t number lo hi) e .0) ∙
-    ap limiterIn (block-changed w reached t (p .0) _ (length-limiter (block w t) _ many)) ∙ limiter-read (block w t) _ many
+    ap limiterIn (part-rewritten (w .ledger) _ (w .grid .N) blockNumbers t long (length-limiter (block w t) _ many) (p .0)) ∙
+    limiter-read (block w t) _ many

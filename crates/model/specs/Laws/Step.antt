@@ -1,4 +1,4 @@
--- Laws of `step`: the first place that applies, an accepted and a refused call, and what an accepted load tells of a world: none of the refusals 1 to 4 is met there but for a call's own lent list.
+-- Laws of `step`: the first place that applies, an accepted and a refused call, and what an accepted load tells of a world: none of the refusals 1 to 4, nor 21 for what stands, is met there but for a call's own lent list.
 use Prim.Native.Nat.{ℕ, zero, suc, _*_, _≤_, _<_}
 use mathlib.Core.List.{List, [], _∷_, _++_}
 use mathlib.Core.Bool.{Bool, true, false, not, _&&_, and-eq-true-iff, false≢true}

@@ -73,14 +73,14 @@ module _ (w : World) (fits : Fits w) (mesh : Mesh) (a : ℕ) (fluxes : List ℤ)
   swept-cells-air c h = air-bounds (at old c) (old-in c h) .0
 
   -- the swept cells afterwards are the end of the chain
-  swept-air : part (swept w mesh a fluxes n .air) a (mesh .cells) ≡ airAfter mesh fluxes n (part (w .air) a (mesh .cells)) n
+  pub swept-air : part (swept w mesh a fluxes n .air) a (mesh .cells) ≡ airAfter mesh fluxes n (part (w .air) a (mesh .cells)) n
   unfolding swept
   swept-air =
       part-air-is w fits a (mesh .cells) (s .inside) (airAfter mesh fluxes n old n) (λ t had. gasAfter (ruleOf w t) mesh fluxes n old had n)
       (length-air-after mesh fluxes n old old-many n)
       (λ t had e. length-gas-after mesh fluxes n old (ruleOf w t) had e n)
 
-  swept-gas :
+  pub swept-gas :
       (t : ℕ) → t < w .grid .N →
       part (gas (swept w mesh a fluxes n) t) a (mesh .cells) ≡ gasAfter (ruleOf w t) mesh fluxes n (part (w .air) a (mesh .cells)) (part (gas w t) a (mesh .cells)) n
   unfolding swept

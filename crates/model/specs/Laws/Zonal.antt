@@ -56,7 +56,7 @@ pub zonal-sweeps :
 zonal-sweeps k r fluxes w e = own-sweeps k r fluxes w (accepted-passed w (zonal k r fluxes) e .2)
 
 -- .. and where a given count passes 20, it is from 1 to 16 and serves
-given-sweeps :
+pub given-sweeps :
     (k r n : ℕ) (fluxes : List ℤ) (w : World) → firstOf (ownPlaces (zonalWithCount k r n fluxes)) w ≡ 0 →
     Sweeps w (ring (w .grid .W)) (rowStart (w .grid) k r) fluxes n
 unfolding ownPlaces
