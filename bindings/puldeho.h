@@ -184,7 +184,7 @@ enum puldeho_limiter_number {
      * near */
     PULDEHO_LIMITER_POSITIVE = 2,
     /* slopes as steep as keeps the ratio inside a cell between lo and hi; no slope in a cell
-     * whose ratio is outside */
+     * whose ratio is outside. A promise for one substep, not for a run */
     PULDEHO_LIMITER_FIXED = 3
 };
 

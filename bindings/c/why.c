@@ -502,6 +502,11 @@ static void say_standing(struct text *text, const struct puldeho_world *world, s
         say(text, "no tracer has a limiter, as the ledger is all zeros: no load was made; load the world first");
         return;
     }
+    if (limiter.number == 0) {
+        say(text, "tracer %zu has no limiter (number %zu of the ledger is 0): no load was made, or the ledger was overwritten; "
+            "load the world, then add the emitters and set the limiters", tracer, place);
+        return;
+    }
     say(text, "tracer %zu has the limiter %lld", tracer, (long long)limiter.number);
     if (!is_limiter(limiter.number))
         say(text, " (number %zu of the ledger), which is none of 1, 2 and 3", place);

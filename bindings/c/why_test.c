@@ -483,13 +483,15 @@ static void check_emitters(const struct puldeho_world *world, const struct reque
 static void check_limiters(const struct puldeho_world *world, const struct request *r, const char *text)
 {
     struct puldeho_world mended = copy_of(world), loaded = copy_of(world);
-    bool none = strstr(text, "no load was made") != NULL, unknown = strstr(text, "none of 1, 2 and 3") != NULL;
+    bool none = strstr(text, "no tracer has a limiter") != NULL, zero = strstr(text, " has no limiter (") != NULL;
+    bool unknown = zero || strstr(text, "none of 1, 2 and 3") != NULL;
     long long tracer = none ? 0 : number_after(text, "tracer ");
     struct puldeho_limiter had = puldeho_limiter_of(world, (uint32_t)tracer);
     for (size_t i = 0; none && i < puldeho_lent_ledger_length(world); i++)
         if (puldeho_lent_ledger(world)[i] != 0)
             differs("a ledger that is not all zeros", text);
-    if (!none && (number_after(text, " has the limiter ") != had.number || unknown != (had.number < 1 || had.number > 3)))
+    if (!none && ((zero ? 0 : number_after(text, " has the limiter ")) != had.number
+                  || unknown != (had.number < 1 || had.number > 3)))
         differs("the limiter that stands", text);
     if (!none && !unknown && had.lo <= had.hi)
         differs("the bounds of the limiter that stands", text);
@@ -1029,7 +1031,8 @@ static const struct fixed fixed[] = {
      .text = "no tracer has a limiter, as the ledger is all zeros: no load was made; load the world first"},
     {TWO_GASES, .as_given = true, .ledger = {[LIMITER] = 1}, .r = {.name = LONG_ZONAL, .layer = 1, .length = 4},
      .refusal = PULDEHO_REFUSAL_LIMITERS,
-     .text = "tracer 1 has the limiter 0 (number 107 of the ledger), which is none of 1, 2 and 3" WRITTEN},
+     .text = "tracer 1 has no limiter (number 107 of the ledger is 0): no load was made, or the ledger was overwritten; "
+             "load the world, then add the emitters and set the limiters"},
     {CASE_P, .ledger = {[LIMITER] = 4294967295u}, GIVEN_ROW(7, 0, 1048561, 0, 0), .refusal = PULDEHO_REFUSAL_LIMITERS,
      .text = "tracer 0 has the limiter 4294967295 (number 51 of the ledger), which is none of 1, 2 and 3" WRITTEN},
     {TWO_GASES, .ledger = {[OTHER + LIMITER] = 2, 10, 3, 11, 2}, SWEEP_LAYER(0, 0, 0, 0, 0, 0, 0, 0), .refusal = PULDEHO_REFUSAL_LIMITERS,

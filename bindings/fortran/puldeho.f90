@@ -62,7 +62,7 @@ module puldeho
   ! keeps steeper slopes: amounts never fall below 0, but may rise above all that was near
   integer(c_int32_t), parameter, public :: puldeho_limiter_positive = 2
   ! slopes as steep as keeps the ratio inside a cell between lo and hi; no slope in a cell whose ratio is
-  ! outside
+  ! outside. A promise for one substep, not for a run
   integer(c_int32_t), parameter, public :: puldeho_limiter_fixed = 3
 
   integer(c_int32_t), parameter, public :: puldeho_accepted = 0

@@ -70,7 +70,7 @@ class Limiter(enum.IntEnum):
     PRESENT = 1
     # keeps steeper slopes: amounts never fall below 0, but may rise above all that was near
     POSITIVE = 2
-    # slopes as steep as keeps the ratio inside a cell between lo and hi; no slope in a cell whose ratio is outside
+    # slopes as steep as keeps the ratio inside a cell between lo and hi; no slope in a cell whose ratio is outside. A promise for one substep, not for a run
     FIXED = 3
 
 

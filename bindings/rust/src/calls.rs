@@ -201,7 +201,7 @@ pub enum Limiter {
     Present,
     /// Keeps steeper slopes: amounts never fall below 0, but may rise above all that was near
     Positive,
-    /// Slopes as steep as keeps the ratio inside a cell between lo and hi; no slope in a cell whose ratio is outside
+    /// Slopes as steep as keeps the ratio inside a cell between lo and hi; no slope in a cell whose ratio is outside. A promise for one substep, not for a run
     Fixed { lo: u64, hi: u64 },
 }
 

@@ -9,7 +9,7 @@ use native.Mathlib.Omega.{arith}
 use borrow.Author.Tests.{eqb-false, eq-eqb, ne-eqb}
 use lib.Dec.{eqb}
 use Rattle.model.specs.Basic.{at, tab}
-use Rattle.model.specs.Scheme.{ratio, plain}
+use Rattle.model.specs.Scheme.{Mismatch, ratio, plain}
 use Rattle.model.specs.Limiters.{Limiter, ruleFor}
 use Rattle.model.specs.Remap.{layerMismatch, layers}
 use Rattle.model.specs.Laws.Basic.{at-tab, tab-ext}
@@ -34,6 +34,24 @@ module _ (l : Limiter) (cap : Bool) (k : ℕ) (q : List ℕ) (i : ℕ) where
   pub slope-last : suc i ≡ k → plain ≡ slopeAt l cap k q i
   unfolding slopeAt mismatchUnless
   slope-last e = rw (eq-eqb (suc i) k e, or-true (cap || eqb i 0))
+
+-- ---- two limiters of one rule
+module _ (l l' : Limiter) (same : ruleFor l ≡ ruleFor l') (cap : Bool) (k : ℕ) (q : List ℕ) where
+  slope-same : (i : ℕ) → slopeAt l cap k q i ≡ slopeAt l' cap k q i
+  unfolding slopeAt mismatchUnless
+  slope-same i = λ n. elim (cap || eqb i 0 || eqb (suc i) k) [ true ↦ plain | false ↦ same n (at q (i - 1)) (at q i) (at q (suc i)) ]
+
+  pub slopes-same : {size : List ℕ} {rising : List Bool} → AreSlopes l cap k q size rising → AreSlopes l' cap k q size rising
+  slopes-same slopes =
+      record {
+        roomSize = slopes .roomSize;
+        roomRising = slopes .roomRising;
+        all =
+            record {
+              sizes = λ c h. slopes .all .sizes c h ∙ ap (λ (d : Mismatch). d .size) (slope-same c);
+              signs = λ c h. slopes .all .signs c h ∙ ap (λ (d : Mismatch). d .positive) (slope-same c);
+            };
+      }
 
 -- ---- the model's layers
 module _
