@@ -1,2 +1,3 @@
 pub mod Chosen
 pub mod OneSubstep
+pub mod Cases
