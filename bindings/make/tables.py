@@ -209,12 +209,14 @@ def read_limits():
 
 
 def read_limiters():
-    """The table of the limiters, numbered from 1 on."""
-    limiters = []
+    """The table of the limiters, numbered from 1 on, as crates/units has their numbers."""
+    numbers, limiters = unit_numbers(), []
     for number, name, bounds, what in rows("bindings/limiters.txt", 4):
         limiter = Limiter(int(number), name, [] if bounds == "-" else bounds.split(", "), what)
         if limiter.number != len(limiters) + 1 or not set(limiter.bounds) <= {bound for bound, _ in LIMITER[1:]}:
             sys.exit("bindings/limiters.txt: %s: the numbers are 1, 2 and so on, and the bounds lo and hi" % name)
+        if numbers.get(name.upper() + "_LIMITER") != number:
+            sys.exit("bindings/limiters.txt: %s has another number than in crates/units/src/lib.rt" % name)
         limiters.append(limiter)
     return limiters
 

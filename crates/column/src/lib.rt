@@ -17,6 +17,7 @@ use scheme::mismatch;
 use units::AirSum;
 use units::Limiter;
 use units::Mismatch;
+use units::PRESENT_LIMITER;
 use units::TABLE_LIMIT;
 use units::TABLE_SCALE;
 
@@ -103,9 +104,9 @@ fn fill_slopes(l: Limiter, q: &[u64], cap: bool, k: usize, size: &mut [u64], ris
     requires { ⌜ SlopesNeed k (now q) (now size) (now rising) ⌝ }
     ensures { λ r. ⌜ AreSlopes (limiterOf l) cap k (now (q .entry)) (now (size .exit)) (now (rising .exit)) ⌝ }
 {
-    if l.number == 1 {
+    if l.number == PRESENT_LIMITER {
         let first = Limiter {
-            number: 1,
+            number: PRESENT_LIMITER,
             lo: 0,
             hi: 0,
         };

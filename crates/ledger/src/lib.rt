@@ -10,10 +10,12 @@ ghost use Rattle.model.specs.Basic.{zeros, part, tab, joined, sum, every};
 ghost use Rattle.model.specs.Emitters.{standing, emitterId, emitterCell, emitterUnits, keptUnits, hasId, recordFits, withHead, withEmitter, emitterAdded, removedAt};
 ghost use Rattle.model.specs.Limiters.{freshBlock};
 ghost use Rattle.ledger.specs.Block.{Entries, Searched, Kept};
+use limiters::joined;
 use limiters::write_limiter;
 use units::LEDGER_BLOCK;
 use units::Limiter;
 use units::MOST_EMITTERS;
+use units::PRESENT_LIMITER;
 
 // Writes 0 over a whole list.
 pub fn clear(list: &mut [u32])
@@ -35,7 +37,7 @@ fn renew_block(block: &mut [u32])
     write_limiter(
         block,
         Limiter {
-            number: 1,
+            number: PRESENT_LIMITER,
             lo: 0,
             hi: 0,
         },
@@ -81,7 +83,7 @@ pub fn kept_units(block: &[u32]) -> u64
     requires { ⌜ length (now block) ≡ blockNumbers ⌝ }
     ensures { λ r. ⌜ r ≡ keptUnits (now (block .entry)) ⌝ }
 {
-    wide(block[1]) + 4294967296 * wide(block[2])
+    joined(block[1], block[2])
 }
 
 // The sum of the units of the first n emitters.

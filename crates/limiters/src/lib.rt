@@ -6,12 +6,14 @@ ghost use Rattle.model.specs.Limits.{blockNumbers};
 ghost use Rattle.model.specs.Basic.{every};
 ghost use Rattle.model.specs.Limiters.{limiterFits, limiterIn, withLimiter};
 ghost use Rattle.units.specs.Limiter.{limiterOf, limiterAt};
+use units::FIXED_LIMITER;
 use units::LEDGER_BLOCK;
 use units::LIMITER_PLACE;
 use units::Limiter;
+use units::PRESENT_LIMITER;
 
 // A number of 64 bits from its halves.
-fn joined(low: u32, high: u32) -> u64
+pub fn joined(low: u32, high: u32) -> u64
     ensures { λ r. ⌜ r ≡ low + 4294967296 * high ⌝ }
 {
     (low as u64) + 4294967296 * (high as u64)
@@ -42,7 +44,7 @@ pub fn limiter_at(ledger: &[u32], t: usize) -> Limiter
 pub fn limiter_fits(l: Limiter) -> bool
     ensures { λ r. ⌜ r ≡ limiterFits (limiterOf l) ⌝ }
 {
-    (1 <= l.number) & (l.number <= 3) & (l.lo <= l.hi)
+    (PRESENT_LIMITER <= l.number) & (l.number <= FIXED_LIMITER) & (l.lo <= l.hi)
 }
 
 // Whether the limiters of the first n tracers are.

@@ -5,17 +5,14 @@ ghost use Rattle.units.specs.Limiter.{limiterOf};
 ghost use Rattle.scheme.specs.Leaves.{mismatchOf, halfLimit, IsMismatch, Giver, IsPiece, IsSplit, IsFluxPart};
 ghost use Rattle.model.specs.Scheme as model;
 use units::Air;
+use units::FIXED_LIMITER;
 use units::Limiter;
 use units::Mismatch;
+use units::POSITIVE_LIMITER;
 use units::SCALE;
 use units::Tracer;
 
 const TWICE_SCALE: u64 = 2 * SCALE;
-
-// Two of the three limiters; any other number is taken for the first, the present one.
-const POSITIVE: u32 = 2;
-
-const FIXED: u32 = 3;
 
 // What passes a face towards its high side and towards its low side; one of the two is 0.
 pub struct Flux {
@@ -66,14 +63,14 @@ fn between(low: u64, q: u64, high: u64) -> u64
 }
 
 // Half of a mismatch's limit: by the positive limiter the ratio itself, by the fixed one its distance to the nearer bound, by the
-// present one that to the nearer of its neighbours.
+// first one, and by any other number, that to the nearer of its neighbours.
 fn half_limit(l: Limiter, low: u64, q: u64, high: u64) -> u64
     ensures { λ r. ⌜ r ≡ halfLimit (limiterOf l) low q high ⌝ }
 {
-    if l.number == POSITIVE {
+    if l.number == POSITIVE_LIMITER {
         return q;
     }
-    if l.number == FIXED {
+    if l.number == FIXED_LIMITER {
         return between(l.lo, q, l.hi);
     }
     between(low, q, high)

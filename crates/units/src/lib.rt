@@ -44,6 +44,12 @@ pub const LEDGER_BLOCK: usize = 56; // numbers of the ledger for each tracer
 
 pub const LIMITER_PLACE: usize = 51; // where its limiter stands in them
 
+pub const PRESENT_LIMITER: u32 = 1; // a limiter's number, as set_limiter takes it
+
+pub const POSITIVE_LIMITER: u32 = 2;
+
+pub const FIXED_LIMITER: u32 = 3;
+
 pub const PROGRAM_CELLS: usize = 2048; // of the largest world that the runner program takes
 
 pub const PROGRAM_TRACERS: usize = 2;
