@@ -14,9 +14,10 @@ enum { MOST_W = 72, MOST_K = 32, MOST_N = 8, MOST_LAYER = 3170, MOST_FACES = 324
 /* The scale of ratio, mismatch and piece, and that of a table's b. */
 enum { SCALE = 262144, TABLE_SCALE = 65536 };
 /* A tracer's block of the ledger: how many emitters stand, the low and the high half of their units a tick, 16 times id,
- * cell, units; then its limiter's number, and the low and the high half of lo and of hi. */
+ * cell, units; then its limiter's number, and the low and the high half of lo and of hi; then what was loaded, emitted
+ * and withdrawn. */
 enum { MOST_EMITTERS = 16, EMITTER = 3, SUM = 1, FIRST_EMITTER = 3, LIMITER = FIRST_EMITTER + MOST_EMITTERS * EMITTER };
-enum { LO = LIMITER + 1, HI = LO + 2, BLOCK = HI + 2 };
+enum { LO = LIMITER + 1, HI = LO + 2, LOADED = HI + 2, EMITTED, WITHDRAWN, BLOCK };
 enum { PRESENT = 1, POSITIVE = 2, FIXED = 3 };
 #define MOST_TOTAL 268435455u
 /* Twice the largest ratio, that of all of a tracer in a cell with one unit of air. */
@@ -104,6 +105,30 @@ static uint32_t common_places(world *g, uint32_t w, uint32_t r, uint32_t k, uint
             return refused(place);                                                                                    \
     } while (0)
 
+/* The books. */
+
+/* Place 22 of every call but a load, by the totals of place 4: 0 where it refuses. */
+static int books_fit(const world *g, const uint32_t *ledger)
+{
+    for (size_t t = 0; t < g->n; t++) {
+        const uint32_t *block = ledger + t * BLOCK;
+        if ((uint64_t)block[LOADED] + block[EMITTED] != block[WITHDRAWN] + g->totals[t])
+            return 0;
+    }
+    return 1;
+}
+
+/* Whether a sum of the books takes an amount more. */
+static int sum_takes(uint32_t sum, uint64_t amount) { return amount <= UINT32_MAX - sum; }
+
+/* Places 1 to 4, then 22. */
+#define TESTED_PLACES(g, lent, lent_length)                                                                           \
+    do {                                                                                                              \
+        COMMON_PLACES(g, lent, lent_length);                                                                          \
+        if (!books_fit(g, ledger))                                                                                    \
+            return refused(22);                                                                                       \
+    } while (0)
+
 /* Numbers of 64 bits in the ledger: the low half, then the high half. */
 
 static uint64_t kept(const uint32_t *halves) { return (uint64_t)halves[1] << 32 | halves[0]; }
@@ -142,6 +167,8 @@ static int limiters_fit(world *g, const uint32_t *ledger)
         COMMON_PLACES(g, lent, lent_length);                                                                          \
         if (!limiters_fit(g, ledger))                                                                                 \
             return refused(21);                                                                                       \
+        if (!books_fit(g, ledger))                                                                                    \
+            return refused(22);                                                                                       \
     } while (0)
 
 uint64_t CALL(set_limiter)(uint32_t w, uint32_t r, uint32_t k, uint32_t n, const uint32_t *air, size_t air_length,
@@ -149,7 +176,7 @@ uint64_t CALL(set_limiter)(uint32_t w, uint32_t r, uint32_t k, uint32_t n, const
                            uint32_t tracer, uint32_t number, uint64_t lo, uint64_t hi)
 {
     world g;
-    COMMON_PLACES(&g, NOTHING, 0);
+    TESTED_PLACES(&g, NOTHING, 0);
     if (tracer >= g.n)
         return refused(5);
     if (!limiter_fits(number, lo, hi))
@@ -167,8 +194,10 @@ uint64_t CALL(load)(uint32_t w, uint32_t r, uint32_t k, uint32_t n, const uint32
     world g;
     COMMON_PLACES(&g, NOTHING, 0);
     memset(ledger, 0, ledger_length * sizeof *ledger);
-    for (size_t t = 0; t < g.n; t++)
+    for (size_t t = 0; t < g.n; t++) {
         ledger[t * BLOCK + LIMITER] = PRESENT;
+        ledger[t * BLOCK + LOADED] = (uint32_t)g.totals[t];
+    }
     return 0;
 }
 
@@ -177,8 +206,7 @@ uint64_t CALL(total)(uint32_t w, uint32_t r, uint32_t k, uint32_t n, const uint3
                      uint32_t tracer)
 {
     world g;
-    (void)ledger;
-    COMMON_PLACES(&g, NOTHING, 0);
+    TESTED_PLACES(&g, NOTHING, 0);
     return tracer < g.n ? g.totals[tracer] : refused(5);
 }
 
@@ -187,41 +215,41 @@ uint64_t CALL(cell)(uint32_t w, uint32_t r, uint32_t k, uint32_t n, const uint32
                     uint32_t tracer, uint32_t cell)
 {
     world g;
-    (void)ledger;
-    COMMON_PLACES(&g, NOTHING, 0);
+    TESTED_PLACES(&g, NOTHING, 0);
     if (tracer >= g.n || cell >= g.cells)
         return refused(5);
     return tracers[tracer * g.cells + cell];
 }
 
 uint64_t CALL(emission)(uint32_t w, uint32_t r, uint32_t k, uint32_t n, const uint32_t *air, size_t air_length,
-                        uint32_t *tracers, size_t tracers_length, const uint32_t *ledger, size_t ledger_length,
+                        uint32_t *tracers, size_t tracers_length, uint32_t *ledger, size_t ledger_length,
                         uint32_t tracer, uint32_t cell, uint32_t amount)
 {
     world g;
-    (void)ledger;
-    COMMON_PLACES(&g, NOTHING, 0);
+    TESTED_PLACES(&g, NOTHING, 0);
     if (tracer >= g.n || cell >= g.cells)
         return refused(5);
-    if (g.totals[tracer] + amount > MOST_TOTAL)
+    uint32_t *emitted = &ledger[tracer * BLOCK + EMITTED];
+    if (g.totals[tracer] + amount > MOST_TOTAL || !sum_takes(*emitted, amount))
         return refused(6);
     tracers[tracer * g.cells + cell] += amount;
+    *emitted += amount;
     return 0;
 }
 
 uint64_t CALL(withdrawal)(uint32_t w, uint32_t r, uint32_t k, uint32_t n, const uint32_t *air, size_t air_length,
-                          uint32_t *tracers, size_t tracers_length, const uint32_t *ledger, size_t ledger_length,
+                          uint32_t *tracers, size_t tracers_length, uint32_t *ledger, size_t ledger_length,
                           uint32_t tracer, uint32_t cell, uint32_t amount)
 {
     world g;
-    (void)ledger;
-    COMMON_PLACES(&g, NOTHING, 0);
+    TESTED_PLACES(&g, NOTHING, 0);
     if (tracer >= g.n || cell >= g.cells)
         return refused(5);
-    uint32_t *place = &tracers[tracer * g.cells + cell];
-    if (amount > *place)
+    uint32_t *place = &tracers[tracer * g.cells + cell], *withdrawn = &ledger[tracer * BLOCK + WITHDRAWN];
+    if (amount > *place || !sum_takes(*withdrawn, amount))
         return refused(7);
     *place -= amount;
+    *withdrawn += amount;
     return 0;
 }
 
@@ -727,7 +755,7 @@ uint64_t CALL(add_emitter)(uint32_t w, uint32_t r, uint32_t k, uint32_t n, const
                            uint32_t tracer, uint32_t cell, uint32_t id, uint32_t units)
 {
     world g;
-    COMMON_PLACES(&g, NOTHING, 0);
+    TESTED_PLACES(&g, NOTHING, 0);
     if (!emitters_fit(&g, ledger, tracer) || cell >= g.cells)
         return refused(5);
     uint32_t *block = ledger + (size_t)tracer * BLOCK;
@@ -745,7 +773,7 @@ uint64_t CALL(remove_emitter)(uint32_t w, uint32_t r, uint32_t k, uint32_t n, co
                               uint32_t tracer, uint32_t id)
 {
     world g;
-    COMMON_PLACES(&g, NOTHING, 0);
+    TESTED_PLACES(&g, NOTHING, 0);
     if (!emitters_fit(&g, ledger, tracer))
         return refused(5);
     uint32_t *block = ledger + (size_t)tracer * BLOCK;
@@ -761,21 +789,22 @@ uint64_t CALL(remove_emitter)(uint32_t w, uint32_t r, uint32_t k, uint32_t n, co
 }
 
 uint64_t CALL(tick)(uint32_t w, uint32_t r, uint32_t k, uint32_t n, const uint32_t *air, size_t air_length,
-                    uint32_t *tracers, size_t tracers_length, const uint32_t *ledger, size_t ledger_length,
-                    uint32_t tracer)
+                    uint32_t *tracers, size_t tracers_length, uint32_t *ledger, size_t ledger_length, uint32_t tracer)
 {
     world g;
-    COMMON_PLACES(&g, NOTHING, 0);
+    TESTED_PLACES(&g, NOTHING, 0);
     if (!emitters_fit(&g, ledger, tracer))
         return refused(5);
-    const uint32_t *block = ledger + (size_t)tracer * BLOCK;
-    if (g.totals[tracer] + kept(block + SUM) > MOST_TOTAL)
+    uint32_t *block = ledger + (size_t)tracer * BLOCK;
+    uint64_t units = kept(block + SUM);
+    if (g.totals[tracer] + units > MOST_TOTAL || !sum_takes(block[EMITTED], units))
         return refused(6);
     uint32_t *gas = tracers + tracer * g.cells;
     for (uint32_t i = 0; i < block[0]; i++) {
         const uint32_t *emitter = block + FIRST_EMITTER + EMITTER * i;
         gas[emitter[1]] += emitter[2];
     }
+    block[EMITTED] += (uint32_t)units;
     return 0;
 }
 
@@ -788,6 +817,8 @@ uint32_t CALL(units_a_tick)(uint32_t w, uint32_t r, uint32_t k, uint32_t n, cons
     uint32_t place = common_places(&g, w, r, k, n, air, air_length, tracers, tracers_length, ledger_length, NOTHING, 0);
     if (place != 0)
         return place;
+    if (!books_fit(&g, ledger))
+        return 22;
     return emitters_fit(&g, ledger, tracer) ? 0 : 5;
 }
 
@@ -798,7 +829,7 @@ uint64_t CALL(units_a_tick_number)(uint32_t w, uint32_t r, uint32_t k, uint32_t 
 {
     world g;
     uint32_t place = common_places(&g, w, r, k, n, air, air_length, tracers, tracers_length, ledger_length, NOTHING, 0);
-    if (place != 0 || !emitters_fit(&g, ledger, tracer))
+    if (place != 0 || !books_fit(&g, ledger) || !emitters_fit(&g, ledger, tracer))
         return 0;
     return kept(ledger + (size_t)tracer * BLOCK + SUM);
 }

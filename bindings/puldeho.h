@@ -1,5 +1,5 @@
 /*
- * Puldeho, the transport core of the tracer console, for C (C99 or later) and C++: version 0.7.0.
+ * Puldeho, the transport core of the tracer console, for C (C99 or later) and C++: version 0.8.0.
  * Made by tools/bindings from the tables of bindings/: not to be edited.
  *
  * To compile and link, on x86-64 Linux: cc program.c $(pkg-config --cflags --libs puldeho)
@@ -17,7 +17,7 @@
  *
  * What a call gives: PULDEHO_ACCEPTED, which is 0, or the first refusal that applies. (So a true value
  * is a refusal: do not keep it in a bool called ok.) A refused call changes nothing: neither air nor
- * tracers nor emitters nor limiters. A count, where a call has one, is written to the last argument, 0 if the call
+ * tracers nor emitters nor limiters nor books. A count, where a call has one, is written to the last argument, 0 if the call
  * is refused; that pointer may be null.
  *
  * What is assumed of pointers:
@@ -27,12 +27,13 @@
  * - a list that is written shares no memory with another list of the same call;
  * - nobody else writes a lent list during the call, or reads one that is written.
  * Nothing is assumed of the numbers: any are answered. The library keeps nothing
- * between calls, and each call tests the whole world before it does anything (of the ledger the emitters
- * only in the four calls on emitters, the limiters only in the calls that move air and in
- * puldeho_count_zonal). Several threads may call it at once, each with a world of its own; a list that is
- * only read may be shared. Between calls you may read the lists. If you write into them, load again: what
- * is promised of a run counts from there, no emitter stands then, every tracer has limiter 1, and later
- * versions, which keep books of each gas, refuse other calls until then.
+ * between calls, and each call tests the whole world before it does anything (of the ledger the books in
+ * every call but a load, the emitters only in the four calls on emitters, the limiters only in the calls
+ * that move air and in puldeho_count_zonal). Several threads may call it at once, each with a world of its
+ * own; a list that is only read may be shared. Between calls you may read the lists. If you write into
+ * them, load again: what is promised of a run counts from there, no emitter stands then, every tracer has
+ * limiter 1, and its book begins anew. Until then calls are refused with 22 if the cells of some tracer do
+ * not sum to what its book says. Changes that cancel each other, and changed air, are not noticed so.
  * Names that begin with puldeho or PULDEHO are the library's. Take sizes and limits by their names: they may grow.
  *
  * Which version has which scale: ratios, mismatches and pieces have the scale 262,144 (PULDEHO_SCALE) from
@@ -43,23 +44,23 @@
  *
  * What is assumed of the stack: that it has room for the call, PULDEHO_STACK bytes or, of the proved
  * function under each call (return address and libc's functions included, arguments not):
- *   puldeho_raw_load                      384
- *   puldeho_raw_emission                  480
- *   puldeho_raw_withdrawal                416
+ *   puldeho_raw_load                      432
+ *   puldeho_raw_emission                  816
+ *   puldeho_raw_withdrawal                736
  *   puldeho_raw_zonal                  25,760
  *   puldeho_raw_count_zonal            17,552
  *   puldeho_raw_zonal_with_count       25,760
  *   puldeho_raw_long_zonal             18,672
  *   puldeho_raw_meridional             93,952
  *   puldeho_raw_remap                  17,856
- *   puldeho_raw_total                     448
- *   puldeho_raw_cell                      416
- *   puldeho_raw_add_emitter               736
- *   puldeho_raw_remove_emitter            720
- *   puldeho_raw_tick                      736
- *   puldeho_raw_units_a_tick              688
- *   puldeho_raw_units_a_tick_number       704
- *   puldeho_raw_set_limiter               384
+ *   puldeho_raw_total                     768
+ *   puldeho_raw_cell                      736
+ *   puldeho_raw_add_emitter             1,056
+ *   puldeho_raw_remove_emitter          1,040
+ *   puldeho_raw_tick                    1,056
+ *   puldeho_raw_units_a_tick            1,008
+ *   puldeho_raw_units_a_tick_number     1,024
+ *   puldeho_raw_set_limiter               704
  * A function puldeho_why_NAME wants at most PULDEHO_WHY_STACK bytes.
  */
 #ifndef PULDEHO_H
@@ -69,11 +70,11 @@
 #include <stdint.h>
 #include <string.h>
 
-#define PULDEHO_VERSION "0.7.0"
+#define PULDEHO_VERSION "0.8.0"
 #define PULDEHO_VERSION_MAJOR 0
-#define PULDEHO_VERSION_MINOR 7
+#define PULDEHO_VERSION_MINOR 8
 #define PULDEHO_VERSION_PATCH 0
-#define PULDEHO_ABI puldeho_abi_0_7
+#define PULDEHO_ABI puldeho_abi_0_8
 
 /* the scale of ratios, mismatches and pieces, in which set_limiter takes its bounds: 262144
  * from version 0.6 on, and 65536 before. Builds whose scales differ may give other amounts */
@@ -82,6 +83,9 @@
 #define PULDEHO_AIR_LIMIT 65535
 /* the most units of a tracer in all cells together */
 #define PULDEHO_TOTAL_LIMIT 268435455
+/* the most units of a tracer that its book has as emitted, or as withdrawn, since the
+ * load */
+#define PULDEHO_SUM_LIMIT 4294967295
 /* the largest size of a flux of a zonal or a long zonal sweep */
 #define PULDEHO_ZONAL_LIMIT 1048560
 /* the largest size of a flux of a meridional sweep */
@@ -104,7 +108,7 @@
 #define PULDEHO_MOST_EMITTERS 16
 /* how many numbers of the ledger each tracer has; tracer t's block starts at t times this
  * number. Later versions have more */
-#define PULDEHO_LEDGER_BLOCK 56
+#define PULDEHO_LEDGER_BLOCK 59
 
 /* The deepest stack of all calls, in bytes, and room enough for each function that says why one was refused. */
 #define PULDEHO_STACK 93952
@@ -145,9 +149,10 @@ enum puldeho_refusal {
      * units_a_tick also: in the ledger some tracer has more than 16 emitters, an emitter in an
      * absent cell, an id twice or a false sum */
     PULDEHO_REFUSAL_INDEX = 5,
-    /* the total would pass 268,435,455 */
+    /* the total would pass 268,435,455, or the tracer's emitted sum 4,294,967,295 */
     PULDEHO_REFUSAL_EMISSION = 6,
-    /* the cell has less than the amount */
+    /* the cell has less than the amount, or the tracer's withdrawn sum would pass
+     * 4,294,967,295 */
     PULDEHO_REFUSAL_WITHDRAWAL = 7,
     /* a flux's size is above 1,048,560 (zonal) or 65,535 (meridional) */
     PULDEHO_REFUSAL_FLUXES = 8,
@@ -171,7 +176,9 @@ enum puldeho_refusal {
     /* the given count differs from the smallest that serves */
     PULDEHO_REFUSAL_GIVEN_COUNT = 20,
     /* a tracer's limiter is none of 1, 2 and 3, or its lo exceeds its hi */
-    PULDEHO_REFUSAL_LIMITERS = 21
+    PULDEHO_REFUSAL_LIMITERS = 21,
+    /* a tracer's loaded + emitted - withdrawn is not the sum of its cells */
+    PULDEHO_REFUSAL_BOOKS = 22
 };
 
 /* The limiters, as puldeho_set_limiter takes them; section 12 of the guide says when to use which. Later versions may
@@ -205,9 +212,9 @@ static inline const char *puldeho_refusal_text(enum puldeho_refusal refusal)
     case PULDEHO_REFUSAL_INDEX:
         return "the tracer, cell, layer or row is absent; in add_emitter, remove_emitter, tick and units_a_tick also: in the ledger some tracer has more than 16 emitters, an emitter in an absent cell, an id twice or a false sum";
     case PULDEHO_REFUSAL_EMISSION:
-        return "the total would pass 268,435,455";
+        return "the total would pass 268,435,455, or the tracer's emitted sum 4,294,967,295";
     case PULDEHO_REFUSAL_WITHDRAWAL:
-        return "the cell has less than the amount";
+        return "the cell has less than the amount, or the tracer's withdrawn sum would pass 4,294,967,295";
     case PULDEHO_REFUSAL_FLUXES:
         return "a flux's size is above 1,048,560 (zonal) or 65,535 (meridional)";
     case PULDEHO_REFUSAL_ZONAL:
@@ -230,6 +237,8 @@ static inline const char *puldeho_refusal_text(enum puldeho_refusal refusal)
         return "the given count differs from the smallest that serves";
     case PULDEHO_REFUSAL_LIMITERS:
         return "a tracer's limiter is none of 1, 2 and 3, or its lo exceeds its hi";
+    case PULDEHO_REFUSAL_BOOKS:
+        return "a tracer's loaded + emitted - withdrawn is not the sum of its cells";
     }
     return "no refusal of this version";
 }
@@ -251,9 +260,9 @@ static inline const char *puldeho_refusal_remedy(enum puldeho_refusal refusal)
     case PULDEHO_REFUSAL_INDEX:
         return "count from 0, and take cell numbers from the grid's functions for cells and caps; if the ledger is at fault, load the world again, which leaves no emitter standing, and add the emitters anew";
     case PULDEHO_REFUSAL_EMISSION:
-        return "correct an amount that is wrong, and remove an emitter whose units are wrong; else load the gas in a larger unit, with room for all emissions and ticks of the run, and add its emitters anew, with their units in the larger unit";
+        return "correct an amount that is wrong, and remove an emitter whose units are wrong; else load the gas in a larger unit, with room for all emissions and ticks of the run, and add its emitters anew, with their units in the larger unit; if the emitted sum is full, read the book and load again, which begins the sums anew, then add the emitters and set the limiters anew";
     case PULDEHO_REFUSAL_WITHDRAWAL:
-        return "read the cell first, and withdraw at most what it has";
+        return "read the cell first, and withdraw at most what it has; if the withdrawn sum is full, read the book and load again, which begins the sums anew, then add the emitters and set the limiters anew";
     case PULDEHO_REFUSAL_FLUXES:
         return "give fluxes in units of air for this step, and divide the step if they are still too large";
     case PULDEHO_REFUSAL_ZONAL:
@@ -276,6 +285,8 @@ static inline const char *puldeho_refusal_remedy(enum puldeho_refusal refusal)
         return "see that layer, row and fluxes are those that were counted; then count again with count_zonal, look at the new count, and give that";
     case PULDEHO_REFUSAL_LIMITERS:
         return "load the world before other calls, and again if the ledger was written by anything but calls, then add the emitters and set the limiters anew; give set_limiter 1, 2 or 3, and lo and hi as mixing ratios times 262,144, lo at most hi (with 1 and 2 both 0)";
+    case PULDEHO_REFUSAL_BOOKS:
+        return "load the world before other calls, and again after anything but calls wrote into tracers or ledger: what the cells have then is the loaded amount, and emitters and limiters must be set anew; to go back to a kept state, bring back tracers and ledger together";
     }
     return "compile the program anew, with the header of the library that it is linked with";
 }
@@ -305,13 +316,14 @@ static inline size_t puldeho_tracers_length(struct puldeho_grid grid)
     return (size_t)grid.n * (size_t)grid.k * puldeho_cells_in_layer(grid);
 }
 
-/* The length of ledger: N*56. In it: the emitters and the limiter, a block for each tracer:
- * at its place 0 how many emitters stand, at 1 and 2 the sum of their units, low and high 32
- * bits, from 3 on id, cell and units of each, at 51 the limiter, at 52 and 53 its lo and at 54
- * and 55 its hi, low and high 32 bits. */
+/* The length of ledger: N*59. In it: the emitters, the limiter and the book, a block for
+ * each tracer: at its place 0 how many emitters stand, at 1 and 2 the sum of their units, low
+ * and high 32 bits, from 3 on id, cell and units of each, at 51 the limiter, at 52 and 53 its
+ * lo and at 54 and 55 its hi, low and high 32 bits, at 56 what was loaded, at 57 what was
+ * emitted and at 58 what was withdrawn. */
 static inline size_t puldeho_ledger_length(struct puldeho_grid grid)
 {
-    return (size_t)grid.n * 56;
+    return (size_t)grid.n * 59;
 }
 
 /* The length of fluxes of a zonal call: W. In it: flux i crosses the face from column i to
@@ -402,9 +414,10 @@ static inline uint32_t puldeho_north_cap(struct puldeho_grid grid, uint32_t laye
  * - load each world, once it is made, before any other call;
  * - load again when you have written into its lists or set its fields, before the next call;
  * - make all calls on the one struct, by its address: a copy of the struct is neither the same world nor
- *   a second one. It may be moved, as by a function that returns it. puldeho_copy copies a state.
+ *   a second one; what is emitted through one of them is not in the other's book (22). It may be moved, as
+ *   by a function that returns it. puldeho_copy copies a state.
  *
- * The ledger holds the emitters that stand and the limiters. A program need not know of it: where `ledger` is null,
+ * The ledger holds the emitters that stand, the limiters and the books. A program need not know of it: where `ledger` is null,
  * the world has one of its own, in the struct. To keep it elsewhere, set `ledger` to puldeho_ledger_length(grid) numbers
  * and `ledger_length` to that length before the load; the load writes all of it. Tracer t's block of numbers starts at
  * t*PULDEHO_LEDGER_BLOCK. In it stand at
@@ -413,14 +426,18 @@ static inline uint32_t puldeho_north_cap(struct puldeho_grid grid, uint32_t laye
  *   3 + 3*i, 4 + 3*i, 5 + 3*i  id, cell and units a tick of emitter i, counted from 0
  *   51                         the limiter's number, one of enum puldeho_limiter_number
  *   52 and 53, 54 and 55       its bounds lo and hi, of each the low and the high 32 bits
+ *   56, 57, 58                 the book: units loaded, and emitted and withdrawn since the load
  * A new emitter comes after the last. In place of a removed one comes the last one, whose place becomes 0, 0, 0. A load
- * leaves limiter 1 in each block, and 0 everywhere else; before the first load a world's own ledger is all zeros.
+ * leaves in each block limiter 1 and the tracer's total as loaded, and 0 everywhere else; before the first load a world's
+ * own ledger is all zeros.
  * So two programs that make the same calls have the same ledger, number for number.
- * Read it with puldeho_lent_ledger, a limiter with puldeho_limiter_of. Only calls may write it. The four calls on emitters
- * refuse with 5 a ledger in which some tracer has more emitters than that, one in an absent cell, an id twice or a false
- * sum. The calls that move air and puldeho_count_zonal refuse with 21 one in which some tracer's limiter is unknown or its
- * lo above its hi. No other call looks into it. To keep emitters and limiters in a file, keep what stands in each block; to
- * bring them back, load, add the emitters again in the same order, and set the limiters: the ledger is then the same.
+ * Read it with puldeho_lent_ledger, a limiter with puldeho_limiter_of, a book with puldeho_book_of. Only calls may write
+ * it. Every call but a load refuses with 22 a ledger in which some tracer's loaded + emitted - withdrawn is not the sum of
+ * its cells. The four calls on emitters refuse with 5 one in which some tracer has more emitters than that, one in an
+ * absent cell, an id twice or a false sum; the calls that move air and puldeho_count_zonal refuse with 21 one in which
+ * some tracer's limiter is unknown or its lo above its hi. To keep emitters and limiters in a file, keep what stands in
+ * each block; to bring them back, load, add the emitters again in the same order, and set the limiters: the ledger is then
+ * the same, but for the books, which begin anew.
  * Later versions have further numbers at the end of each block and after all blocks: take lengths and starts of
  * blocks from the functions and names above, and do not count on those of this version. */
 struct puldeho_world {
@@ -431,13 +448,14 @@ struct puldeho_world {
     /* the amounts of every tracer; tracer t starts at t*K*C: N*K*C numbers */
     uint32_t *tracers;
     size_t tracers_length;
-    /* the emitters and the limiter, a block for each tracer: at its place 0 how many
-     * emitters stand, at 1 and 2 the sum of their units, low and high 32 bits, from 3 on id,
-     * cell and units of each, at 51 the limiter, at 52 and 53 its lo and at 54 and 55 its hi,
-     * low and high 32 bits: N*56 numbers; null and 0: the world's own, below */
+    /* the emitters, the limiter and the book, a block for each tracer: at its place 0 how
+     * many emitters stand, at 1 and 2 the sum of their units, low and high 32 bits, from 3 on
+     * id, cell and units of each, at 51 the limiter, at 52 and 53 its lo and at 54 and 55 its
+     * hi, low and high 32 bits, at 56 what was loaded, at 57 what was emitted and at 58 what
+     * was withdrawn: N*59 numbers; null and 0: the world's own, below */
     uint32_t *ledger;
     size_t ledger_length;
-    uint32_t own_ledger[448];
+    uint32_t own_ledger[472];
 };
 
 /* The world of a grid and lent lists; each length is how many numbers the list has. It reads none of them, so they may
@@ -462,7 +480,7 @@ static inline struct puldeho_world puldeho_world_over(
 static inline size_t puldeho_own_ledger_length(struct puldeho_grid grid)
 {
     size_t wanted = puldeho_ledger_length(grid);
-    return wanted < 448 ? wanted : 448;
+    return wanted < 472 ? wanted : 472;
 }
 
 /* How many numbers of ledger are lent: those of the list that was set, or of the world's own. */
@@ -496,6 +514,29 @@ static inline struct puldeho_limiter puldeho_limiter_of(const struct puldeho_wor
         limiter.hi = (uint64_t)numbers[4] << 32 | numbers[3];
     }
     return limiter;
+}
+
+/* A tracer's book, in units: what the load found in all its cells, and what was emitted (ticks included) and withdrawn since
+ * then. In the ledger the sums have 32 bits; here they have 64 with a sign, so that they can be added and subtracted. */
+struct puldeho_book {
+    int64_t loaded, emitted, withdrawn;
+};
+
+/* The book of a tracer as it stands in the ledger; all three are -1 if the world has no such tracer, and 0 before the first
+ * load. Reading does not test it. Make a call of puldeho_total for any tracer before or after it: if that is accepted, every
+ * tracer's total is loaded + emitted - withdrawn; if not, it is refused with 22. */
+PULDEHO_NOT_NULL(1)
+static inline struct puldeho_book puldeho_book_of(const struct puldeho_world *world, uint32_t tracer)
+{
+    struct puldeho_book book = {-1, -1, -1};
+    size_t place = (size_t)tracer * PULDEHO_LEDGER_BLOCK + 56;
+    if (tracer < world->grid.n && place + 3 <= puldeho_lent_ledger_length(world)) {
+        const uint32_t *numbers = puldeho_lent_ledger(world) + place;
+        book.loaded = numbers[0];
+        book.emitted = numbers[1];
+        book.withdrawn = numbers[2];
+    }
+    return book;
 }
 
 /* Copies a world's state, all its lists, the ledger and whatever a later version adds, into another world over lists of
@@ -537,17 +578,18 @@ static inline enum puldeho_refusal puldeho_copy(struct puldeho_world *to, const 
 
 /*
  * Tests the grid and the lists air and tracers, which are the world from then on, and changes
- * no number in them. Leaves no emitter standing, and gives every tracer limiter 1 with both
- * bounds 0: it writes the whole ledger and does not look at what stood there. Writes ledger.
- * Refusals, in order: 1 2 3 4.
+ * no number in them. Leaves no emitter standing, gives every tracer limiter 1 with both bounds
+ * 0, and begins its book: its total as loaded, 0 as emitted and as withdrawn. It writes the
+ * whole ledger and does not look at what stood there. Writes ledger. Refusals, in order: 1 2 3
+ * 4.
  */
 PULDEHO_MUST_USE PULDEHO_NOT_NULL(1)
 static inline enum puldeho_refusal puldeho_load(
     struct puldeho_world *world);
 
 /*
- * Adds amount to one cell of one tracer. Cells are numbered over all layers. Writes tracers.
- * Refusals, in order: 1 2 3 4 5 6.
+ * Adds amount to one cell of one tracer, and to what its book has as emitted. Cells are
+ * numbered over all layers. Writes tracers and ledger. Refusals, in order: 1 2 3 4 22 5 6.
  */
 PULDEHO_MUST_USE PULDEHO_NOT_NULL(1)
 static inline enum puldeho_refusal puldeho_emission(
@@ -557,8 +599,9 @@ static inline enum puldeho_refusal puldeho_emission(
     uint32_t amount);
 
 /*
- * Takes amount from one cell of one tracer. Cells are numbered over all layers. Writes tracers.
- * Refusals, in order: 1 2 3 4 5 7.
+ * Takes amount from one cell of one tracer, and adds it to what its book has as withdrawn.
+ * Cells are numbered over all layers. Writes tracers and ledger. Refusals, in order: 1 2 3 4 22
+ * 5 7.
  */
 PULDEHO_MUST_USE PULDEHO_NOT_NULL(1)
 static inline enum puldeho_refusal puldeho_withdrawal(
@@ -569,7 +612,7 @@ static inline enum puldeho_refusal puldeho_withdrawal(
 
 /*
  * Sweeps one row of one layer by W fluxes, positive eastward. Writes air and tracers. Refusals,
- * in order: 1 2 3 4 21 5 8 9. substeps: the number of substeps, 1 to 16. fluxes has
+ * in order: 1 2 3 4 21 22 5 8 9. substeps: the number of substeps, 1 to 16. fluxes has
  * puldeho_zonal_fluxes_length(grid) numbers.
  */
 PULDEHO_MUST_USE PULDEHO_NOT_NULL(1) PULDEHO_LIST(read_only, 4, 5)
@@ -583,8 +626,8 @@ static inline enum puldeho_refusal puldeho_zonal(
 /*
  * Counts the substeps of a zonal sweep of one row of one layer by W fluxes, positive eastward,
  * before it is made, to be seen and then given to zonal_with_count. Writes nothing. Refusals,
- * in order: 1 2 3 4 21 5 8 9. substeps: the number of substeps that the sweep takes, 1 to 16.
- * fluxes has puldeho_count_zonal_fluxes_length(grid) numbers.
+ * in order: 1 2 3 4 21 22 5 8 9. substeps: the number of substeps that the sweep takes, 1 to
+ * 16. fluxes has puldeho_count_zonal_fluxes_length(grid) numbers.
  */
 PULDEHO_MUST_USE PULDEHO_NOT_NULL(1) PULDEHO_LIST(read_only, 4, 5)
 static inline enum puldeho_refusal puldeho_count_zonal(
@@ -597,7 +640,7 @@ static inline enum puldeho_refusal puldeho_count_zonal(
 /*
  * Makes the sweep of zonal, if the given count is the one that count_zonal gives for the same
  * layer, row and fluxes now; with any other count it is refused with 20. Writes air and
- * tracers. Refusals, in order: 1 2 3 4 21 5 8 9 20. substeps: the given count. fluxes has
+ * tracers. Refusals, in order: 1 2 3 4 21 22 5 8 9 20. substeps: the given count. fluxes has
  * puldeho_zonal_with_count_fluxes_length(grid) numbers.
  */
 PULDEHO_MUST_USE PULDEHO_NOT_NULL(1) PULDEHO_LIST(read_only, 5, 6)
@@ -612,7 +655,7 @@ static inline enum puldeho_refusal puldeho_zonal_with_count(
 /*
  * Sweeps one row of one layer by W fluxes, positive eastward, without substeps: a face takes
  * whole cells and then a part of the next. Its amounts are not those of zonal. Writes air and
- * tracers. Refusals, in order: 1 2 3 4 21 5 8 16 17. fluxes has
+ * tracers. Refusals, in order: 1 2 3 4 21 22 5 8 16 17. fluxes has
  * puldeho_long_zonal_fluxes_length(grid) numbers.
  */
 PULDEHO_MUST_USE PULDEHO_NOT_NULL(1) PULDEHO_LIST(read_only, 4, 5)
@@ -624,7 +667,7 @@ static inline enum puldeho_refusal puldeho_long_zonal(
 
 /*
  * Sweeps one layer by W*(R + 1) fluxes, positive northward. Writes air and tracers. Refusals,
- * in order: 1 2 3 4 21 5 8 10. substeps: the number of substeps, 1. fluxes has
+ * in order: 1 2 3 4 21 22 5 8 10. substeps: the number of substeps, 1. fluxes has
  * puldeho_meridional_fluxes_length(grid) numbers.
  */
 PULDEHO_MUST_USE PULDEHO_NOT_NULL(1) PULDEHO_LIST(read_only, 3, 4)
@@ -638,8 +681,8 @@ static inline enum puldeho_refusal puldeho_meridional(
  * Remaps all columns to the edges of a table of K + 1 pairs a, b, lent as 2*(K + 1) numbers.
  * Makes at most 2*K steps for each column and tracer, in all at most the grid's
  * most_remap_steps. Section 6 of the guide writes a count out by hand. Writes air and tracers.
- * Refusals, in order: 1 2 3 4 21 11 12. overlaps: exactly the number of pairs of an old and a
- * new layer that share some air, summed over columns. table has
+ * Refusals, in order: 1 2 3 4 21 22 11 12. overlaps: exactly the number of pairs of an old and
+ * a new layer that share some air, summed over columns. table has
  * puldeho_remap_table_length(grid) numbers.
  */
 PULDEHO_MUST_USE PULDEHO_NOT_NULL(1) PULDEHO_LIST(read_only, 2, 3)
@@ -649,8 +692,9 @@ static inline enum puldeho_refusal puldeho_remap(
     uint32_t *overlaps);
 
 /*
- * Reads the total of one tracer. Writes nothing. Refusals, in order: 1 2 3 4 5. units: the
- * total of the tracer.
+ * Reads the total of one tracer. As every call but a load it tests the books of all tracers: if
+ * it is accepted, the total of each is what its book has as loaded + emitted - withdrawn.
+ * Writes nothing. Refusals, in order: 1 2 3 4 22 5. units: the total of the tracer.
  */
 PULDEHO_MUST_USE PULDEHO_NOT_NULL(1)
 static inline enum puldeho_refusal puldeho_total(
@@ -660,7 +704,7 @@ static inline enum puldeho_refusal puldeho_total(
 
 /*
  * Reads one cell of one tracer. Cells are numbered over all layers. Writes nothing. Refusals,
- * in order: 1 2 3 4 5. units: the amount in the cell.
+ * in order: 1 2 3 4 22 5. units: the amount in the cell.
  */
 PULDEHO_MUST_USE PULDEHO_NOT_NULL(1)
 static inline enum puldeho_refusal puldeho_cell(
@@ -672,7 +716,7 @@ static inline enum puldeho_refusal puldeho_cell(
 /*
  * Lets an emitter stand for one tracer: in each tick it gives so many units to the cell. Any
  * number is an id, and each tracer has its own. Cells are numbered over all layers. Writes
- * ledger. Refusals, in order: 1 2 3 4 5 18.
+ * ledger. Refusals, in order: 1 2 3 4 22 5 18.
  */
 PULDEHO_MUST_USE PULDEHO_NOT_NULL(1)
 static inline enum puldeho_refusal puldeho_add_emitter(
@@ -684,7 +728,7 @@ static inline enum puldeho_refusal puldeho_add_emitter(
 
 /*
  * Removes the emitter that one tracer has under the id. The tracer's last emitter takes its
- * place in the ledger. Writes ledger. Refusals, in order: 1 2 3 4 5 19.
+ * place in the ledger. Writes ledger. Refusals, in order: 1 2 3 4 22 5 19.
  */
 PULDEHO_MUST_USE PULDEHO_NOT_NULL(1)
 static inline enum puldeho_refusal puldeho_remove_emitter(
@@ -693,8 +737,9 @@ static inline enum puldeho_refusal puldeho_remove_emitter(
     uint32_t id);
 
 /*
- * Adds the units of every emitter of one tracer to its cell, or, if it is refused, of none.
- * Writes tracers. Refusals, in order: 1 2 3 4 5 6.
+ * Adds the units of every emitter of one tracer to its cell, and to what its book has as
+ * emitted, or, if it is refused, of none. Writes tracers and ledger. Refusals, in order: 1 2 3
+ * 4 22 5 6.
  */
 PULDEHO_MUST_USE PULDEHO_NOT_NULL(1)
 static inline enum puldeho_refusal puldeho_tick(
@@ -702,7 +747,7 @@ static inline enum puldeho_refusal puldeho_tick(
     uint32_t tracer);
 
 /*
- * Reads how much a tick of one tracer emits. Writes nothing. Refusals, in order: 1 2 3 4 5.
+ * Reads how much a tick of one tracer emits. Writes nothing. Refusals, in order: 1 2 3 4 22 5.
  * units: the units that the tracer's emitters give in a tick.
  */
 PULDEHO_MUST_USE PULDEHO_NOT_NULL(1)
@@ -716,7 +761,7 @@ static inline enum puldeho_refusal puldeho_units_a_tick(
  * between lo and hi, which are mixing ratios (units of gas for one of air) times the scale,
  * 262144. The bounds are stored with every limiter, and only 3 reads them; give 0 and 0 with 1
  * and 2. Holds until the next set_limiter of this tracer or the next load. Writes ledger.
- * Refusals, in order: 1 2 3 4 5 21.
+ * Refusals, in order: 1 2 3 4 22 5 21.
  */
 PULDEHO_MUST_USE PULDEHO_NOT_NULL(1)
 static inline enum puldeho_refusal puldeho_set_limiter(
@@ -864,22 +909,22 @@ uint64_t puldeho_raw_load(
     const uint32_t *tracers, size_t tracers_length,
     uint32_t *ledger, size_t ledger_length);
 
-PULDEHO_MUST_USE PULDEHO_LIST(read_only, 5, 6) PULDEHO_LIST(read_write, 7, 8) PULDEHO_LIST(read_only, 9, 10)
+PULDEHO_MUST_USE PULDEHO_LIST(read_only, 5, 6) PULDEHO_LIST(read_write, 7, 8) PULDEHO_LIST(read_write, 9, 10)
 uint64_t puldeho_raw_emission(
     uint32_t w, uint32_t r, uint32_t k, uint32_t n,
     const uint32_t *air, size_t air_length,
     uint32_t *tracers, size_t tracers_length,
-    const uint32_t *ledger, size_t ledger_length,
+    uint32_t *ledger, size_t ledger_length,
     uint32_t tracer,
     uint32_t cell,
     uint32_t amount);
 
-PULDEHO_MUST_USE PULDEHO_LIST(read_only, 5, 6) PULDEHO_LIST(read_write, 7, 8) PULDEHO_LIST(read_only, 9, 10)
+PULDEHO_MUST_USE PULDEHO_LIST(read_only, 5, 6) PULDEHO_LIST(read_write, 7, 8) PULDEHO_LIST(read_write, 9, 10)
 uint64_t puldeho_raw_withdrawal(
     uint32_t w, uint32_t r, uint32_t k, uint32_t n,
     const uint32_t *air, size_t air_length,
     uint32_t *tracers, size_t tracers_length,
-    const uint32_t *ledger, size_t ledger_length,
+    uint32_t *ledger, size_t ledger_length,
     uint32_t tracer,
     uint32_t cell,
     uint32_t amount);
@@ -979,12 +1024,12 @@ uint64_t puldeho_raw_remove_emitter(
     uint32_t tracer,
     uint32_t id);
 
-PULDEHO_MUST_USE PULDEHO_LIST(read_only, 5, 6) PULDEHO_LIST(read_write, 7, 8) PULDEHO_LIST(read_only, 9, 10)
+PULDEHO_MUST_USE PULDEHO_LIST(read_only, 5, 6) PULDEHO_LIST(read_write, 7, 8) PULDEHO_LIST(read_write, 9, 10)
 uint64_t puldeho_raw_tick(
     uint32_t w, uint32_t r, uint32_t k, uint32_t n,
     const uint32_t *air, size_t air_length,
     uint32_t *tracers, size_t tracers_length,
-    const uint32_t *ledger, size_t ledger_length,
+    uint32_t *ledger, size_t ledger_length,
     uint32_t tracer);
 
 PULDEHO_MUST_USE PULDEHO_LIST(read_only, 5, 6) PULDEHO_LIST(read_only, 7, 8) PULDEHO_LIST(read_only, 9, 10)

@@ -83,8 +83,8 @@ pub fn beside_zonal(
         .flat_map(|sweep| (other.calls)(&start, sweep))
         .collect();
     let others = Work { start, calls };
-    let makes = |call: &Call| VERSIONS[version].makes(&others.start, call);
-    if !others.calls.iter().all(makes) {
+    let has = |call: &Call| VERSIONS[version].has(call);
+    if !VERSIONS[version].takes(&others.start) || !others.calls.iter().all(has) {
         return spread(vec![f64::NAN]);
     }
     let mut left = nothing_left(&zonal.start);

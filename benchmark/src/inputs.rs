@@ -43,12 +43,12 @@ pub fn world(random: &mut Random, grid: Grid) -> World {
         .flat_map(|t| places().map(move |(_, c)| (t, c)))
         .map(|(t, c)| amount(random, t, &grid, c))
         .collect();
-    World {
+    after_load(World {
         grid,
         air,
         tracers,
-        ledger: after_load(grid.n as usize),
-    }
+        ledger: Vec::new(),
+    })
 }
 
 /// Lets so many emitters of 1 to 3 units stand for each tracer, in cells all over the grid, with ids 0, 1, 2, ..

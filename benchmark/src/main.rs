@@ -2,6 +2,9 @@
 //! benchmark [--quick] [--times] [--only CALL]: tables on standard output, progress on standard error.
 
 mod beside;
+#[path = "../../compare/src/books.rs"]
+#[allow(dead_code)]
+mod books;
 mod day;
 #[path = "../../compare/src/gases.rs"]
 mod gases;
@@ -71,13 +74,13 @@ fn call_named(name: Option<&str>) -> &'static str {
 /// Compares the versions on seeded lists of calls, limits and refusals among them.
 fn agreement(lists: u64) {
     eprintln!("{lists} lists of calls, compared after every call");
-    let mut reached = [0u64; 22];
+    let mut reached = [0u64; 23];
     for seed in 0..lists {
         let mut random = Random::new(seed);
         let grid = worlds::grid(&mut random, (seed % 40 / 13) as u32);
         let mut start = worlds::world_with_ledger(&mut random, grid);
         for _ in 0..12 {
-            let call = worlds::call(&mut random, &start);
+            let call = worlds::next_call(&mut random, &mut start);
             let work = Work {
                 start,
                 calls: vec![call],
@@ -105,8 +108,14 @@ fn agreement(lists: u64) {
                 version.name
             );
         }
+        if !version.has_books() {
+            println!(
+                "{} has no books; it is compared where they balance and are far from full, without them.",
+                version.name
+            );
+        }
     }
-    println!("Calls by answer 0 to 21, where 13 to 15 are the runner program's: {reached:?}");
+    println!("Calls by answer 0 to 22, where 13 to 15 are the runner program's: {reached:?}");
     let of_calls = |answer: usize| !(13..=15).contains(&answer);
     assert!(
         (0..reached.len()).all(|answer| (reached[answer] > 0) == of_calls(answer)),

@@ -16,12 +16,15 @@ const SCALE: i64 = 262_144;
 pub const TABLE_SCALE: u32 = 65_536;
 const MOST_EMITTERS: usize = 16;
 /// A tracer's block of the ledger: how many emitters stand, the low and the high half of their units a tick, 16 times id, cell,
-/// units; then its limiter's number, and the low and the high half of lo and of hi.
-pub const BLOCK: usize = LIMITER + 5;
+/// units; then its limiter's number, and the low and the high half of lo and of hi; then what was loaded, emitted and withdrawn.
+pub const BLOCK: usize = LOADED + 3;
 const SUM: usize = 1;
 pub const LIMITER: usize = 3 + 3 * MOST_EMITTERS;
 const LO: usize = LIMITER + 1;
 const HI: usize = LO + 2;
+const LOADED: usize = HI + 2;
+const EMITTED: usize = LOADED + 1;
+const WITHDRAWN: usize = LOADED + 2;
 
 type Outcome = Result<u64, u32>;
 
@@ -108,11 +111,29 @@ fn common_places(
     })
 }
 
+/// Place 22 of every call but a load, by the totals of place 4.
+fn books(world: &Tested, ledger: &[u32]) -> Result<(), u32> {
+    let fit = |(block, total): (&[u32], &u64)| {
+        let sum = |place: usize| u64::from(block[place]);
+        sum(LOADED) + sum(EMITTED) == sum(WITHDRAWN) + total
+    };
+    let mut blocks = ledger.chunks_exact(BLOCK).zip(&world.totals);
+    blocks.all(fit).then_some(()).ok_or(22)
+}
+
+/// Places 1 to 4, then 22, of a call that is lent nothing but the world.
+fn tested_places(g: Grid, air: &[u32], tracers: &[u32], ledger: &[u32]) -> Result<Tested, u32> {
+    let world = common_places(g, air, tracers, ledger, Lent::Nothing)?;
+    books(&world, ledger)?;
+    Ok(world)
+}
+
 pub fn load(g: Grid, air: &[u32], tracers: &[u32], ledger: &mut [u32]) -> Outcome {
-    common_places(g, air, tracers, ledger, Lent::Nothing)?;
+    let world = common_places(g, air, tracers, ledger, Lent::Nothing)?;
     ledger.fill(0);
-    for block in ledger.chunks_exact_mut(BLOCK) {
+    for (block, total) in ledger.chunks_exact_mut(BLOCK).zip(world.totals) {
         block[LIMITER] = 1;
+        block[LOADED] = total as u32;
     }
     Ok(0)
 }
@@ -142,12 +163,13 @@ fn limiter(number: u32, lo: u64, hi: u64) -> Result<Limiter, u32> {
     }
 }
 
-/// Place 21 of the calls that move air and of the count before a sweep: the limiter of each tracer.
-fn limiters(ledger: &[u32]) -> Result<[Limiter; 8], u32> {
+/// Places 21 and 22 of the calls that move air and of the count before a sweep: the limiter of each tracer.
+fn limiters(world: &Tested, ledger: &[u32]) -> Result<[Limiter; 8], u32> {
     let mut limiters = [Limiter::Present; 8];
     for (by, block) in limiters.iter_mut().zip(ledger.chunks_exact(BLOCK)) {
         *by = limiter(block[LIMITER], kept(block, LO), kept(block, HI))?;
     }
+    books(world, ledger)?;
     Ok(limiters)
 }
 
@@ -160,7 +182,7 @@ pub fn set_limiter(
     [tracer, number]: [u32; 2],
     [lo, hi]: [u64; 2],
 ) -> Outcome {
-    common_places(g, air, tracers, ledger, Lent::Nothing)?;
+    tested_places(g, air, tracers, ledger)?;
     if tracer >= g.n {
         return Err(5);
     }
@@ -173,14 +195,14 @@ pub fn set_limiter(
 }
 
 pub fn total(g: Grid, air: &[u32], tracers: &[u32], ledger: &[u32], tracer: u32) -> Outcome {
-    let world = common_places(g, air, tracers, ledger, Lent::Nothing)?;
+    let world = tested_places(g, air, tracers, ledger)?;
     if tracer >= g.n {
         return Err(5);
     }
     Ok(world.totals[tracer as usize])
 }
 
-/// Places 1 to 5 of a call that names a tracer and a cell: where the amount stands, and the tracer's total.
+/// Places 1 to 4, 22 and 5 of a call that names a tracer and a cell: where the amount stands, and the tracer's total.
 fn named(
     g: Grid,
     air: &[u32],
@@ -189,7 +211,7 @@ fn named(
     tracer: u32,
     cell: u32,
 ) -> Result<(usize, u64), u32> {
-    let world = common_places(g, air, tracers, ledger, Lent::Nothing)?;
+    let world = tested_places(g, air, tracers, ledger)?;
     if tracer >= g.n || cell as usize >= world.cells {
         return Err(5);
     }
@@ -213,15 +235,17 @@ pub fn emission(
     g: Grid,
     air: &[u32],
     tracers: &mut [u32],
-    ledger: &[u32],
+    ledger: &mut [u32],
     tracer: u32,
     cell: u32,
     amount: u32,
 ) -> Outcome {
     let (place, total) = named(g, air, tracers, ledger, tracer, cell)?;
+    let emitted = &mut ledger[tracer as usize * BLOCK + EMITTED];
     if total + u64::from(amount) > MOST_TOTAL {
         return Err(6);
     }
+    *emitted = emitted.checked_add(amount).ok_or(6u32)?;
     tracers[place] += amount;
     Ok(0)
 }
@@ -230,13 +254,16 @@ pub fn withdrawal(
     g: Grid,
     air: &[u32],
     tracers: &mut [u32],
-    ledger: &[u32],
+    ledger: &mut [u32],
     tracer: u32,
     cell: u32,
     amount: u32,
 ) -> Outcome {
     let (place, _) = named(g, air, tracers, ledger, tracer, cell)?;
-    tracers[place] = tracers[place].checked_sub(amount).ok_or(7u32)?;
+    let withdrawn = &mut ledger[tracer as usize * BLOCK + WITHDRAWN];
+    let left = tracers[place].checked_sub(amount).ok_or(7u32)?;
+    *withdrawn = withdrawn.checked_add(amount).ok_or(7u32)?;
+    tracers[place] = left;
     Ok(0)
 }
 
@@ -371,7 +398,7 @@ struct Counted {
     count: u64,
 }
 
-/// Places 1 to 4, 21, 5, 8 and 9 of the zonal sweep, of the count before it, and of the sweep with a given count.
+/// Places 1 to 4, 21, 22, 5, 8 and 9 of the zonal sweep, of the count before it, and of the sweep with a given count.
 fn counted(
     g: Grid,
     air: &[u32],
@@ -382,7 +409,7 @@ fn counted(
     fluxes: &[i32],
 ) -> Result<Counted, u32> {
     let world = common_places(g, air, tracers, ledger, Lent::RowFluxes(fluxes.len()))?;
-    let limiters = limiters(ledger)?;
+    let limiters = limiters(&world, ledger)?;
     let cells = row_of(g, &world, layer, row, fluxes)?;
     let air = &air[cells.clone()];
     let count = (1..=16).find(|&n| serves(air, fluxes, n)).ok_or(9u32)?;
@@ -533,7 +560,7 @@ pub fn long_zonal(
     fluxes: &[i32],
 ) -> Outcome {
     let world = common_places(g, air, tracers, ledger, Lent::RowFluxes(fluxes.len()))?;
-    let limiters = limiters(ledger)?;
+    let limiters = limiters(&world, ledger)?;
     let cells = row_of(g, &world, layer, row, fluxes)?;
     let air = &mut air[cells.clone()];
     let row_air = total_of(air);
@@ -627,7 +654,7 @@ pub fn meridional(
     fluxes: &[i32],
 ) -> Outcome {
     let world = common_places(g, air, tracers, ledger, Lent::LayerFluxes(fluxes.len()))?;
-    let limiters = limiters(ledger)?;
+    let limiters = limiters(&world, ledger)?;
     if layer >= g.k {
         return Err(5);
     }
@@ -756,7 +783,7 @@ pub fn remap(
     table: &[u32],
 ) -> Outcome {
     let world = common_places(g, air, tracers, ledger, Lent::Table(table.len()))?;
-    let limiters = limiters(ledger)?;
+    let limiters = limiters(&world, ledger)?;
     if !table_fits(table) {
         return Err(11);
     }
@@ -800,7 +827,7 @@ fn record_fits(block: &[u32], cells: usize) -> bool {
     sum == kept(block, SUM)
 }
 
-/// Places 1 to 5 of the calls on emitters, but for a cell that the call names: the tracer.
+/// Places 1 to 4, 22 and 5 of the calls on emitters, but for a cell that the call names: the tracer.
 fn with_emitters(
     g: Grid,
     air: &[u32],
@@ -808,7 +835,7 @@ fn with_emitters(
     ledger: &[u32],
     tracer: u32,
 ) -> Result<(Tested, usize), u32> {
-    let world = common_places(g, air, tracers, ledger, Lent::Nothing)?;
+    let world = tested_places(g, air, tracers, ledger)?;
     let fit = |block| record_fits(block, world.cells);
     if tracer >= g.n || !ledger.chunks_exact(BLOCK).all(fit) {
         return Err(5);
@@ -860,12 +887,14 @@ pub fn remove_emitter(
     Ok(0)
 }
 
-pub fn tick(g: Grid, air: &[u32], tracers: &mut [u32], ledger: &[u32], tracer: u32) -> Outcome {
+pub fn tick(g: Grid, air: &[u32], tracers: &mut [u32], ledger: &mut [u32], tracer: u32) -> Outcome {
     let (world, tracer) = with_emitters(g, air, tracers, ledger, tracer)?;
-    let block = &ledger[tracer * BLOCK..][..BLOCK];
-    if world.totals[tracer] + kept(block, SUM) > MOST_TOTAL {
+    let block = &mut ledger[tracer * BLOCK..][..BLOCK];
+    let units = kept(block, SUM);
+    if world.totals[tracer] + units > MOST_TOTAL {
         return Err(6);
     }
+    block[EMITTED] = block[EMITTED].checked_add(units as u32).ok_or(6u32)?;
     let gas = &mut tracers[tracer * world.cells..][..world.cells];
     for emitter in emitters(block) {
         gas[emitter[1] as usize] += emitter[2];

@@ -100,7 +100,7 @@ pub fn agree(work: &Work) {
     for (number, call) in work.calls.iter().enumerate() {
         let answers: [Option<Answer>; COUNT] = std::array::from_fn(|v| {
             let (version, world) = (&VERSIONS[v], &mut worlds[v]);
-            let made = version.makes(world, call);
+            let made = version.has(call) && version.takes(world);
             made.then(|| version.make(number, world, call))
         });
         let (first, others) = worlds.split_first_mut().expect("the library is first");
@@ -143,8 +143,8 @@ pub fn round(
     let mut seconds = [0.0; COUNT];
     for turn in 0..COUNT {
         let v = (number + turn) % COUNT;
-        let makes = |call| VERSIONS[v].makes(&work.start, call);
-        if !work.calls.iter().all(makes) {
+        let has = |call| VERSIONS[v].has(call);
+        if !VERSIONS[v].takes(&work.start) || !work.calls.iter().all(has) {
             seconds[v] = f64::NAN;
             continue;
         }
@@ -160,8 +160,8 @@ pub fn round(
                     VERSIONS[v].name
                 )
             }
-            // The amounts of gas of another scale are not what the others are held to.
-            None if !VERSIONS[v].has_librarys_scale() => {}
+            // What a version leaves that is not compared whole is not what the others are held to.
+            None if !VERSIONS[v].is_compared_whole() => {}
             None => {
                 *first = Some(Left {
                     answers: left.answers.clone(),

@@ -1,10 +1,12 @@
 //! The versions that are compared: the proved library, plain C of gcc (twice), plain Rust.
 
+use crate::books::{self, MOST_SUM};
 use crate::ledgers::{after_load, BLOCK, EMITTERS};
 use crate::limiters::AFTER_LOAD;
 use crate::plain;
-use crate::worlds::in_range;
+use crate::worlds::{in_range, MOST};
 use reference::{Answer, Call, Grid, World};
+use std::sync::OnceLock;
 
 /// Makes a call.
 pub type MakeCall = fn(&mut World, &Call) -> Answer;
@@ -12,18 +14,12 @@ pub type MakeCall = fn(&mut World, &Call) -> Answer;
 /// How many places in memory the code of a version is linked at.
 pub const PLACES: usize = 4;
 
-/// What a version is lent of the ledger: a library from before the ledger nothing, one from before the limiters the emitters.
-#[derive(PartialEq)]
-enum Ledger {
-    Nothing,
-    Emitters,
-    Whole,
-}
-
 pub struct Version {
     pub name: &'static str,
     calls: [MakeCall; PLACES],
-    ledger: Ledger,
+    /// How many numbers of a tracer's block of the ledger the version knows: a library from before the ledger none, one from before the
+    /// limiters those of the emitters, one from before the books these and the limiter's.
+    known: fn() -> usize,
     /// The calls that a library from before has not, by name.
     lacks: &'static str,
 }
@@ -42,51 +38,75 @@ impl Version {
         answer
     }
 
+    /// Whether the version is lent a shorter ledger. One from before the ledger is lent none, and the world keeps the whole one.
+    fn is_lent_less(&self) -> bool {
+        (1..BLOCK).contains(&(self.known)())
+    }
+
     /// The world with the ledger that the version takes.
     pub fn lend(&self, world: &mut World) {
-        if self.ledger == Ledger::Emitters {
-            let blocks = world.ledger.chunks(BLOCK);
-            world.ledger = blocks
-                .flat_map(|block| &block[..EMITTERS])
-                .copied()
-                .collect();
+        if self.is_lent_less() {
+            let known = |block| block_part(block, (self.known)());
+            world.ledger = world.ledger.chunks(BLOCK).flat_map(known).collect();
         }
     }
 
-    /// The world with the whole ledger again; the limiters are a load's before and after.
+    /// The world with a whole ledger again; what the version does not know is 0 in it until it is taken over.
     pub fn take_back(&self, world: &mut World) {
-        if self.ledger == Ledger::Emitters {
-            let blocks = world.ledger.chunks(EMITTERS);
-            let whole = |emitters| [emitters, &AFTER_LOAD[..]].concat();
+        if self.is_lent_less() {
+            let whole = |block| block_part(block, BLOCK);
+            let blocks = world.ledger.chunks((self.known)());
             world.ledger = blocks.flat_map(whole).collect();
         }
     }
 
-    /// Whether the version has the call and tests all that the call tests in this world. One that is not lent the whole ledger
-    /// makes calls only where the limiters are a load's.
-    pub fn makes(&self, world: &World, call: &Call) -> bool {
-        let has = !self.lacks.split(' ').any(|name| name == name_of(call));
+    /// Whether the version has the call.
+    pub fn has(&self, call: &Call) -> bool {
+        !self.lacks.split(' ').any(|name| name == name_of(call))
+    }
+
+    /// Whether no answer in this world depends on what the version does not know: the ledger has its length, the limiters are a load's, the
+    /// books balance, and no sum is near its end.
+    pub fn takes(&self, world: &World) -> bool {
+        if self.has_books() {
+            return true;
+        }
         let length = BLOCK * world.grid.n as usize;
         let fits = !in_range(&world.grid) || world.ledger.len() == length;
         let mut blocks = world.ledger.chunks_exact(BLOCK);
-        let as_before = fits && blocks.all(|block| block[EMITTERS..] == AFTER_LOAD);
-        has && (self.ledger == Ledger::Whole || as_before)
+        let as_loaded = |block: &[u32]| block[EMITTERS..books::PLACE] == AFTER_LOAD;
+        let far = |sum: u64| sum <= MOST_SUM - MOST;
+        let mut books = books::standing(world);
+        fits && (self.has_limiters() || blocks.all(as_loaded))
+            && books.all(|(it, total)| it.balances(total) && far(it.emitted) && far(it.withdrawn))
     }
 
-    /// What is not compared is taken over from another world: the ledger of a version without one, whose load does not empty it,
-    /// and the amounts of gas of a version with another scale.
+    /// What is not compared is taken over from another world: what the version does not know of the ledger, and the amounts of gas of a
+    /// version with another scale.
     pub fn take_over(&self, world: &mut World, other: &World) {
-        if self.ledger == Ledger::Nothing {
-            world.ledger.clone_from(&other.ledger);
+        let known = (self.known)();
+        let blocks = world.ledger.chunks_exact_mut(BLOCK);
+        for (block, from) in blocks.zip(other.ledger.chunks_exact(BLOCK)) {
+            block[known..].copy_from_slice(&from[known..]);
         }
         if !self.has_librarys_scale() {
             world.tracers.clone_from(&other.tracers);
         }
     }
 
+    /// A library from before version 0.8 has no books.
+    pub fn has_books(&self) -> bool {
+        (self.known)() == BLOCK
+    }
+
     /// A library from before version 0.7 has no limiters.
     pub fn has_limiters(&self) -> bool {
-        self.ledger == Ledger::Whole
+        (self.known)() >= books::PLACE
+    }
+
+    /// Whether all that the version leaves is compared.
+    pub fn is_compared_whole(&self) -> bool {
+        self.has_books() && self.has_librarys_scale()
     }
 
     /// A library from before version 0.6 has another scale, 65,536.
@@ -96,17 +116,7 @@ impl Version {
 
     /// What the sweep of case x1 leaves, which tells the two scales apart.
     fn gas_of_x1(&self) -> Vec<u32> {
-        let mut world = World {
-            grid: Grid {
-                w: 4,
-                r: 1,
-                k: 1,
-                n: 1,
-            },
-            air: vec![100, 928, 314, 81, 658, 100],
-            tracers: vec![0, 221, 496, 522, 317, 0],
-            ledger: after_load(1),
-        };
+        let mut world = after_load(world_of_x1());
         let sweep = Call::Zonal {
             layer: 0,
             row: 0,
@@ -115,6 +125,28 @@ impl Version {
         self.make(0, &mut world, &sweep);
         world.tracers
     }
+}
+
+/// The world of case x1, without a ledger.
+fn world_of_x1() -> World {
+    World {
+        grid: Grid {
+            w: 4,
+            r: 1,
+            k: 1,
+            n: 1,
+        },
+        air: vec![100, 928, 314, 81, 658, 100],
+        tracers: vec![0, 221, 496, 522, 317, 0],
+        ledger: Vec::new(),
+    }
+}
+
+/// The first numbers of a block, with zeros where it has less.
+fn block_part(block: &[u32], numbers: usize) -> Vec<u32> {
+    let mut part = block.to_vec();
+    part.resize(numbers, 0);
+    part
 }
 
 /// The name of a call that some library from before lacks; none for the others.
@@ -157,9 +189,9 @@ macro_rules! c_calls {
                 #[link_name = concat!($prefix, "_cell")]
                 fn cell(w: u32, r: u32, k: u32, n: u32, air: *const u32, al: usize, gas: *const u32, gl: usize $(, $ledger: *const u32, $length: usize)?, tracer: u32, cell: u32) -> u64;
                 #[link_name = concat!($prefix, "_emission")]
-                fn emission(w: u32, r: u32, k: u32, n: u32, air: *const u32, al: usize, gas: *mut u32, gl: usize $(, $ledger: *const u32, $length: usize)?, tracer: u32, cell: u32, amount: u32) -> u64;
+                fn emission(w: u32, r: u32, k: u32, n: u32, air: *const u32, al: usize, gas: *mut u32, gl: usize $(, $ledger: *mut u32, $length: usize)?, tracer: u32, cell: u32, amount: u32) -> u64;
                 #[link_name = concat!($prefix, "_withdrawal")]
-                fn withdrawal(w: u32, r: u32, k: u32, n: u32, air: *const u32, al: usize, gas: *mut u32, gl: usize $(, $ledger: *const u32, $length: usize)?, tracer: u32, cell: u32, amount: u32) -> u64;
+                fn withdrawal(w: u32, r: u32, k: u32, n: u32, air: *const u32, al: usize, gas: *mut u32, gl: usize $(, $ledger: *mut u32, $length: usize)?, tracer: u32, cell: u32, amount: u32) -> u64;
                 #[link_name = concat!($prefix, "_zonal")]
                 fn zonal(w: u32, r: u32, k: u32, n: u32, air: *mut u32, al: usize, gas: *mut u32, gl: usize $(, $ledger: *const u32, $length: usize)?, layer: u32, row: u32, fluxes: *const i32, fl: usize) -> u64;
                 #[link_name = concat!($prefix, "_long_zonal")]
@@ -210,7 +242,7 @@ macro_rules! c_later_calls {
                 #[link_name = concat!($prefix, "_remove_emitter")]
                 fn remove_emitter(w: u32, r: u32, k: u32, n: u32, air: *const u32, al: usize, gas: *const u32, gl: usize, ledger: *mut u32, ll: usize, tracer: u32, id: u32) -> u64;
                 #[link_name = concat!($prefix, "_tick")]
-                fn tick(w: u32, r: u32, k: u32, n: u32, air: *const u32, al: usize, gas: *mut u32, gl: usize, ledger: *const u32, ll: usize, tracer: u32) -> u64;
+                fn tick(w: u32, r: u32, k: u32, n: u32, air: *const u32, al: usize, gas: *mut u32, gl: usize, ledger: *mut u32, ll: usize, tracer: u32) -> u64;
                 #[link_name = concat!($prefix, "_units_a_tick")]
                 fn units_a_tick(w: u32, r: u32, k: u32, n: u32, air: *const u32, al: usize, gas: *const u32, gl: usize, ledger: *const u32, ll: usize, tracer: u32) -> u32;
                 #[link_name = concat!($prefix, "_units_a_tick_number")]
@@ -329,13 +361,22 @@ const BEFORE_LACKS: &str = match option_env!("BEFORE_LACKS") {
     None => "",
 };
 
-const BEFORE_LEDGER: Ledger = if cfg!(before_without_ledger) {
-    Ledger::Nothing
-} else if cfg!(before_without_limiters) {
-    Ledger::Emitters
-} else {
-    Ledger::Whole
-};
+/// How much of a block the library before knows, found by the length of the ledger with which it accepts a load.
+fn known_before() -> usize {
+    static FOUND: OnceLock<usize> = OnceLock::new();
+    let accepts = |block: &usize| {
+        let mut world = world_of_x1();
+        world.ledger = vec![0; *block];
+        native0::call(&mut world, &Call::Load).number == 0
+    };
+    let find = || [BLOCK, books::PLACE, EMITTERS].into_iter().find(accepts);
+    *FOUND.get_or_init(|| {
+        if cfg!(before_without_ledger) {
+            return 0;
+        }
+        find().expect("a ledger that the library before takes")
+    })
+}
 
 /// The library first; ratios are of its times to the others'. Plain Rust lies where the link puts it.
 pub const VERSIONS: [Version; COUNT] = [
@@ -347,7 +388,7 @@ pub const VERSIONS: [Version; COUNT] = [
             library2::call,
             library3::call,
         ],
-        ledger: Ledger::Whole,
+        known: || BLOCK,
         lacks: "",
     },
     Version {
@@ -357,19 +398,19 @@ pub const VERSIONS: [Version; COUNT] = [
             None => "gcc -O3 -march=native",
         },
         calls: [native0::call, native1::call, native2::call, native3::call],
-        ledger: BEFORE_LEDGER,
+        known: known_before,
         lacks: BEFORE_LACKS,
     },
     Version {
         name: "gcc -O3",
         calls: [o3_0::call, o3_1::call, o3_2::call, o3_3::call],
-        ledger: Ledger::Whole,
+        known: || BLOCK,
         lacks: "",
     },
     Version {
         name: "Rust -O",
         calls: [rust; PLACES],
-        ledger: Ledger::Whole,
+        known: || BLOCK,
         lacks: "",
     },
 ];

@@ -119,6 +119,77 @@ static void emitters(void)
     expect_number("how many stand after a load", puldeho_lent_ledger(&world)[0], 0);
 }
 
+static void expect_book(
+    const char *what, const struct puldeho_world *world, uint32_t tracer, int64_t loaded, int64_t emitted, int64_t withdrawn)
+{
+    struct puldeho_book book = puldeho_book_of(world, tracer);
+    int same = book.loaded == loaded && book.emitted == emitted && book.withdrawn == withdrawn;
+    printf("%s: %lld loaded, %lld emitted, %lld withdrawn%s\n", what, (long long)book.loaded, (long long)book.emitted,
+           (long long)book.withdrawn, same ? "" : ", which is DIFFERENT");
+    differences += !same;
+}
+
+/* The book of a gas: written by load, emission, tick and withdrawal, and by no other call. */
+static void books(void)
+{
+    static const int32_t fluxes[4] = {0, 50, 0, 0};
+    struct puldeho_world world = first_world();
+    expect_book("the book before the load", &world, 0, 0, 0, 0);
+    expect("a total before the load", puldeho_total(&world, 0, NULL), PULDEHO_REFUSAL_BOOKS);
+    expect("load", puldeho_load(&world), PULDEHO_ACCEPTED);
+    expect_book("the book after it", &world, 0, 400, 0, 0);
+    expect("emission", puldeho_emission(&world, 0, 3, 50), PULDEHO_ACCEPTED);
+    expect("an emitter", puldeho_add_emitter(&world, 0, 2, 7, 11), PULDEHO_ACCEPTED);
+    expect("tick", puldeho_tick(&world, 0), PULDEHO_ACCEPTED);
+    expect("withdrawal", puldeho_withdrawal(&world, 0, 3, 20), PULDEHO_ACCEPTED);
+    expect("a sweep", puldeho_zonal(&world, 0, 0, fluxes, 4, NULL), PULDEHO_ACCEPTED);
+    expect("a refused withdrawal", puldeho_withdrawal(&world, 0, 3, 1000), PULDEHO_REFUSAL_WITHDRAWAL);
+    expect_book("the book now", &world, 0, 400, 61, 20);
+    expect_book("of an absent gas", &world, 1, -1, -1, -1);
+    expect("load", puldeho_load(&world), PULDEHO_ACCEPTED);
+    expect_book("the book after it", &world, 0, 441, 0, 0);
+}
+
+/* Amounts that are written between calls, and a copy of the struct, which parts the books; a load mends both. */
+static void books_that_differ(void)
+{
+    struct puldeho_world world = first_world(), copy;
+    uint32_t total = 99;
+    expect("load", puldeho_load(&world), PULDEHO_ACCEPTED);
+    tracers[3]++;
+    expect("an amount in place", puldeho_total(&world, 0, &total), PULDEHO_REFUSAL_BOOKS);
+    expect_number("its count", total, 0);
+    expect_book("the book of then", &world, 0, 400, 0, 0);
+    expect("a load", puldeho_load(&world), PULDEHO_ACCEPTED);
+    copy = world;
+    expect("an emission through a copy", puldeho_emission(&copy, 0, 3, 7), PULDEHO_ACCEPTED);
+    expect("which is not in this book", puldeho_emission(&world, 0, 3, 7), PULDEHO_REFUSAL_BOOKS);
+    expect("a load", puldeho_load(&world), PULDEHO_ACCEPTED);
+    expect_book("the book now", &world, 0, 408, 0, 0);
+}
+
+/* A gas that is emitted and withdrawn whole, until its sums are full. */
+static void full_sums(void)
+{
+    struct puldeho_world world = first_world();
+    enum puldeho_refusal refusal;
+    memset(tracers, 0, sizeof tracers);
+    refusal = puldeho_load(&world);
+    for (int times = 0; times < 16; times++) {
+        if (!refusal) refusal = puldeho_emission(&world, 0, 2, PULDEHO_TOTAL_LIMIT);
+        if (!refusal) refusal = puldeho_withdrawal(&world, 0, 2, PULDEHO_TOTAL_LIMIT);
+    }
+    expect("16 times in and out", refusal, PULDEHO_ACCEPTED);
+    expect("the 17th emission", puldeho_emission(&world, 0, 2, PULDEHO_TOTAL_LIMIT), PULDEHO_REFUSAL_EMISSION);
+    expect("15 units", puldeho_emission(&world, 0, 2, 15), PULDEHO_ACCEPTED);
+    expect("a unit more", puldeho_emission(&world, 0, 2, 1), PULDEHO_REFUSAL_EMISSION);
+    expect("no unit more", puldeho_emission(&world, 0, 2, 0), PULDEHO_ACCEPTED);
+    expect_book("the book", &world, 0, 0, PULDEHO_SUM_LIMIT, PULDEHO_SUM_LIMIT - 15);
+    expect("a load", puldeho_load(&world), PULDEHO_ACCEPTED);
+    expect("a unit more", puldeho_emission(&world, 0, 2, 1), PULDEHO_ACCEPTED);
+    expect_book("the book", &world, 0, 15, 1, 0);
+}
+
 /* The load after a program wrote into a list leaves no emitter and limiter 1; added and set again as the guide does it, they give
  * the ledger as it was. */
 static void added_again(void)
@@ -146,10 +217,11 @@ static void added_again(void)
     expect_number("the ledger as it was", memcmp(kept, puldeho_lent_ledger(&world), puldeho_lent_ledger_length(&world) * sizeof *kept), 0);
 }
 
-/* A ledger that the program keeps: of the wrong length, not as it must be, and cleared by a load. */
+/* A ledger that the program keeps: of the wrong length; with the gas in its book, and an emitter that is not as it must be; cleared
+ * by a load. */
 static void own_ledger(void)
 {
-    uint32_t ledger[PULDEHO_LEDGER_BLOCK] = {1, 5, 0, 7, CELLS, 5};
+    uint32_t ledger[PULDEHO_LEDGER_BLOCK] = {1, 5, 0, 7, CELLS, 5, [56] = 400};
     struct puldeho_world world = first_world();
     world.ledger = ledger;
     world.ledger_length = PULDEHO_LEDGER_BLOCK - 1;
@@ -294,12 +366,15 @@ static void copies(void)
     struct puldeho_world kept = puldeho_world_over(none, kept_air, CELLS, kept_tracers, CELLS);
     kept.ledger = ledger;
     kept.ledger_length = PULDEHO_LEDGER_BLOCK;
+    expect("load", puldeho_load(&world), PULDEHO_ACCEPTED);
     expect("an emitter", puldeho_add_emitter(&world, 0, 3, 7, 40), PULDEHO_ACCEPTED);
     expect("a state is kept", puldeho_copy(&kept, &world), PULDEHO_ACCEPTED);
     expect("a withdrawal", puldeho_withdrawal(&world, 0, 3, 200), PULDEHO_ACCEPTED);
+    expect_book("what was withdrawn", &world, 0, 400, 0, 200);
     expect("the emitter stops", puldeho_remove_emitter(&world, 0, 7), PULDEHO_ACCEPTED);
     expect("the state is brought back", puldeho_copy(&world, &kept), PULDEHO_ACCEPTED);
     expect_list("tracers after", tracers, first_tracers);
+    expect_book("its book", &world, 0, 400, 0, 0);
     expect("the emitter stands again", puldeho_remove_emitter(&world, 0, 7), PULDEHO_ACCEPTED);
     kept = puldeho_world_over(none, kept_air, CELLS, kept_tracers, CELLS);
     expect("a state is kept again", puldeho_copy(&kept, &world), PULDEHO_ACCEPTED);
@@ -319,6 +394,9 @@ int main(void)
     case_p();
     long_sweep();
     emitters();
+    books();
+    books_that_differ();
+    full_sums();
     added_again();
     own_ledger();
     limiters();

@@ -13,6 +13,9 @@
 
 static const char space[] = " \t\r";
 
+/* In a tracer's block of the ledger the limiter comes after the emitters, and the book, three sums, after its five numbers. */
+enum { LIMITER = 3 + 3 * PULDEHO_MOST_EMITTERS, BOOK = LIMITER + 5, SUMS = 3 };
+
 static void *reserve(void *memory, size_t size)
 {
     memory = realloc(memory, size);
@@ -94,8 +97,8 @@ static bool set_list(char *rest, uint32_t **numbers, size_t *length)
     return good;
 }
 
-/* The grid, and a ledger as an accepted load leaves it, limiter 1 and zeros: the world's own, or an empty list for more tracers
- * than a world may have. */
+/* The grid, and a ledger as an accepted load of a world without gas leaves it, limiter 1 and zeros: the world's own, or an empty
+ * list for more tracers than a world may have. */
 static bool set_grid(char *rest, struct puldeho_world *world)
 {
     struct puldeho_grid *grid = &world->grid;
@@ -106,8 +109,52 @@ static bool set_grid(char *rest, struct puldeho_world *world)
     world->ledger_length = 0;
     memset(world->own_ledger, 0, sizeof world->own_ledger);
     for (size_t tracer = 0; tracer < PULDEHO_MOST_TRACERS; tracer++)
-        world->own_ledger[tracer * PULDEHO_LEDGER_BLOCK + 3 + 3 * PULDEHO_MOST_EMITTERS] = PULDEHO_LIMITER_PRESENT;
+        world->own_ledger[tracer * PULDEHO_LEDGER_BLOCK + LIMITER] = PULDEHO_LIMITER_PRESENT;
     return good;
+}
+
+/* Puts loaded, emitted and withdrawn in a tracer's block; false where the ledger has none. */
+static bool put_book(struct puldeho_world *world, size_t tracer, const uint32_t *book)
+{
+    uint32_t *ledger = world->ledger != NULL ? world->ledger : world->own_ledger;
+    if (tracer >= puldeho_lent_ledger_length(world) / PULDEHO_LEDGER_BLOCK)
+        return false;
+    memcpy(ledger + tracer * PULDEHO_LEDGER_BLOCK + BOOK, book, SUMS * sizeof *book);
+    return true;
+}
+
+/* The cells of all layers, or `most` where there are more. */
+static size_t cells_within(struct puldeho_grid grid, size_t most)
+{
+    uint64_t layer = 2 + (uint64_t)grid.r * grid.w;
+    if (grid.k == 0)
+        return 0;
+    return layer > most / grid.k ? most : (size_t)layer * grid.k;
+}
+
+/* The amounts, and in each block that the ledger has the book that a load of them leaves: what they come to was loaded, or 0 if it
+ * passes 32 bits. */
+static bool set_tracers(char *rest, struct puldeho_world *world)
+{
+    bool good = set_list(rest, &world->tracers, &world->tracers_length);
+    size_t cells = cells_within(world->grid, world->tracers_length), place = 0;
+    bool has_block = true;
+    for (size_t tracer = 0; has_block && tracer < world->grid.n; tracer++) {
+        uint64_t total = 0;
+        for (size_t i = 0; i < cells && place < world->tracers_length; i++)
+            total += world->tracers[place++];
+        uint32_t book[SUMS] = {total <= UINT32_MAX ? (uint32_t)total : 0, 0, 0};
+        has_block = put_book(world, tracer, book);
+    }
+    return good;
+}
+
+/* A tracer's loaded, emitted and withdrawn, whatever they are. */
+static bool set_book(char *rest, struct puldeho_world *world)
+{
+    uint32_t tracer, book[SUMS];
+    return take_u32(&rest, &tracer) && take_u32(&rest, &book[0]) && take_u32(&rest, &book[1]) && take_u32(&rest, &book[2])
+        && at_end(rest) && put_book(world, tracer, book);
 }
 
 static void show_list(const char *name, const uint32_t *numbers, size_t length)
@@ -161,9 +208,11 @@ static bool run_line(char *rest, struct puldeho_world *world)
     if (strcmp(name, "air") == 0)
         return set_list(rest, &world->air, &world->air_length);
     if (strcmp(name, "tracers") == 0)
-        return set_list(rest, &world->tracers, &world->tracers_length);
+        return set_tracers(rest, world);
     if (strcmp(name, "ledger") == 0)
         return set_list(rest, &world->ledger, &world->ledger_length);
+    if (strcmp(name, "books") == 0)
+        return set_book(rest, world);
     if (strcmp(name, "show") == 0)
         return show(rest, world);
     if (strcmp(name, "show_ledger") == 0)

@@ -271,26 +271,116 @@ static enum puldeho_refusal row_place(const struct call *call, struct text *text
 
 /* 6 and 7: emission and withdrawal. */
 
+/* A sum of a tracer's book that has a limit: what was emitted, or withdrawn, since the load. */
+struct sum {
+    const char *done;
+    long long units, room;
+    size_t place; /* in the ledger */
+};
+
+/* Where a tracer's book stands in the ledger: after its emitters and the five numbers of its limiter. */
+static size_t book_place(size_t tracer)
+{
+    return tracer * PULDEHO_LEDGER_BLOCK + 3 + 3 * PULDEHO_MOST_EMITTERS + 5;
+}
+
+static struct sum emitted_of(const struct call *call)
+{
+    long long units = puldeho_book_of(call->world, call->tracer).emitted;
+    return (struct sum){"emitted", units, PULDEHO_SUM_LIMIT - units, book_place(call->tracer) + 1};
+}
+
+static struct sum withdrawn_of(const struct call *call)
+{
+    long long units = puldeho_book_of(call->world, call->tracer).withdrawn;
+    return (struct sum){"withdrawn", units, PULDEHO_SUM_LIMIT - units, book_place(call->tracer) + 2};
+}
+
+static void say_sum(struct text *text, const struct call *call, struct sum sum)
+{
+    say(text, "since the load %lld units of tracer %lld were %s (number %zu of the ledger)", sum.units, (long long)call->tracer,
+        sum.done, sum.place);
+}
+
+static void say_sum_room(struct text *text, struct sum sum)
+{
+    say(text, "; the sum may not pass %lld, so at most %lld can be %s until the next load", (long long)PULDEHO_SUM_LIMIT,
+        sum.room, sum.done);
+}
+
+static void say_sums_anew(struct text *text)
+{
+    say(text, "; to go on, read the book and load again, then add the emitters and set the limiters anew");
+}
+
+/* What can be emitted: the total and the emitted sum each have room, and the one with less is named. */
+struct room {
+    long long total, units;
+    struct sum emitted;
+    bool by_sum;
+};
+
+static struct room room_of(const struct call *call)
+{
+    struct room room = {.total = total_of(call->world, call->tracer), .emitted = emitted_of(call)};
+    room.units = PULDEHO_TOTAL_LIMIT - room.total;
+    room.by_sum = room.emitted.room < room.units;
+    if (room.by_sum)
+        room.units = room.emitted.room;
+    return room;
+}
+
+static void say_emitted(struct text *text, const struct call *call, struct room room)
+{
+    if (room.by_sum)
+        say_sum(text, call, room.emitted);
+    else
+        say(text, "tracer %lld has the total %lld", (long long)call->tracer, room.total);
+}
+
+static void say_room(struct text *text, struct room room)
+{
+    if (room.by_sum)
+        say_sum_room(text, room.emitted);
+    else
+        say(text, "; the limit is %d, so at most %lld can be emitted", PULDEHO_TOTAL_LIMIT, room.units);
+}
+
 static enum puldeho_refusal emission_place(const struct call *call, struct text *text)
 {
-    long long total = total_of(call->world, call->tracer);
-    if (total + call->amount <= PULDEHO_TOTAL_LIMIT)
+    struct room room = room_of(call);
+    if (call->amount <= room.units)
         return PULDEHO_ACCEPTED;
-    say(text, "tracer %lld has the total %lld and the amount is ", (long long)call->tracer, total);
+    say_emitted(text, call, room);
+    say(text, " and the amount is ");
     say_number(text, call->amount);
-    say(text, "; the limit is %d, so at most %lld can be emitted", PULDEHO_TOTAL_LIMIT, PULDEHO_TOTAL_LIMIT - total);
+    say_room(text, room);
+    if (room.by_sum)
+        say_sums_anew(text);
     return PULDEHO_REFUSAL_EMISSION;
 }
 
+/* The cell's amount or the withdrawn sum, whichever leaves less. */
 static enum puldeho_refusal withdrawal_place(const struct call *call, struct text *text)
 {
     const struct puldeho_world *world = call->world;
-    uint32_t has = world->tracers[call->tracer * world->air_length + call->cell];
-    if (call->amount <= has)
+    long long has = world->tracers[call->tracer * world->air_length + call->cell];
+    struct sum withdrawn = withdrawn_of(call);
+    bool by_sum = withdrawn.room < has;
+    if (call->amount <= (by_sum ? withdrawn.room : has))
         return PULDEHO_ACCEPTED;
-    say_cell(text, world->grid, call->cell);
-    say(text, " has %lld of tracer %lld, the amount is ", (long long)has, (long long)call->tracer);
+    if (by_sum) {
+        say_sum(text, call, withdrawn);
+        say(text, " and the amount is ");
+    } else {
+        say_cell(text, world->grid, call->cell);
+        say(text, " has %lld of tracer %lld, the amount is ", has, (long long)call->tracer);
+    }
     say_number(text, call->amount);
+    if (by_sum) {
+        say_sum_room(text, withdrawn);
+        say_sums_anew(text);
+    }
     return PULDEHO_REFUSAL_WITHDRAWAL;
 }
 
@@ -445,22 +535,34 @@ static enum puldeho_refusal absent_place(const struct call *call, struct text *t
     return PULDEHO_REFUSAL_EMITTER_ABSENT;
 }
 
-static enum puldeho_refusal tick_place(const struct call *call, struct text *text)
+/* The emitter of the most units; at least one stands. */
+static void say_largest(struct text *text, const uint32_t *block)
 {
-    const uint32_t *block = block_of(call->world, call->tracer);
-    long long total = total_of(call->world, call->tracer), sum = (long long)kept_sum(block);
     size_t largest = 0;
-    if (total + sum <= PULDEHO_TOTAL_LIMIT)
-        return PULDEHO_ACCEPTED;
     for (size_t i = 1; i < block[0]; i++)
         if (block[entry(i) + 2] > block[entry(largest) + 2])
             largest = i;
-    say(text, "tracer %lld has the total %lld and a tick gives %lld, the units of ", (long long)call->tracer, total, sum);
-    say_counted(text, block[0], "emitter");
-    say(text, "; the limit is %d, so at most %lld can be emitted, and nothing was; the largest is id %lld, of ",
-        PULDEHO_TOTAL_LIMIT, PULDEHO_TOTAL_LIMIT - total, (long long)block[entry(largest)]);
+    say(text, "; the largest is id %lld, of ", (long long)block[entry(largest)]);
     say_number(text, block[entry(largest) + 2]);
     say(text, block[entry(largest) + 2] == 1 ? " unit a tick" : " units a tick");
+}
+
+static enum puldeho_refusal tick_place(const struct call *call, struct text *text)
+{
+    const uint32_t *block = block_of(call->world, call->tracer);
+    long long units = (long long)kept_sum(block);
+    struct room room = room_of(call);
+    if (units <= room.units)
+        return PULDEHO_ACCEPTED;
+    say_emitted(text, call, room);
+    say(text, " and a tick gives %lld, the units of ", units);
+    say_counted(text, block[0], "emitter");
+    say_room(text, room);
+    say(text, ", and nothing was");
+    if (room.by_sum)
+        say_sums_anew(text);
+    else
+        say_largest(text, block);
     return PULDEHO_REFUSAL_EMISSION;
 }
 
@@ -564,6 +666,38 @@ static enum puldeho_refusal limiter_place(const struct call *call, struct text *
     else
         say(text, "; limiter %lld does not read them: give 0 and 0", (long long)limiter.number);
     return PULDEHO_REFUSAL_LIMITERS;
+}
+
+/* 22: the books. */
+
+/* A book that is not what its tracer's cells sum to, and what mends it. */
+static void say_book(struct text *text, const struct puldeho_world *world, size_t tracer, long long booked, long long total)
+{
+    struct puldeho_book book = puldeho_book_of(world, (uint32_t)tracer);
+    if (never_loaded(world)) {
+        say(text, "tracer %zu has the total %lld and no book, as the ledger is all zeros: no load was made; load the world first",
+            tracer, total);
+        return;
+    }
+    say(text, "the book of tracer %zu has %lld loaded, %lld emitted and %lld withdrawn (numbers %zu to %zu of the ledger), which "
+        "makes %lld, and its cells sum to %lld, %lld %s", tracer, (long long)book.loaded, (long long)book.emitted,
+        (long long)book.withdrawn, book_place(tracer), book_place(tracer) + 2, booked, total,
+        total > booked ? total - booked : booked - total, total > booked ? "more" : "less");
+    say(text, "; tracers or ledger were written by something else than calls: load again, then add the emitters and set the limiters "
+        "anew, or bring back tracers and ledger together");
+}
+
+static enum puldeho_refusal books_place(const struct call *call, struct text *text)
+{
+    for (size_t tracer = 0; tracer < call->world->grid.n; tracer++) {
+        struct puldeho_book book = puldeho_book_of(call->world, (uint32_t)tracer);
+        long long booked = book.loaded + book.emitted - book.withdrawn, total = total_of(call->world, tracer);
+        if (booked != total) {
+            say_book(text, call->world, tracer, booked, total);
+            return PULDEHO_REFUSAL_BOOKS;
+        }
+    }
+    return PULDEHO_ACCEPTED;
 }
 
 /* The cells and faces of a sweep: a row closed round the globe (zonal, long), or a layer with its caps (meridional). */
@@ -1176,44 +1310,46 @@ static enum puldeho_refusal remap_place(const struct call *call, struct text *te
 static place *const load_places[] = {
     grid_place, air_length_place, tracers_length_place, ledger_length_place, air_place, totals_place, NULL};
 static place *const emission_places[] = {
-    grid_place, air_length_place, tracers_length_place, ledger_length_place, air_place, totals_place,
+    grid_place, air_length_place, tracers_length_place, ledger_length_place, air_place, totals_place, books_place,
     tracer_place, cell_place, emission_place, NULL};
 static place *const withdrawal_places[] = {
-    grid_place, air_length_place, tracers_length_place, ledger_length_place, air_place, totals_place,
+    grid_place, air_length_place, tracers_length_place, ledger_length_place, air_place, totals_place, books_place,
     tracer_place, cell_place, withdrawal_place, NULL};
 static place *const zonal_places[] = {
     grid_place, air_length_place, tracers_length_place, ledger_length_place, zonal_length_place, air_place, totals_place,
-    limiters_place, layer_place, row_place, zonal_fluxes_place, zonal_place, NULL};
+    limiters_place, books_place, layer_place, row_place, zonal_fluxes_place, zonal_place, NULL};
 static place *const zonal_with_count_places[] = {
     grid_place, air_length_place, tracers_length_place, ledger_length_place, zonal_length_place, air_place, totals_place,
-    limiters_place, layer_place, row_place, zonal_fluxes_place, zonal_place, given_place, NULL};
+    limiters_place, books_place, layer_place, row_place, zonal_fluxes_place, zonal_place, given_place, NULL};
 static place *const long_zonal_places[] = {
     grid_place, air_length_place, tracers_length_place, ledger_length_place, zonal_length_place, air_place, totals_place,
-    limiters_place, layer_place, row_place, zonal_fluxes_place, long_flux_place, long_air_place, NULL};
+    limiters_place, books_place, layer_place, row_place, zonal_fluxes_place, long_flux_place, long_air_place, NULL};
 static place *const meridional_places[] = {
     grid_place, air_length_place, tracers_length_place, ledger_length_place, meridional_length_place, air_place, totals_place,
-    limiters_place, layer_place, meridional_fluxes_place, meridional_place, NULL};
+    limiters_place, books_place, layer_place, meridional_fluxes_place, meridional_place, NULL};
 static place *const remap_places[] = {
     grid_place, air_length_place, tracers_length_place, ledger_length_place, table_length_place, air_place, totals_place,
-    limiters_place, table_place, remap_place, NULL};
+    limiters_place, books_place, table_place, remap_place, NULL};
 static place *const total_places[] = {
-    grid_place, air_length_place, tracers_length_place, ledger_length_place, air_place, totals_place, tracer_place, NULL};
+    grid_place, air_length_place, tracers_length_place, ledger_length_place, air_place, totals_place, books_place,
+    tracer_place, NULL};
 static place *const cell_places[] = {
-    grid_place, air_length_place, tracers_length_place, ledger_length_place, air_place, totals_place, tracer_place, cell_place, NULL};
+    grid_place, air_length_place, tracers_length_place, ledger_length_place, air_place, totals_place, books_place,
+    tracer_place, cell_place, NULL};
 static place *const add_emitter_places[] = {
-    grid_place, air_length_place, tracers_length_place, ledger_length_place, air_place, totals_place,
+    grid_place, air_length_place, tracers_length_place, ledger_length_place, air_place, totals_place, books_place,
     tracer_place, emitter_cell_place, ledger_place, added_place, NULL};
 static place *const remove_emitter_places[] = {
-    grid_place, air_length_place, tracers_length_place, ledger_length_place, air_place, totals_place,
+    grid_place, air_length_place, tracers_length_place, ledger_length_place, air_place, totals_place, books_place,
     tracer_place, ledger_place, absent_place, NULL};
 static place *const tick_places[] = {
-    grid_place, air_length_place, tracers_length_place, ledger_length_place, air_place, totals_place,
+    grid_place, air_length_place, tracers_length_place, ledger_length_place, air_place, totals_place, books_place,
     tracer_place, ledger_place, tick_place, NULL};
 static place *const units_a_tick_places[] = {
-    grid_place, air_length_place, tracers_length_place, ledger_length_place, air_place, totals_place,
+    grid_place, air_length_place, tracers_length_place, ledger_length_place, air_place, totals_place, books_place,
     tracer_place, ledger_place, NULL};
 static place *const set_limiter_places[] = {
-    grid_place, air_length_place, tracers_length_place, ledger_length_place, air_place, totals_place,
+    grid_place, air_length_place, tracers_length_place, ledger_length_place, air_place, totals_place, books_place,
     limiter_tracer_place, limiter_place, NULL};
 
 /* Every text fits in PULDEHO_WHY_SIZE, so that no more is asked of vsnprintf. */

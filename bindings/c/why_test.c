@@ -15,7 +15,8 @@ enum {
     MOST_LIST = 256,
     MOST_LEDGER = 3 * PULDEHO_LEDGER_BLOCK + 1,
     LIMITER = 3 + 3 * PULDEHO_MOST_EMITTERS, /* where a block has its limiter */
-    MOST_REFUSAL = PULDEHO_REFUSAL_LIMITERS
+    BOOK = LIMITER + 5,                      /* and its book: loaded, emitted, withdrawn */
+    MOST_REFUSAL = PULDEHO_REFUSAL_BOOKS
 };
 
 enum name {
@@ -41,9 +42,11 @@ static unsigned long long_ends, turns[2]; /* texts of long sweeps: a cell ends o
 static unsigned long long_instead[2]; /* texts of zonal sweeps that do not name the long one, and that do */
 static unsigned long faults[4]; /* texts of ledgers with too many emitters, an absent cell, an id twice, a false sum */
 static unsigned long full[2], twice; /* texts of 16 emitters, with none in the same cell and with one; of an id again */
-static unsigned long absent[2], ticks; /* texts of an absent id that no other tracer has, and that one has; of a tick */
+static unsigned long absent[2]; /* texts of an absent id that no other tracer has, and that one has */
 static unsigned long limiters[3]; /* texts of limiters that are unknown, that have lo above hi, and of no load */
 static unsigned long to_set[3]; /* texts of limiters to be set that are unknown, that have lo above hi, exchanged with the tracer */
+static unsigned long books[3]; /* texts of books to which the cells are more, or less, and of no load */
+static unsigned long rooms[2][3]; /* texts of the room for an emission, a tick, a withdrawal: by total or cell, and by the sum */
 static unsigned long given[4]; /* texts of given counts of 0, above 16, that serve and are not the smallest, that do not serve */
 
 static void differs(const char *what, const char *text)
@@ -450,20 +453,99 @@ static void check_absent(const struct puldeho_world *world, const struct request
     absent[others > 0]++;
 }
 
-/* 6: as much can be emitted as the text says, and no more. */
-static void check_tick(const struct puldeho_world *world, const struct request *r, const char *text)
+/* 6: as much can be emitted as the text says, and no more. If a sum is full, a load makes room. */
+static void check_emission(const struct puldeho_world *world, const struct request *r, const char *text)
 {
-    struct puldeho_world copy = copy_of(world);
+    struct puldeho_world copy = copy_of(world), loaded = copy_of(world);
     uint32_t room = (uint32_t)number_after(text, "so at most ");
+    bool by_sum = strstr(text, " until the next load") != NULL;
     uint64_t units = 0;
-    if (puldeho_units_a_tick(&copy, r->tracer, &units) != PULDEHO_ACCEPTED
-        || number_after(text, " and a tick gives ") != (long long)units || units <= room)
+    if (r->name == TICK && (puldeho_units_a_tick(&copy, r->tracer, &units) != PULDEHO_ACCEPTED
+                            || number_after(text, " and a tick gives ") != (long long)units || units <= room))
         differs("the units of a tick", text);
     if (puldeho_emission(&copy, r->tracer, 0, room) != PULDEHO_ACCEPTED
         || puldeho_emission(&copy, r->tracer, 0, 1) != PULDEHO_REFUSAL_EMISSION)
-        differs("the room for a tick", text);
-    ticks++;
+        differs("the room for an emission", text);
+    if (by_sum && (puldeho_load(&loaded) != PULDEHO_ACCEPTED || puldeho_emission(&loaded, r->tracer, 0, room + 1) != PULDEHO_ACCEPTED))
+        differs("a load makes no room", text);
+    rooms[by_sum][r->name == TICK]++;
     drop(&copy);
+    drop(&loaded);
+}
+
+/* 7: by a full sum as much can be withdrawn as the text says, and no more, and a load makes room; else the cell's amount. */
+static void check_withdrawal(const struct puldeho_world *world, const struct request *r, const char *text)
+{
+    struct puldeho_world copy = copy_of(world), loaded = copy_of(world);
+    bool by_sum = strstr(text, " until the next load") != NULL;
+    uint32_t room = (uint32_t)number_after(text, by_sum ? "so at most " : " has ");
+    if (puldeho_withdrawal(&copy, r->tracer, r->cell, room) != PULDEHO_ACCEPTED
+        || puldeho_withdrawal(&copy, r->tracer, r->cell, 1) != PULDEHO_REFUSAL_WITHDRAWAL)
+        differs("the room for a withdrawal", text);
+    if (by_sum && (puldeho_load(&loaded) != PULDEHO_ACCEPTED
+                   || puldeho_withdrawal(&loaded, r->tracer, r->cell, room + 1) != PULDEHO_ACCEPTED))
+        differs("a load makes no room", text);
+    rooms[by_sum][2]++;
+    drop(&copy);
+    drop(&loaded);
+}
+
+/* What the tracer's cells sum to, as far as they are lent. */
+static uint64_t total_of(const struct puldeho_world *world, size_t tracer)
+{
+    uint64_t total = 0;
+    for (size_t i = tracer * world->air_length; i < (tracer + 1) * world->air_length && i < world->tracers_length; i++)
+        total += world->tracers[i];
+    return total;
+}
+
+/* Whether the tracer's book is what its cells sum to; the book is read from the ledger itself. */
+static bool balances(const struct puldeho_world *world, size_t tracer)
+{
+    const uint32_t *book = block_of(world, tracer) + BOOK;
+    return (uint64_t)book[0] + book[1] == book[2] + total_of(world, tracer);
+}
+
+/* The first tracer whose book is not what its cells sum to; as many as there are if there is none. */
+static size_t unbalanced(const struct puldeho_world *world)
+{
+    size_t tracer = 0;
+    while (tracer < world->grid.n && balances(world, tracer))
+        tracer++;
+    return tracer;
+}
+
+/* The words with which the text of a tracer's book must begin. */
+static void book_words(const struct puldeho_world *world, size_t tracer, bool none, char *wanted, size_t size)
+{
+    const uint32_t *book = block_of(world, tracer) + BOOK;
+    size_t place = tracer * PULDEHO_LEDGER_BLOCK + BOOK;
+    long long total = (long long)total_of(world, tracer), booked = (long long)book[0] + book[1] - book[2];
+    if (none) {
+        snprintf(wanted, size, "tracer %zu has the total %lld and no book, ", tracer, total);
+        return;
+    }
+    snprintf(wanted, size, "the book of tracer %zu has %lld loaded, %lld emitted and %lld withdrawn (numbers %zu to %zu of the "
+             "ledger), which makes %lld, and its cells sum to %lld, %lld %s; ", tracer, (long long)book[0], (long long)book[1],
+             (long long)book[2], place, place + 2, booked, total, llabs(total - booked), total > booked ? "more" : "less");
+    books[total < booked]++;
+}
+
+/* 22: the first book at fault, with its numbers and the difference. A load mends it. */
+static void check_books(const struct puldeho_world *world, const struct request *r, const char *text)
+{
+    struct puldeho_world loaded = copy_of(world);
+    size_t tracer = unbalanced(world);
+    bool none = strstr(text, " and no book, ") != NULL;
+    char wanted[400] = "no book is at fault";
+    if (tracer < world->grid.n)
+        book_words(world, tracer, none, wanted, sizeof wanted);
+    books[2] += none;
+    if (strncmp(text, wanted, strlen(wanted)) != 0)
+        differs("the book that is at fault", text);
+    if (puldeho_load(&loaded) != PULDEHO_ACCEPTED || library(&loaded, r) == PULDEHO_REFUSAL_BOOKS)
+        differs("a load does not mend the books", text);
+    drop(&loaded);
 }
 
 static void check_emitters(const struct puldeho_world *world, const struct request *r, enum puldeho_refusal refusal, const char *text)
@@ -474,8 +556,8 @@ static void check_emitters(const struct puldeho_world *world, const struct reque
         check_added(world, r, text);
     if (refusal == PULDEHO_REFUSAL_EMITTER_ABSENT)
         check_absent(world, r, text);
-    if (refusal == PULDEHO_REFUSAL_EMISSION && r->name == TICK)
-        check_tick(world, r, text);
+    if (refusal == PULDEHO_REFUSAL_EMISSION)
+        check_emission(world, r, text);
 }
 
 /* 21 for a limiter that stands: the first tracer at fault is named with what it has. With the limiters mended one by one from that
@@ -495,10 +577,11 @@ static void check_limiters(const struct puldeho_world *world, const struct reque
         differs("the limiter that stands", text);
     if (!none && !unknown && had.lo <= had.hi)
         differs("the bounds of the limiter that stands", text);
+    bool booked = unbalanced(world) == world->grid.n; /* else the call that sets one is refused with 22 */
     for (uint32_t t = (uint32_t)tracer; t < world->grid.n; t++)
-        if (puldeho_set_limiter(&mended, t, PULDEHO_LIMITER_POSITIVE, 0, 0) != PULDEHO_ACCEPTED)
+        if (puldeho_set_limiter(&mended, t, PULDEHO_LIMITER_POSITIVE, 0, 0) != (booked ? PULDEHO_ACCEPTED : PULDEHO_REFUSAL_BOOKS))
             differs("a limiter cannot be set", text);
-    if (library(&mended, r) == PULDEHO_REFUSAL_LIMITERS || puldeho_load(&loaded) != PULDEHO_ACCEPTED
+    if ((booked && library(&mended, r) == PULDEHO_REFUSAL_LIMITERS) || puldeho_load(&loaded) != PULDEHO_ACCEPTED
         || library(&loaded, r) == PULDEHO_REFUSAL_LIMITERS)
         differs("neither a load nor other limiters mend it", text);
     limiters[none ? 2 : unknown ? 0 : 1]++;
@@ -583,6 +666,10 @@ static void check_call(const struct puldeho_world *world, const struct request *
         check_sweep(world, &single, text);
     if (refusal == PULDEHO_REFUSAL_GIVEN_COUNT)
         check_given(world, r, text);
+    if (refusal == PULDEHO_REFUSAL_WITHDRAWAL)
+        check_withdrawal(world, r, text);
+    if (refusal == PULDEHO_REFUSAL_BOOKS)
+        check_books(world, r, text);
     if (refusal == PULDEHO_REFUSAL_LIMITERS && r->name != SET_LIMITER)
         check_limiters(world, r, text);
     if (refusal == PULDEHO_REFUSAL_LIMITERS && r->name == SET_LIMITER)
@@ -700,6 +787,36 @@ static void break_limiter(uint32_t *numbers)
         numbers[any() % 4 + 1] += one_in(2) ? 1 : wild();
 }
 
+/* A book of so many units, as calls could have left it; emitted, withdrawn or both are now and then near the limit. */
+static void fill_book(uint32_t *numbers, uint64_t total)
+{
+    uint32_t near = UINT32_MAX - from_to(0, one_in(2) ? 40 : 300000000);
+    uint64_t withdrawn = one_in(2) ? 0 : one_in(2) ? near : any();
+    uint64_t sum = withdrawn + total, least = sum > UINT32_MAX ? sum - UINT32_MAX : 0;
+    uint64_t most = sum < PULDEHO_TOTAL_LIMIT ? sum : PULDEHO_TOTAL_LIMIT;
+    uint64_t loaded = least > most || one_in(3) ? least : from_to((uint32_t)least, (uint32_t)most);
+    numbers[0] = (uint32_t)loaded;
+    numbers[1] = (uint32_t)(sum - loaded);
+    numbers[2] = (uint32_t)withdrawn;
+}
+
+/* One number of it, or an amount of a tracer, that is another; or two that cancel each other. */
+static void break_book(struct puldeho_world *world, uint32_t *numbers)
+{
+    uint32_t change = one_in(2) ? 1 : one_in(2) ? UINT32_MAX : wild();
+    if (world->tracers_length > 1 && one_in(2)) {
+        world->tracers[any() % world->tracers_length] += change;
+        if (one_in(3))
+            world->tracers[any() % world->tracers_length] -= change;
+        return;
+    }
+    numbers[any() % 3] += change;
+    if (one_in(3)) {
+        numbers[1] += change;
+        numbers[2] += change;
+    }
+}
+
 /* A tracer's emitters, as calls could have left them, and anything past them; then its limiter. */
 static void fill_block(const struct puldeho_world *world, uint32_t *block)
 {
@@ -733,7 +850,7 @@ static void break_block(uint32_t *block)
         block[1 + any() % 2] += one_in(2) ? 1 : wild();
 }
 
-/* Emitters and a limiter for every tracer, now and then with a fault, or zeros; a ledger of another length gets any numbers. */
+/* Emitters, a limiter and a book for every tracer, now and then with a fault, or zeros; a ledger of another length gets any numbers. */
 static void fill_ledger(struct puldeho_world *world, uint32_t *ledger)
 {
     size_t length = puldeho_lent_ledger_length(world), blocks = length / PULDEHO_LEDGER_BLOCK;
@@ -743,8 +860,12 @@ static void fill_ledger(struct puldeho_world *world, uint32_t *ledger)
         fill_block(world, ledger + tracer * PULDEHO_LEDGER_BLOCK);
     if (blocks > 0 && one_in(5))
         break_block(ledger + any() % blocks * PULDEHO_LEDGER_BLOCK);
+    for (size_t tracer = 0; tracer < blocks; tracer++)
+        fill_book(ledger + tracer * PULDEHO_LEDGER_BLOCK + BOOK, total_of(world, tracer));
     if (blocks > 0 && one_in(15))
         break_limiter(ledger + any() % blocks * PULDEHO_LEDGER_BLOCK + LIMITER);
+    if (blocks > 0 && one_in(15))
+        break_book(world, ledger + any() % blocks * PULDEHO_LEDGER_BLOCK + BOOK);
     if (one_in(50))
         memset(ledger, 0, length * sizeof *ledger);
 }
@@ -770,12 +891,12 @@ static uint32_t any_index(uint32_t count)
 static uint32_t any_amount(const struct puldeho_world *world, const struct request *r)
 {
     size_t cells = world->air_length, cell = r->tracer * cells + r->cell;
-    uint64_t total = 0;
     if (one_in(4) || r->tracer >= 8 || r->cell >= cells || cell >= world->tracers_length)
         return wild();
-    for (size_t i = 0; i < cells && r->tracer * cells + i < world->tracers_length; i++)
-        total += world->tracers[r->tracer * cells + i];
-    return (uint32_t)(r->name == EMISSION ? 268435455 - total : world->tracers[cell]) + from_to(0, 2) - 1;
+    struct puldeho_book book = puldeho_book_of(world, r->tracer);
+    uint32_t left = UINT32_MAX - (uint32_t)(r->name == EMISSION ? book.emitted : book.withdrawn);
+    uint32_t room = (uint32_t)(r->name == EMISSION ? 268435455 - total_of(world, r->tracer) : world->tracers[cell]);
+    return (left < room ? left : room) + from_to(0, 2) - 1;
 }
 
 /* A flow through the whole row or column of about so many times the air, and small differences. */
@@ -881,7 +1002,7 @@ struct fixed {
     struct puldeho_grid grid;
     uint32_t air[16], tracers[16], ledger[2 * PULDEHO_LEDGER_BLOCK];
     size_t air_length, tracers_length, ledger_length;
-    bool as_given; /* else a limiter of 0 in the ledger stands for 1 */
+    bool as_given; /* else a limiter of 0 in the ledger stands for 1, and a book of zeros for the tracer's total as loaded */
     struct request r;
     enum puldeho_refusal refusal;
     const char *text;
@@ -912,6 +1033,17 @@ struct fixed {
 #define ANEW "; load again, which leaves no emitter standing, and add the emitters anew"
 #define SET(TRACER, NUMBER, LO, HI) .r = {.name = SET_LIMITER, .tracer = TRACER, .limiter = NUMBER, .lo = LO, .hi = HI}
 #define WRITTEN "; the ledger was written by something else than calls: load again, then add the emitters and set the limiters anew"
+#define BOOKED(...) .ledger = {[BOOK] = __VA_ARGS__}
+#define FALSE_BOOK CASE_P, BOOKED(401)
+#define ONE_LESS .refusal = PULDEHO_REFUSAL_BOOKS, \
+    .text = "the book of tracer 0 has 401 loaded, 0 emitted and 0 withdrawn (numbers 56 to 58 of the ledger), which makes 401, and " \
+            "its cells sum to 400, 1 less" BOOKS_ANEW
+#define EMIT(AMOUNT) .r = {.name = EMISSION, .cell = 2, .amount = AMOUNT}
+#define WITHDRAW(AMOUNT) .r = {.name = WITHDRAWAL, .cell = 3, .amount = AMOUNT}
+#define TOTAL_OF(TRACER) .r = {.name = TOTAL, .tracer = TRACER}
+#define SUMS_ANEW "; to go on, read the book and load again, then add the emitters and set the limiters anew"
+#define BOOKS_ANEW "; tracers or ledger were written by something else than calls: load again, then add the emitters and set the " \
+    "limiters anew, or bring back tracers and ledger together"
 #define REMAP_TWO(...) .r = {.name = REMAP, .length = 6, .table = LISTED(__VA_ARGS__)}
 
 static const struct fixed fixed[] = {
@@ -958,17 +1090,17 @@ static const struct fixed fixed[] = {
              "268435455, so at most 268435055 can be emitted"},
     {CASE_P, .r = {.name = WITHDRAWAL, .cell = 3, .amount = 201}, .refusal = PULDEHO_REFUSAL_WITHDRAWAL,
      .text = "cell 3 (layer 0, row 0, column 2) has 200 of tracer 0, the amount is 201"},
-    {CASE_P, .ledger_length = 55, .r = {.name = LOAD}, .refusal = PULDEHO_REFUSAL_LENGTHS,
-     .text = "ledger has length 55, the grid wants 56 (N*56; here W = 4, R = 1, K = 1, N = 1)"},
-    {CASE_P, .ledger_length = 57, .r = {.name = EMISSION}, .refusal = PULDEHO_REFUSAL_LENGTHS,
-     .text = "ledger has length 57, the grid wants 56 (N*56; here W = 4, R = 1, K = 1, N = 1)"},
+    {CASE_P, .ledger_length = 56, .r = {.name = LOAD}, .refusal = PULDEHO_REFUSAL_LENGTHS,
+     .text = "ledger has length 56, the grid wants 59 (N*59; here W = 4, R = 1, K = 1, N = 1)"},
+    {CASE_P, .ledger_length = 60, .r = {.name = EMISSION}, .refusal = PULDEHO_REFUSAL_LENGTHS,
+     .text = "ledger has length 60, the grid wants 59 (N*59; here W = 4, R = 1, K = 1, N = 1)"},
     {CASE_P, .ledger = {17}, .r = {.name = LOAD}, .refusal = PULDEHO_ACCEPTED, .text = "the call would be accepted"},
     {CASE_P, .ledger = {17}, .r = {.name = EMISSION, .amount = 1}, .refusal = PULDEHO_ACCEPTED,
      .text = "the call would be accepted"},
     {TWO_GASES, .ledger = {[OTHER] = 17}, ADD(0, 3, 7, 50), .refusal = PULDEHO_REFUSAL_INDEX,
-     .text = "tracer 1 has 17 emitters (number 56 of the ledger), at most 16 may stand" ANEW},
+     .text = "tracer 1 has 17 emitters (number 59 of the ledger), at most 16 may stand" ANEW},
     {TWO_GASES, .ledger = {1, 5, 0, 8, 0, 5, [OTHER] = 2, 80, 0, 7, 3, 50, 9, 6, 30}, REMOVE(0, 8), .refusal = PULDEHO_REFUSAL_INDEX,
-     .text = "emitter 1 of tracer 1, id 9, is in the absent cell 6 (number 63 of the ledger), cells are 0 to 5" ANEW},
+     .text = "emitter 1 of tracer 1, id 9, is in the absent cell 6 (number 66 of the ledger), cells are 0 to 5" ANEW},
     {CASE_P, .ledger = {3, 90, 0, 7, 3, 50, 9, 4, 30, 7, 5, 10}, TICK_OF(0), .refusal = PULDEHO_REFUSAL_INDEX,
      .text = "emitters 0 and 2 of tracer 0 both have the id 7 (numbers 3 and 9 of the ledger)" ANEW},
     {CASE_P, .ledger = {2, 80, 1, 7, 3, 50, 9, 4, 30}, .r = {.name = UNITS_A_TICK}, .refusal = PULDEHO_REFUSAL_INDEX,
@@ -1031,17 +1163,18 @@ static const struct fixed fixed[] = {
      .text = "no tracer has a limiter, as the ledger is all zeros: no load was made; load the world first"},
     {TWO_GASES, .as_given = true, .ledger = {[LIMITER] = 1}, .r = {.name = LONG_ZONAL, .layer = 1, .length = 4},
      .refusal = PULDEHO_REFUSAL_LIMITERS,
-     .text = "tracer 1 has no limiter (number 107 of the ledger is 0): no load was made, or the ledger was overwritten; "
+     .text = "tracer 1 has no limiter (number 110 of the ledger is 0): no load was made, or the ledger was overwritten; "
              "load the world, then add the emitters and set the limiters"},
     {CASE_P, .ledger = {[LIMITER] = 4294967295u}, GIVEN_ROW(7, 0, 1048561, 0, 0), .refusal = PULDEHO_REFUSAL_LIMITERS,
      .text = "tracer 0 has the limiter 4294967295 (number 51 of the ledger), which is none of 1, 2 and 3" WRITTEN},
     {TWO_GASES, .ledger = {[OTHER + LIMITER] = 2, 10, 3, 11, 2}, SWEEP_LAYER(0, 0, 0, 0, 0, 0, 0, 0), .refusal = PULDEHO_REFUSAL_LIMITERS,
-     .text = "tracer 1 has the limiter 2 with lo 12884901898 above hi 8589934603 (numbers 108 to 111 of the ledger)" WRITTEN},
+     .text = "tracer 1 has the limiter 2 with lo 12884901898 above hi 8589934603 (numbers 111 to 114 of the ledger)" WRITTEN},
     {CASE_P, .ledger = {[LIMITER] = 3, 1, 0, 0, 0}, .r = {.name = REMAP, .length = 4}, .refusal = PULDEHO_REFUSAL_LIMITERS,
      .text = "tracer 0 has the limiter 3 with lo 1 above hi 0 (numbers 52 to 55 of the ledger)" WRITTEN},
     {CASE_P, .ledger = {[LIMITER] = 3, 4294967295u, 4294967295u, 4294967295u, 4294967295u}, SWEEP_ROW(0, 50, 0, 0),
      .refusal = PULDEHO_ACCEPTED, .text = "the call would be accepted"},
-    {CASE_P, .as_given = true, .ledger = {17}, SET(0, 3, 0, 0), .refusal = PULDEHO_ACCEPTED, .text = "the call would be accepted"},
+    {CASE_P, .as_given = true, .ledger = {17, [BOOK] = 400}, SET(0, 3, 0, 0), .refusal = PULDEHO_ACCEPTED,
+     .text = "the call would be accepted"},
     {CASE_P, SET(0, 4, 0, 0), .refusal = PULDEHO_REFUSAL_LIMITERS,
      .text = "there is no limiter 4, it may be 1 (present), 2 (positive) or 3 (fixed)"},
     {TWO_GASES, SET(1, 0, 9, 8), .refusal = PULDEHO_REFUSAL_LIMITERS,
@@ -1058,6 +1191,64 @@ static const struct fixed fixed[] = {
              "both are mixing ratios times 262144"},
     {CASE_P, SET(0, 2, 1, 0), .refusal = PULDEHO_REFUSAL_LIMITERS,
      .text = "lo is 1 and above hi, which is 0; limiter 2 does not read them: give 0 and 0"},
+    {CASE_P, .as_given = true, TOTAL_OF(0), .refusal = PULDEHO_REFUSAL_BOOKS,
+     .text = "tracer 0 has the total 400 and no book, as the ledger is all zeros: no load was made; load the world first"},
+    {TWO_GASES, .as_given = true, TOTAL_OF(1), .refusal = PULDEHO_ACCEPTED, .text = "the call would be accepted"},
+    {CASE_P, BOOKED(400, 61, 20), TOTAL_OF(1), .refusal = PULDEHO_REFUSAL_BOOKS,
+     .text = "the book of tracer 0 has 400 loaded, 61 emitted and 20 withdrawn (numbers 56 to 58 of the ledger), which makes 441, "
+             "and its cells sum to 400, 41 less" BOOKS_ANEW},
+    {TWO_GASES, .tracers = {[8] = 100, 200, 100, 42}, .ledger = {[OTHER + BOOK] = 400, 61, 20}, EMIT(268435456),
+     .refusal = PULDEHO_REFUSAL_BOOKS,
+     .text = "the book of tracer 1 has 400 loaded, 61 emitted and 20 withdrawn (numbers 115 to 117 of the ledger), which makes 441, "
+             "and its cells sum to 442, 1 more" BOOKS_ANEW},
+    {CASE_P, BOOKED(0, 0, 4294966896u), WITHDRAW(201), .refusal = PULDEHO_REFUSAL_BOOKS,
+     .text = "the book of tracer 0 has 0 loaded, 0 emitted and 4294966896 withdrawn (numbers 56 to 58 of the ledger), which makes "
+             "-4294966896, and its cells sum to 400, 4294967296 more" BOOKS_ANEW},
+    {CASE_P, BOOKED(4294967295u, 401, 0), ADD(0, 1, 7, 50), .refusal = PULDEHO_REFUSAL_BOOKS,
+     .text = "the book of tracer 0 has 4294967295 loaded, 401 emitted and 0 withdrawn (numbers 56 to 58 of the ledger), which makes "
+             "4294967696, and its cells sum to 400, 4294967296 less" BOOKS_ANEW},
+    {CASE_P, BOOKED(4294967295u, 4294967295u, 4294967295u), REMOVE(0, 7), .refusal = PULDEHO_REFUSAL_BOOKS,
+     .text = "the book of tracer 0 has 4294967295 loaded, 4294967295 emitted and 4294967295 withdrawn (numbers 56 to 58 of the "
+             "ledger), which makes 4294967295, and its cells sum to 400, 4294966895 less" BOOKS_ANEW},
+    {FALSE_BOOK, .r = {.name = EMISSION, .tracer = 9}, ONE_LESS},
+    {FALSE_BOOK, .r = {.name = WITHDRAWAL, .tracer = 9}, ONE_LESS},
+    {FALSE_BOOK, .r = {.name = ZONAL, .layer = 9, .length = 4}, ONE_LESS},
+    {FALSE_BOOK, .r = {.name = COUNT_ZONAL, .layer = 9, .length = 4}, ONE_LESS},
+    {FALSE_BOOK, .r = {.name = ZONAL_WITH_COUNT, .layer = 9, .length = 4}, ONE_LESS},
+    {FALSE_BOOK, .r = {.name = LONG_ZONAL, .layer = 9, .length = 4}, ONE_LESS},
+    {FALSE_BOOK, .r = {.name = MERIDIONAL, .layer = 9, .length = 8}, ONE_LESS},
+    {FALSE_BOOK, .r = {.name = REMAP, .length = 4}, ONE_LESS},
+    {FALSE_BOOK, .r = {.name = CELL, .tracer = 9}, ONE_LESS},
+    {FALSE_BOOK, ADD(9, 9, 9, 9), ONE_LESS},
+    {FALSE_BOOK, REMOVE(9, 9), ONE_LESS},
+    {FALSE_BOOK, TICK_OF(9), ONE_LESS},
+    {FALSE_BOOK, .r = {.name = UNITS_A_TICK, .tracer = 9}, ONE_LESS},
+    {FALSE_BOOK, SET(9, 4, 1, 0), ONE_LESS},
+    {CASE_P, .ledger = {[LIMITER] = 4, [BOOK] = 1}, SWEEP_ROW(0, 50, 0, 0), .refusal = PULDEHO_REFUSAL_LIMITERS,
+     .text = "tracer 0 has the limiter 4 (number 51 of the ledger), which is none of 1, 2 and 3" WRITTEN},
+    {CASE_P, BOOKED(1, 2, 3), .r = {.name = LOAD}, .refusal = PULDEHO_ACCEPTED, .text = "the call would be accepted"},
+    {CASE_P, BOOKED(300, 4294967295u, 4294967195u), .r = {.name = UNITS_A_TICK}, .refusal = PULDEHO_ACCEPTED,
+     .text = "the call would be accepted"},
+    {SMALL, AIR_100, BOOKED(0, 4294967280u, 4294967280u), EMIT(15), .refusal = PULDEHO_ACCEPTED, .text = "the call would be accepted"},
+    {SMALL, AIR_100, BOOKED(0, 4294967280u, 4294967280u), EMIT(16), .refusal = PULDEHO_REFUSAL_EMISSION,
+     .text = "since the load 4294967280 units of tracer 0 were emitted (number 57 of the ledger) and the amount is 16; the sum may not "
+             "pass 4294967295, so at most 15 can be emitted until the next load" SUMS_ANEW},
+    {SMALL, AIR_100, BOOKED(0, 4294967295u, 4294967295u), EMIT(0), .refusal = PULDEHO_ACCEPTED, .text = "the call would be accepted"},
+    {SMALL, AIR_100, BOOKED(0, 4294967295u, 4294967295u), EMIT(4294967295u), .refusal = PULDEHO_REFUSAL_EMISSION,
+     .text = "since the load 4294967295 units of tracer 0 were emitted (number 57 of the ledger) and the amount is 4294967295 (-1, if "
+             "the number was signed); the sum may not pass 4294967295, so at most 0 can be emitted until the next load" SUMS_ANEW},
+    {SMALL, AIR_100, .tracers = {268435440}, BOOKED(0, 4294967280u, 4026531840u), EMIT(16), .refusal = PULDEHO_REFUSAL_EMISSION,
+     .text = "tracer 0 has the total 268435440 and the amount is 16; the limit is 268435455, so at most 15 can be emitted"},
+    {TWO_GASES, .ledger = {[OTHER] = 2, 16, 0, 7, 3, 10, 8, 4, 6, [OTHER + BOOK] = 7, 4294967280u, 4294967287u}, TICK_OF(1),
+     .refusal = PULDEHO_REFUSAL_EMISSION,
+     .text = "since the load 4294967280 units of tracer 1 were emitted (number 116 of the ledger) and a tick gives 16, the units of 2 "
+             "emitters; the sum may not pass 4294967295, so at most 15 can be emitted until the next load, and nothing was" SUMS_ANEW},
+    {CASE_P, BOOKED(395, 4294967295u, 4294967290u), WITHDRAW(5), .refusal = PULDEHO_ACCEPTED, .text = "the call would be accepted"},
+    {CASE_P, BOOKED(395, 4294967295u, 4294967290u), WITHDRAW(6), .refusal = PULDEHO_REFUSAL_WITHDRAWAL,
+     .text = "since the load 4294967290 units of tracer 0 were withdrawn (number 58 of the ledger) and the amount is 6; the sum may "
+             "not pass 4294967295, so at most 5 can be withdrawn until the next load" SUMS_ANEW},
+    {CASE_P, BOOKED(200, 4294967295u, 4294967095u), WITHDRAW(201), .refusal = PULDEHO_REFUSAL_WITHDRAWAL,
+     .text = "cell 3 (layer 0, row 0, column 2) has 200 of tracer 0, the amount is 201"},
     {CASE_P, SWEEP_ROW(0, 0, 1048561, -2147483647 - 1), .refusal = PULDEHO_REFUSAL_FLUXES,
      .text = "flux 2 (between columns 2 and 3) is 1048561, its size must be at most 1048560; fluxes above: 2 of 4"},
     {CASE_P, SWEEP_ROW(0, 0, 0, -2147483647 - 1), .refusal = PULDEHO_REFUSAL_FLUXES,
@@ -1255,9 +1446,13 @@ static void check_fixed(const struct fixed *f)
     struct puldeho_world world = puldeho_world_over(
         f->grid, own.air, f->air_length == 0 ? air : f->air_length,
         own.tracers, f->tracers_length == 0 ? tracers : f->tracers_length);
-    for (size_t tracer = 0; tracer < 2; tracer++)
-        if (!f->as_given && own.ledger[tracer * PULDEHO_LEDGER_BLOCK + LIMITER] == 0)
-            own.ledger[tracer * PULDEHO_LEDGER_BLOCK + LIMITER] = PULDEHO_LIMITER_PRESENT;
+    for (size_t tracer = 0; tracer < 2 && !f->as_given; tracer++) {
+        uint32_t *block = own.ledger + tracer * PULDEHO_LEDGER_BLOCK;
+        if (block[LIMITER] == 0)
+            block[LIMITER] = PULDEHO_LIMITER_PRESENT;
+        if (block[BOOK] == 0 && block[BOOK + 1] == 0 && block[BOOK + 2] == 0)
+            block[BOOK] = (uint32_t)total_of(&world, tracer);
+    }
     world.ledger = own.ledger;
     world.ledger_length = f->ledger_length != 0 ? f->ledger_length : in_range ? puldeho_ledger_length(f->grid) : 0;
     struct puldeho_world lent = copy_of(&world);
@@ -1311,7 +1506,8 @@ static bool all_reached(void)
     all = all && long_ends && turns[0] && turns[1] && long_instead[0] && long_instead[1];
     all = all && faults[0] && faults[1] && faults[2] && faults[3] && full[0] && full[1] && twice;
     all = all && limiters[0] && limiters[1] && limiters[2] && to_set[0] && to_set[1] && to_set[2];
-    all = all && absent[0] && absent[1] && ticks && given[0] && given[1] && given[2] && given[3];
+    all = all && absent[0] && absent[1] && given[0] && given[1] && given[2] && given[3] && books[0] && books[1] && books[2];
+    all = all && rooms[0][0] && rooms[0][1] && rooms[0][2] && rooms[1][0] && rooms[1][1] && rooms[1][2];
     for (size_t i = 0; i <= MOST_REFUSAL; i++)
         all = all && (reached[i] > 0 || is_program(i));
     return all;
@@ -1329,11 +1525,12 @@ int main(void)
         differs("some refusal or kind of text was not reached", "");
     printf("why: %zu texts and %d seeded calls, %lu refused; sweeps of which a cell ends outside %lu, that serve as "
            "parts %lu, that do not %lu; long sweeps of which a cell ends outside %lu, of more than a turn %lu; ledgers with a "
-           "fault %lu, emitters added twice or above 16 %lu, absent %lu, ticks above the limit %lu; other counts given %lu; limiters %lu, to be set %lu; %d "
-           "differences\n", texts,
+           "fault %lu, emitters added twice or above 16 %lu, absent %lu; other counts given %lu; limiters %lu, to be set %lu; books %lu, "
+           "amounts above a total or a cell %lu, above a sum %lu; %d differences\n", texts,
            CALLS, CALLS + texts - reached[0], ends[0] + ends[1], cuts[0] + cuts[1], uncut[0] + uncut[1], long_ends,
            turns[0] + turns[1], faults[0] + faults[1] + faults[2] + faults[3], full[0] + full[1] + twice,
-           absent[0] + absent[1], ticks, given[0] + given[1] + given[2] + given[3], limiters[0] + limiters[1] + limiters[2],
-           to_set[0] + to_set[1] + to_set[2], differences);
+           absent[0] + absent[1], given[0] + given[1] + given[2] + given[3], limiters[0] + limiters[1] + limiters[2],
+           to_set[0] + to_set[1] + to_set[2], books[0] + books[1] + books[2], rooms[0][0] + rooms[0][1] + rooms[0][2],
+           rooms[1][0] + rooms[1][1] + rooms[1][2], differences);
     return differences == 0 ? 0 : 1;
 }

@@ -1,4 +1,4 @@
-! Puldeho, the transport core of the tracer console, for Fortran 2003 and later: version 0.7.0.
+! Puldeho, the transport core of the tracer console, for Fortran 2003 and later: version 0.8.0.
 ! Made by tools/bindings from the tables of bindings/: not to be edited.
 !
 ! To compile and link: gfortran $(pkg-config --variable=fortran puldeho) program.f90 $(pkg-config --libs puldeho)
@@ -17,13 +17,15 @@
 ! stands, with 2**31 or more, and refuses every tick with 6.) The bounds lo and hi of a limiter are 64-bit without a
 ! sign: a negative one is that number plus 2**64, above every ratio. After a refused call NAME, call
 ! world%why_NAME(.., text) with the same arguments says which cell or column was in the way, and what would help.
+! After you wrote into world%air or world%tracers, load them again: other calls are refused with 22 if the cells of
+! some tracer do not sum to what its book says.
 ! docs/GUIDE.md explains grid, units, fluxes and refusals.
 module puldeho
   use, intrinsic :: iso_c_binding, only: c_char, c_int, c_int32_t, c_int64_t, c_loc, c_null_char, c_null_ptr, c_ptr, c_size_t
   implicit none
   private
 
-  character(len=*), parameter, public :: puldeho_version = "0.7.0"
+  character(len=*), parameter, public :: puldeho_version = "0.8.0"
 
   ! the scale of ratios, mismatches and pieces, in which set_limiter takes its bounds: 262144 from version 0.6
   ! on, and 65536 before. Builds whose scales differ may give other amounts
@@ -32,6 +34,8 @@ module puldeho
   integer(c_int32_t), parameter, public :: puldeho_air_limit = 65535
   ! the most units of a tracer in all cells together
   integer(c_int32_t), parameter, public :: puldeho_total_limit = 268435455
+  ! the most units of a tracer that its book has as emitted, or as withdrawn, since the load
+  integer(c_int64_t), parameter, public :: puldeho_sum_limit = 4294967295_c_int64_t
   ! the largest size of a flux of a zonal or a long zonal sweep
   integer(c_int32_t), parameter, public :: puldeho_zonal_limit = 1048560
   ! the largest size of a flux of a meridional sweep
@@ -54,7 +58,7 @@ module puldeho
   integer(c_int32_t), parameter, public :: puldeho_most_emitters = 16
   ! how many numbers of the ledger each tracer has; tracer t's block starts at t times this number. Later
   ! versions have more
-  integer(c_int32_t), parameter, public :: puldeho_ledger_block = 56
+  integer(c_int32_t), parameter, public :: puldeho_ledger_block = 59
 
   ! The limiters, as set_limiter takes them; section 12 of the guide says when to use which.
   ! van Leer's monotone limiter, which a load gives every tracer: no new highs and lows beyond rounding
@@ -77,9 +81,9 @@ module puldeho
   ! the tracer, cell, layer or row is absent; in add_emitter, remove_emitter, tick and units_a_tick also: in
   ! the ledger some tracer has more than 16 emitters, an emitter in an absent cell, an id twice or a false sum
   integer(c_int32_t), parameter, public :: puldeho_refusal_index = 5
-  ! the total would pass 268,435,455
+  ! the total would pass 268,435,455, or the tracer's emitted sum 4,294,967,295
   integer(c_int32_t), parameter, public :: puldeho_refusal_emission = 6
-  ! the cell has less than the amount
+  ! the cell has less than the amount, or the tracer's withdrawn sum would pass 4,294,967,295
   integer(c_int32_t), parameter, public :: puldeho_refusal_withdrawal = 7
   ! a flux's size is above 1,048,560 (zonal) or 65,535 (meridional)
   integer(c_int32_t), parameter, public :: puldeho_refusal_fluxes = 8
@@ -103,6 +107,8 @@ module puldeho
   integer(c_int32_t), parameter, public :: puldeho_refusal_given_count = 20
   ! a tracer's limiter is none of 1, 2 and 3, or its lo exceeds its hi
   integer(c_int32_t), parameter, public :: puldeho_refusal_limiters = 21
+  ! a tracer's loaded + emitted - withdrawn is not the sum of its cells
+  integer(c_int32_t), parameter, public :: puldeho_refusal_books = 22
 
   ! What cell numbers are for a place that the grid has not; every call refuses it, with 5.
   integer(c_int32_t), parameter, public :: puldeho_no_cell = -1
@@ -137,13 +143,14 @@ module puldeho
     integer(c_int32_t), allocatable :: air(:)
     ! the amounts of every tracer; tracer t starts at t*K*C: N*K*C numbers, the first has the index 0
     integer(c_int32_t), allocatable :: tracers(:)
-    ! the emitters and the limiter, a block for each tracer: at its place 0 how many emitters stand, at 1 and
-    ! 2 the sum of their units, low and high 32 bits, from 3 on id, cell and units of each, at 51 the limiter,
-    ! at 52 and 53 its lo and at 54 and 55 its hi, low and high 32 bits: N*56 numbers, the first has the index
-    ! 0
+    ! the emitters, the limiter and the book, a block for each tracer: at its place 0 how many emitters stand,
+    ! at 1 and 2 the sum of their units, low and high 32 bits, from 3 on id, cell and units of each, at 51 the
+    ! limiter, at 52 and 53 its lo and at 54 and 55 its hi, low and high 32 bits, at 56 what was loaded, at 57
+    ! what was emitted and at 58 what was withdrawn: N*59 numbers, the first has the index 0
     integer(c_int32_t), allocatable :: ledger(:)
   contains
     procedure :: limiter => world_limiter
+    procedure :: book => world_book
     procedure :: load => world_load
     procedure :: emission => world_emission
     procedure :: withdrawal => world_withdrawal
@@ -186,7 +193,7 @@ module puldeho
     integer(c_size_t) :: tracers_length = 0
     type(c_ptr) :: ledger = c_null_ptr
     integer(c_size_t) :: ledger_length = 0
-    integer(c_int32_t) :: own_ledger(448) = 0
+    integer(c_int32_t) :: own_ledger(472) = 0
   end type c_world
 
   ! PULDEHO_WHY_SIZE of the C header.
@@ -194,8 +201,8 @@ module puldeho
 
   ! Does nothing. A library of another version, whose functions may take other arguments, has no such name.
   interface
-    subroutine puldeho_abi_0_7() bind(c)
-    end subroutine puldeho_abi_0_7
+    subroutine puldeho_abi_0_8() bind(c)
+    end subroutine puldeho_abi_0_8
   end interface
 
   ! The proved functions. Each returns refusal * 2**32 + count.
@@ -223,7 +230,7 @@ module puldeho
       integer(c_size_t), value :: air_length
       integer(c_int32_t), intent(inout) :: tracers(*)
       integer(c_size_t), value :: tracers_length
-      integer(c_int32_t), intent(in) :: ledger(*)
+      integer(c_int32_t), intent(inout) :: ledger(*)
       integer(c_size_t), value :: ledger_length
       integer(c_int32_t), value :: tracer
       integer(c_int32_t), value :: cell
@@ -240,7 +247,7 @@ module puldeho
       integer(c_size_t), value :: air_length
       integer(c_int32_t), intent(inout) :: tracers(*)
       integer(c_size_t), value :: tracers_length
-      integer(c_int32_t), intent(in) :: ledger(*)
+      integer(c_int32_t), intent(inout) :: ledger(*)
       integer(c_size_t), value :: ledger_length
       integer(c_int32_t), value :: tracer
       integer(c_int32_t), value :: cell
@@ -433,7 +440,7 @@ module puldeho
       integer(c_size_t), value :: air_length
       integer(c_int32_t), intent(inout) :: tracers(*)
       integer(c_size_t), value :: tracers_length
-      integer(c_int32_t), intent(in) :: ledger(*)
+      integer(c_int32_t), intent(inout) :: ledger(*)
       integer(c_size_t), value :: ledger_length
       integer(c_int32_t), value :: tracer
       integer(c_int64_t) :: returned
@@ -697,7 +704,8 @@ module puldeho
 contains
 
   ! Takes copies of the lists as the world from now on, if the load is accepted; else the world stays as it was.
-  ! The lists may be the world's own: after you wrote into them, load them again.
+  ! The lists may be the world's own: after you wrote into them, load them again. No emitter stands then, every tracer
+  ! has limiter 1, and its book begins anew.
   ! Refusals, in order: 1 2 3 4.
   subroutine world_load(world, grid, air, tracers, refusal)
     class(puldeho_world), intent(inout) :: world
@@ -707,7 +715,7 @@ contains
     integer(c_int32_t), intent(out) :: refusal
     type(puldeho_world) :: loaded
 
-    call puldeho_abi_0_7()
+    call puldeho_abi_0_8()
     call copy_lists(loaded, grid, air, tracers)
     refusal = refusal_of(puldeho_raw_load( &
         loaded%grid%w, loaded%grid%r, loaded%grid%k, loaded%grid%n, loaded%air, size(loaded%air, &
@@ -731,11 +739,11 @@ contains
     world%grid = grid
     allocate (world%air(0:size(air) - 1), source=air)
     allocate (world%tracers(0:size(tracers) - 1), source=tracers)
-    allocate (world%ledger(0:min(puldeho_ledger_length(grid), 448) - 1), source=0)
+    allocate (world%ledger(0:min(puldeho_ledger_length(grid), 472) - 1), source=0)
   end subroutine copy_lists
 
-  ! Adds amount to one cell of one tracer. Cells are numbered over all layers. Refusals, in order: 1 2 3 4 5
-  ! 6.
+  ! Adds amount to one cell of one tracer, and to what its book has as emitted. Cells are numbered over all
+  ! layers. Refusals, in order: 1 2 3 4 22 5 6.
   subroutine world_emission(world, tracer, cell, amount, refusal)
     class(puldeho_world), intent(inout) :: world
     integer(c_int32_t), intent(out) :: refusal
@@ -753,8 +761,8 @@ contains
     refusal = refusal_of(returned)
   end subroutine world_emission
 
-  ! Takes amount from one cell of one tracer. Cells are numbered over all layers. Refusals, in order: 1 2 3 4
-  ! 5 7.
+  ! Takes amount from one cell of one tracer, and adds it to what its book has as withdrawn. Cells are
+  ! numbered over all layers. Refusals, in order: 1 2 3 4 22 5 7.
   subroutine world_withdrawal(world, tracer, cell, amount, refusal)
     class(puldeho_world), intent(inout) :: world
     integer(c_int32_t), intent(out) :: refusal
@@ -772,7 +780,7 @@ contains
     refusal = refusal_of(returned)
   end subroutine world_withdrawal
 
-  ! Sweeps one row of one layer by W fluxes, positive eastward. Refusals, in order: 1 2 3 4 21 5 8 9.
+  ! Sweeps one row of one layer by W fluxes, positive eastward. Refusals, in order: 1 2 3 4 21 22 5 8 9.
   ! substeps: the number of substeps, 1 to 16.
   subroutine world_zonal(world, layer, row, fluxes, refusal, substeps)
     class(puldeho_world), intent(inout) :: world
@@ -795,7 +803,7 @@ contains
   end subroutine world_zonal
 
   ! Counts the substeps of a zonal sweep of one row of one layer by W fluxes, positive eastward, before it is
-  ! made, to be seen and then given to zonal_with_count. Refusals, in order: 1 2 3 4 21 5 8 9.
+  ! made, to be seen and then given to zonal_with_count. Refusals, in order: 1 2 3 4 21 22 5 8 9.
   ! substeps: the number of substeps that the sweep takes, 1 to 16.
   subroutine world_count_zonal(world, layer, row, fluxes, refusal, substeps)
     class(puldeho_world), intent(in) :: world
@@ -818,7 +826,7 @@ contains
   end subroutine world_count_zonal
 
   ! Makes the sweep of zonal, if the given count is the one that count_zonal gives for the same layer, row and
-  ! fluxes now; with any other count it is refused with 20. Refusals, in order: 1 2 3 4 21 5 8 9 20.
+  ! fluxes now; with any other count it is refused with 20. Refusals, in order: 1 2 3 4 21 22 5 8 9 20.
   ! substeps: the given count.
   subroutine world_zonal_with_count(world, layer, row, given, fluxes, refusal, substeps)
     class(puldeho_world), intent(inout) :: world
@@ -842,7 +850,7 @@ contains
   end subroutine world_zonal_with_count
 
   ! Sweeps one row of one layer by W fluxes, positive eastward, without substeps: a face takes whole cells and
-  ! then a part of the next. Its amounts are not those of zonal. Refusals, in order: 1 2 3 4 21 5 8 16 17.
+  ! then a part of the next. Its amounts are not those of zonal. Refusals, in order: 1 2 3 4 21 22 5 8 16 17.
   subroutine world_long_zonal(world, layer, row, fluxes, refusal)
     class(puldeho_world), intent(inout) :: world
     integer(c_int32_t), intent(out) :: refusal
@@ -860,7 +868,7 @@ contains
     refusal = refusal_of(returned)
   end subroutine world_long_zonal
 
-  ! Sweeps one layer by W*(R + 1) fluxes, positive northward. Refusals, in order: 1 2 3 4 21 5 8 10.
+  ! Sweeps one layer by W*(R + 1) fluxes, positive northward. Refusals, in order: 1 2 3 4 21 22 5 8 10.
   ! substeps: the number of substeps, 1.
   subroutine world_meridional(world, layer, fluxes, refusal, substeps)
     class(puldeho_world), intent(inout) :: world
@@ -883,7 +891,7 @@ contains
 
   ! Remaps all columns to the edges of a table of K + 1 pairs a, b, lent as 2*(K + 1) numbers. Makes at most
   ! 2*K steps for each column and tracer, in all at most the grid's most_remap_steps. Section 6 of the guide
-  ! writes a count out by hand. Refusals, in order: 1 2 3 4 21 11 12.
+  ! writes a count out by hand. Refusals, in order: 1 2 3 4 21 22 11 12.
   ! overlaps: exactly the number of pairs of an old and a new layer that share some air, summed over columns.
   subroutine world_remap(world, table, refusal, overlaps)
     class(puldeho_world), intent(inout) :: world
@@ -903,7 +911,9 @@ contains
     if (present(overlaps)) overlaps = count_of(returned)
   end subroutine world_remap
 
-  ! Reads the total of one tracer. Refusals, in order: 1 2 3 4 5.
+  ! Reads the total of one tracer. As every call but a load it tests the books of all tracers: if it is
+  ! accepted, the total of each is what its book has as loaded + emitted - withdrawn. Refusals, in order: 1 2
+  ! 3 4 22 5.
   ! units: the total of the tracer.
   subroutine world_total(world, tracer, refusal, units)
     class(puldeho_world), intent(in) :: world
@@ -923,7 +933,7 @@ contains
     if (present(units)) units = count_of(returned)
   end subroutine world_total
 
-  ! Reads one cell of one tracer. Cells are numbered over all layers. Refusals, in order: 1 2 3 4 5.
+  ! Reads one cell of one tracer. Cells are numbered over all layers. Refusals, in order: 1 2 3 4 22 5.
   ! units: the amount in the cell.
   subroutine world_cell(world, tracer, cell, refusal, units)
     class(puldeho_world), intent(in) :: world
@@ -945,7 +955,7 @@ contains
   end subroutine world_cell
 
   ! Lets an emitter stand for one tracer: in each tick it gives so many units to the cell. Any number is an
-  ! id, and each tracer has its own. Cells are numbered over all layers. Refusals, in order: 1 2 3 4 5 18.
+  ! id, and each tracer has its own. Cells are numbered over all layers. Refusals, in order: 1 2 3 4 22 5 18.
   subroutine world_add_emitter(world, tracer, cell, id, units, refusal)
     class(puldeho_world), intent(inout) :: world
     integer(c_int32_t), intent(out) :: refusal
@@ -965,7 +975,7 @@ contains
   end subroutine world_add_emitter
 
   ! Removes the emitter that one tracer has under the id. The tracer's last emitter takes its place in the
-  ! ledger. Refusals, in order: 1 2 3 4 5 19.
+  ! ledger. Refusals, in order: 1 2 3 4 22 5 19.
   subroutine world_remove_emitter(world, tracer, id, refusal)
     class(puldeho_world), intent(inout) :: world
     integer(c_int32_t), intent(out) :: refusal
@@ -982,8 +992,8 @@ contains
     refusal = refusal_of(returned)
   end subroutine world_remove_emitter
 
-  ! Adds the units of every emitter of one tracer to its cell, or, if it is refused, of none. Refusals, in
-  ! order: 1 2 3 4 5 6.
+  ! Adds the units of every emitter of one tracer to its cell, and to what its book has as emitted, or, if it
+  ! is refused, of none. Refusals, in order: 1 2 3 4 22 5 6.
   subroutine world_tick(world, tracer, refusal)
     class(puldeho_world), intent(inout) :: world
     integer(c_int32_t), intent(out) :: refusal
@@ -999,7 +1009,7 @@ contains
     refusal = refusal_of(returned)
   end subroutine world_tick
 
-  ! Reads how much a tick of one tracer emits. Refusals, in order: 1 2 3 4 5.
+  ! Reads how much a tick of one tracer emits. Refusals, in order: 1 2 3 4 22 5.
   ! units: the units that the tracer's emitters give in a tick.
   subroutine world_units_a_tick(world, tracer, refusal, units)
     class(puldeho_world), intent(in) :: world
@@ -1023,7 +1033,7 @@ contains
   ! Chooses the limiter of one tracer: 1 the present one, 2 the positive one, 3 the fixed one between lo and
   ! hi, which are mixing ratios (units of gas for one of air) times the scale, 262144. The bounds are stored
   ! with every limiter, and only 3 reads them; give 0 and 0 with 1 and 2. Holds until the next set_limiter of
-  ! this tracer or the next load. Refusals, in order: 1 2 3 4 5 21.
+  ! this tracer or the next load. Refusals, in order: 1 2 3 4 22 5 21.
   subroutine world_set_limiter(world, tracer, limiter, lo, hi, refusal)
     class(puldeho_world), intent(inout) :: world
     integer(c_int32_t), intent(out) :: refusal
@@ -1279,6 +1289,26 @@ contains
     hi = wide_of(world%ledger(place + 3:place + 4))
   end subroutine world_limiter
 
+  ! The book of a tracer, in units: what the load found in all its cells, and what was emitted (ticks included) and
+  ! withdrawn since then. All are -1 where the world was never loaded, or has no such tracer. Reading does not test
+  ! it; if a call of total for any tracer is accepted, every tracer's total is loaded + emitted - withdrawn, and if
+  ! not, it is refused with 22. The sums do not fit 32 bits with a sign, as which they stand in the ledger.
+  subroutine world_book(world, tracer, loaded, emitted, withdrawn)
+    class(puldeho_world), intent(in) :: world
+    integer(c_int32_t), intent(in) :: tracer
+    integer(c_int64_t), intent(out) :: loaded, emitted, withdrawn
+    integer(c_int32_t) :: place
+
+    loaded = -1
+    emitted = -1
+    withdrawn = -1
+    if (.not. has_lists(world) .or. tracer < 0 .or. tracer >= world%grid%n) return
+    place = tracer*puldeho_ledger_block + 56
+    loaded = ibits(int(world%ledger(place), c_int64_t), 0, 32)
+    emitted = ibits(int(world%ledger(place + 1), c_int64_t), 0, 32)
+    withdrawn = ibits(int(world%ledger(place + 2), c_int64_t), 0, 32)
+  end subroutine world_book
+
   ! A number of 64 bits from its low and its high half.
   pure function wide_of(halves) result(wide)
     integer(c_int32_t), intent(in) :: halves(2)
@@ -1413,14 +1443,15 @@ contains
     length = grid%n*grid%k*puldeho_cells_in_layer(grid)
   end function puldeho_tracers_length
 
-  ! The length of ledger: N*56. In it: the emitters and the limiter, a block for each tracer: at its place 0
-  ! how many emitters stand, at 1 and 2 the sum of their units, low and high 32 bits, from 3 on id, cell and
-  ! units of each, at 51 the limiter, at 52 and 53 its lo and at 54 and 55 its hi, low and high 32 bits.
+  ! The length of ledger: N*59. In it: the emitters, the limiter and the book, a block for each tracer: at its
+  ! place 0 how many emitters stand, at 1 and 2 the sum of their units, low and high 32 bits, from 3 on id,
+  ! cell and units of each, at 51 the limiter, at 52 and 53 its lo and at 54 and 55 its hi, low and high 32
+  ! bits, at 56 what was loaded, at 57 what was emitted and at 58 what was withdrawn.
   pure function puldeho_ledger_length(grid) result(length)
     type(puldeho_grid), intent(in) :: grid
     integer(c_int32_t) :: length
 
-    length = grid%n*56
+    length = grid%n*59
   end function puldeho_ledger_length
 
   ! The length of fluxes of a zonal call: W. In it: flux i crosses the face from column i to column i + 1, the
@@ -1510,9 +1541,9 @@ contains
           "units_a_tick also: in the ledger some tracer has more than 16 emitters, an emitter in an " // &
           "absent cell, an id twice or a false sum"
     case (puldeho_refusal_emission)
-      text = "the total would pass 268,435,455"
+      text = "the total would pass 268,435,455, or the tracer's emitted sum 4,294,967,295"
     case (puldeho_refusal_withdrawal)
-      text = "the cell has less than the amount"
+      text = "the cell has less than the amount, or the tracer's withdrawn sum would pass 4,294,967,295"
     case (puldeho_refusal_fluxes)
       text = "a flux's size is above 1,048,560 (zonal) or 65,535 (meridional)"
     case (puldeho_refusal_zonal)
@@ -1536,6 +1567,8 @@ contains
       text = "the given count differs from the smallest that serves"
     case (puldeho_refusal_limiters)
       text = "a tracer's limiter is none of 1, 2 and 3, or its lo exceeds its hi"
+    case (puldeho_refusal_books)
+      text = "a tracer's loaded + emitted - withdrawn is not the sum of its cells"
     case default
       text = "no refusal of this version"
     end select
@@ -1566,9 +1599,13 @@ contains
     case (puldeho_refusal_emission)
       text = "correct an amount that is wrong, and remove an emitter whose units are wrong; else load " // &
           "the gas in a larger unit, with room for all emissions and ticks of the run, and add its " // &
-          "emitters anew, with their units in the larger unit"
+          "emitters anew, with their units in the larger unit; if the emitted sum is full, read the " // &
+          "book and load again, which begins the sums anew, then add the emitters and set the " // &
+          "limiters anew"
     case (puldeho_refusal_withdrawal)
-      text = "read the cell first, and withdraw at most what it has"
+      text = "read the cell first, and withdraw at most what it has; if the withdrawn sum is full, read " // &
+          "the book and load again, which begins the sums anew, then add the emitters and set the " // &
+          "limiters anew"
     case (puldeho_refusal_fluxes)
       text = "give fluxes in units of air for this step, and divide the step if they are still too large"
     case (puldeho_refusal_zonal)
@@ -1608,6 +1645,10 @@ contains
       text = "load the world before other calls, and again if the ledger was written by anything but " // &
           "calls, then add the emitters and set the limiters anew; give set_limiter 1, 2 or 3, and lo" // &
           " and hi as mixing ratios times 262,144, lo at most hi (with 1 and 2 both 0)"
+    case (puldeho_refusal_books)
+      text = "load the world before other calls, and again after anything but calls wrote into tracers " // &
+          "or ledger: what the cells have then is the loaded amount, and emitters and limiters must " // &
+          "be set anew; to go back to a kept state, bring back tracers and ledger together"
     case default
       text = "compile the program anew, with the module of the library that it is linked with"
     end select

@@ -1,5 +1,5 @@
 ! The Fortran module: words that say why a call is refused, a world that is kept and brought back, a load that is refused,
-! case x1, long sweeps, the count before a sweep, emitters, limiters, readings of a world that is only read, lengths, cell numbers, the count and the most steps of a remap.
+! case x1, long sweeps, the count before a sweep, emitters, limiters, books, readings of a world that is only read, lengths, cell numbers, the count and the most steps of a remap.
 ! The exit status is not 0 if anything differs.
 program test
   use, intrinsic :: iso_fortran_env, only: int64
@@ -50,7 +50,15 @@ program test
   world = kept
   call limiters(world)
   world = kept
+  call books(world)
+  call full_sums()
+  world = kept
   world%tracers(3) = 150
+  call world%total(0, refusal)
+  call gives(puldeho_refusal_books)
+  call world%why_total(0, text)
+  call says("the book of tracer 0 has 400 loaded, 0 emitted and 0 withdrawn (numbers 56 to 58 of the ledger), " // &
+      "which makes 400, and its cells sum to 350, 50 less")
   call world%load(world%grid, world%air, world%tracers, refusal)
   call gives(puldeho_accepted)
   if (any(world%tracers /= [0, 0, 100, 150, 100, 0]) .or. any(world%air /= air)) error stop "loaded again, the world differs"
@@ -206,6 +214,67 @@ contains
     call one%limiter(0, found, lo, hi)
     if (found /= number .or. lo /= low .or. hi /= high) error stop "another limiter"
   end subroutine has
+
+  ! What was loaded, emitted and withdrawn is read, kept with the world, and begun anew by a load.
+  subroutine books(one)
+    type(puldeho_world), intent(inout) :: one
+    type(puldeho_world) :: before, none
+
+    call booked(none, 0, [-1, -1, -1])
+    call booked(one, 1, [-1, -1, -1])
+    call booked(one, -1, [-1, -1, -1])
+    call booked(one, 0, [400, 0, 0])
+    call one%emission(0, 3, 50, refusal)
+    call one%add_emitter(0, 2, 7, 11, refusal)
+    call one%tick(0, refusal)
+    call one%withdrawal(0, 3, 20, refusal)
+    call gives(puldeho_accepted)
+    before = one
+    call one%zonal(0, 0, [0, 50, 0, 0], refusal)
+    call booked(one, 0, [400, 61, 20])
+    call one%withdrawal(0, 3, 1, refusal)
+    call booked(one, 0, [400, 61, 21])
+    one = before
+    call booked(one, 0, [400, 61, 20])
+    call one%load(one%grid, one%air, one%tracers, refusal)
+    call gives(puldeho_accepted)
+    call booked(one, 0, [441, 0, 0])
+  end subroutine books
+
+  ! A gas that is emitted and withdrawn whole: sums above 2**31 - 1 are not negative here.
+  subroutine full_sums()
+    type(puldeho_world) :: one
+    integer(int64) :: loaded, emitted, withdrawn
+    integer :: i
+
+    call one%load(grid, air, [0, 0, 0, 0, 0, 0], refusal)
+    do i = 1, 16
+      call one%emission(0, 2, puldeho_total_limit, refusal)
+      call gives(puldeho_accepted)
+      call one%withdrawal(0, 2, puldeho_total_limit, refusal)
+      call gives(puldeho_accepted)
+    end do
+    call one%emission(0, 2, puldeho_total_limit, refusal)
+    call gives(puldeho_refusal_emission)
+    call one%why_emission(0, 2, puldeho_total_limit, text)
+    call says("since the load 4294967280 units of tracer 0 were emitted (number 57 of the ledger) and the amount is 268435455")
+    call one%emission(0, 2, 15, refusal)
+    call gives(puldeho_accepted)
+    call one%emission(0, 2, 1, refusal)
+    call gives(puldeho_refusal_emission)
+    call one%book(0, loaded, emitted, withdrawn)
+    if (loaded /= 0 .or. emitted /= puldeho_sum_limit .or. withdrawn /= puldeho_sum_limit - 15) error stop "full sums differ"
+  end subroutine full_sums
+
+  ! A tracer of the world has this book.
+  subroutine booked(one, tracer, sums)
+    type(puldeho_world), intent(in) :: one
+    integer, intent(in) :: tracer, sums(3)
+    integer(int64) :: loaded, emitted, withdrawn
+
+    call one%book(tracer, loaded, emitted, withdrawn)
+    if (any([loaded, emitted, withdrawn] /= sums)) error stop "another book"
+  end subroutine booked
 
   ! What one sweep by a limiter leaves of a peak, 50 units of whose air go east.
   subroutine sweep(number, high, left)

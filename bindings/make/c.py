@@ -174,6 +174,7 @@ def header(tables):
         "REFUSALS": ",\n".join("%s\n    PULDEHO_REFUSAL_%s = %d" % (comment(r.condition, "    "), constant(r.name), r.number) for r in tables.refusals),
         "LIMITERS": ",\n".join("%s\n    PULDEHO_LIMITER_%s = %d" % (comment(l.what, "    "), constant(l.name), l.number) for l in tables.limiters),
         "LIMITERPLACE": str(tables.limiter_place),
+        "BOOKPLACE": str(tables.book_place),
         "CONDITIONS": texts(tables.refusals, "condition"),
         "REMEDIES": texts(tables.refusals, "remedy"),
         "FIELDS": "\n".join(map(field, lists)) + "".join(own_field(l, tables) for l in owned),

@@ -3,7 +3,7 @@
 import collections
 import enum
 
-__all__ = ["Limiter", "Refusal", "StandingLimiter", @EXPORTED@]
+__all__ = ["Book", "Limiter", "Refusal", "StandingLimiter", @EXPORTED@]
 
 VERSION = "@VERSION@"
 # The shared library of this version. Another version's functions may take other arguments.
@@ -30,6 +30,17 @@ LIMITER_PLACE = @LIMITERPLACE@
 
 class StandingLimiter(collections.namedtuple("StandingLimiter", "limiter lo hi")):
     """The limiter that a tracer has, with its bounds. World.limiter gives it."""
+
+    __slots__ = ()
+
+
+# Where a tracer's book stands in its block of the ledger: what was loaded, emitted, withdrawn.
+BOOK_PLACE = @BOOKPLACE@
+
+
+class Book(collections.namedtuple("Book", "loaded emitted withdrawn")):
+    """A tracer's book: the units that the load found in all its cells, and those emitted (ticks included) and withdrawn since then.
+    World.book gives it."""
 
     __slots__ = ()
 

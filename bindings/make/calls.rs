@@ -33,6 +33,18 @@ pub const VERSION: &str = "@VERSION@";
 /// How long the lists are that go with a grid, and bounds on what a call does.
 impl Grid {@LENGTHS@@BOUNDS@}
 
+/// A tracer's book: what was loaded, and what was emitted and withdrawn since then, in units. [`World::book`] gives it. The sums
+/// have 32 bits in the ledger; here they can be added without a carry that is lost.
+#[derive(Clone, Copy, Debug, PartialEq, Eq)]
+pub struct Book {
+    /// What the load found in all cells of the tracer.
+    pub loaded: u64,
+    /// What emissions and ticks have added since the load.
+    pub emitted: u64,
+    /// What withdrawals have taken since the load.
+    pub withdrawn: u64,
+}
+
 /// A world that owns its lists, made by an accepted load, so that a later call is refused for its own arguments only.
 /// Two are equal if all that they have is equal, also what a later version adds; to compare amounts, compare the lists.
 #[derive(Clone, Debug, PartialEq, Eq)]
@@ -66,6 +78,14 @@ impl World {
     /// The grid.
     pub fn grid(&self) -> Grid {
         self.grid
+    }
+
+    /// The book of a tracer, if the grid has the tracer. Reading does not test it; every call but a load does, as [`World::total`],
+    /// for all tracers. As only calls write a world, none is refused with [`Refusal::Books`].
+    pub fn book(&self, tracer: u32) -> Option<Book> {
+        let block = self.ledger.chunks(LEDGER_BLOCK as usize).nth(tracer as usize)?;
+        let sum = |place: usize| u64::from(block[@BOOKPLACE@ + place]);
+        Some(Book { loaded: sum(0), emitted: sum(1), withdrawn: sum(2) })
     }
 
     /// The limiter that a tracer has now, if the grid has the tracer.

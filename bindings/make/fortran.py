@@ -136,6 +136,12 @@ def number(name, formula, text, result):
     ).format(wrapped(text, 110, "  ! "), name, terms, result)
 
 
+def limit(one):
+    """A limit by name; one that 32 bits with a sign do not hold has 64."""
+    kind, ending = ("c_int32_t", "") if one.number < 2**31 else ("c_int64_t", "_c_int64_t")
+    return "%s\n  integer(%s), parameter, public :: puldeho_%s = %d%s\n" % (wrapped(one.what, 110, "  ! "), kind, one.name.lower(), one.number, ending)
+
+
 def texts(tables, field):
     """The cases that give a text for each refusal."""
     return "".join(
@@ -161,10 +167,7 @@ def module(tables):
         "MADE": MADE,
         "VERSION": tables.version,
         "ABI": abi(tables),
-        "LIMITS": "".join(
-            "%s\n  integer(c_int32_t), parameter, public :: puldeho_%s = %d\n" % (wrapped(l.what, 110, "  ! "), l.name.lower(), l.number)
-            for l in tables.limits
-        ),
+        "LIMITS": "".join(map(limit, tables.limits)),
         "NAMES": "".join("  public :: puldeho_%s\n" % name for name in [length_name(l) for l in tables.lists] + [b.name for b in tables.bounds]),
         "LIMITERS": "".join(
             "%s\n  integer(c_int32_t), parameter, public :: puldeho_limiter_%s = %d\n" % (
@@ -172,6 +175,7 @@ def module(tables):
             for l in tables.limiters
         ),
         "LIMITERPLACE": str(tables.limiter_place),
+        "BOOKPLACE": str(tables.book_place),
         "REFUSALS": "".join(
             "%s\n  integer(c_int32_t), parameter, public :: puldeho_refusal_%s = %d\n" % (
                 wrapped(r.condition, 110, "  ! "), constant(r.name).lower(), r.number)

@@ -17,6 +17,8 @@
 ! stands, with 2**31 or more, and refuses every tick with 6.) The bounds lo and hi of a limiter are 64-bit without a
 ! sign: a negative one is that number plus 2**64, above every ratio. After a refused call NAME, call
 ! world%why_NAME(.., text) with the same arguments says which cell or column was in the way, and what would help.
+! After you wrote into world%air or world%tracers, load them again: other calls are refused with 22 if the cells of
+! some tracer do not sum to what its book says.
 ! docs/GUIDE.md explains grid, units, fluxes and refusals.
 module puldeho
   use, intrinsic :: iso_c_binding, only: c_char, c_int, c_int32_t, c_int64_t, c_loc, c_null_char, c_null_ptr, c_ptr, c_size_t
@@ -51,6 +53,7 @@ module puldeho
     type(puldeho_grid) :: grid
 @FIELDS@  contains
     procedure :: limiter => world_limiter
+    procedure :: book => world_book
 @METHODS@  end type puldeho_world
 
   ! struct puldeho_world of the C header.
@@ -78,7 +81,8 @@ module puldeho
 contains
 
   ! Takes copies of the lists as the world from now on, if the load is accepted; else the world stays as it was.
-  ! The lists may be the world's own: after you wrote into them, load them again.
+  ! The lists may be the world's own: after you wrote into them, load them again. No emitter stands then, every tracer
+  ! has limiter 1, and its book begins anew.
   ! Refusals, in order: 1 2 3 4.
   subroutine world_load(world, grid, @LOADED@, refusal)
     class(puldeho_world), intent(inout) :: world
@@ -121,6 +125,26 @@ contains
     lo = wide_of(world%ledger(place + 1:place + 2))
     hi = wide_of(world%ledger(place + 3:place + 4))
   end subroutine world_limiter
+
+  ! The book of a tracer, in units: what the load found in all its cells, and what was emitted (ticks included) and
+  ! withdrawn since then. All are -1 where the world was never loaded, or has no such tracer. Reading does not test
+  ! it; if a call of total for any tracer is accepted, every tracer's total is loaded + emitted - withdrawn, and if
+  ! not, it is refused with 22. The sums do not fit 32 bits with a sign, as which they stand in the ledger.
+  subroutine world_book(world, tracer, loaded, emitted, withdrawn)
+    class(puldeho_world), intent(in) :: world
+    integer(c_int32_t), intent(in) :: tracer
+    integer(c_int64_t), intent(out) :: loaded, emitted, withdrawn
+    integer(c_int32_t) :: place
+
+    loaded = -1
+    emitted = -1
+    withdrawn = -1
+    if (.not. has_lists(world) .or. tracer < 0 .or. tracer >= world%grid%n) return
+    place = tracer*puldeho_ledger_block + @BOOKPLACE@
+    loaded = ibits(int(world%ledger(place), c_int64_t), 0, 32)
+    emitted = ibits(int(world%ledger(place + 1), c_int64_t), 0, 32)
+    withdrawn = ibits(int(world%ledger(place + 2), c_int64_t), 0, 32)
+  end subroutine world_book
 
   ! A number of 64 bits from its low and its high half.
   pure function wide_of(halves) result(wide)

@@ -17,7 +17,7 @@
  *
  * What a call gives: PULDEHO_ACCEPTED, which is 0, or the first refusal that applies. (So a true value
  * is a refusal: do not keep it in a bool called ok.) A refused call changes nothing: neither air nor
- * tracers nor emitters nor limiters. A count, where a call has one, is written to the last argument, 0 if the call
+ * tracers nor emitters nor limiters nor books. A count, where a call has one, is written to the last argument, 0 if the call
  * is refused; that pointer may be null.
  *
  * What is assumed of pointers:
@@ -27,12 +27,13 @@
  * - a list that is written shares no memory with another list of the same call;
  * - nobody else writes a lent list during the call, or reads one that is written.
  * Nothing is assumed of the numbers: any are answered. The library keeps nothing
- * between calls, and each call tests the whole world before it does anything (of the ledger the emitters
- * only in the four calls on emitters, the limiters only in the calls that move air and in
- * puldeho_count_zonal). Several threads may call it at once, each with a world of its own; a list that is
- * only read may be shared. Between calls you may read the lists. If you write into them, load again: what
- * is promised of a run counts from there, no emitter stands then, every tracer has limiter 1, and later
- * versions, which keep books of each gas, refuse other calls until then.
+ * between calls, and each call tests the whole world before it does anything (of the ledger the books in
+ * every call but a load, the emitters only in the four calls on emitters, the limiters only in the calls
+ * that move air and in puldeho_count_zonal). Several threads may call it at once, each with a world of its
+ * own; a list that is only read may be shared. Between calls you may read the lists. If you write into
+ * them, load again: what is promised of a run counts from there, no emitter stands then, every tracer has
+ * limiter 1, and its book begins anew. Until then calls are refused with 22 if the cells of some tracer do
+ * not sum to what its book says. Changes that cancel each other, and changed air, are not noticed so.
  * Names that begin with puldeho or PULDEHO are the library's. Take sizes and limits by their names: they may grow.
  *
  * Which version has which scale: ratios, mismatches and pieces have the scale 262,144 (PULDEHO_SCALE) from
@@ -165,9 +166,10 @@ static inline uint32_t puldeho_north_cap(struct puldeho_grid grid, uint32_t laye
  * - load each world, once it is made, before any other call;
  * - load again when you have written into its lists or set its fields, before the next call;
  * - make all calls on the one struct, by its address: a copy of the struct is neither the same world nor
- *   a second one. It may be moved, as by a function that returns it. puldeho_copy copies a state.
+ *   a second one; what is emitted through one of them is not in the other's book (22). It may be moved, as
+ *   by a function that returns it. puldeho_copy copies a state.
  *
- * The ledger holds the emitters that stand and the limiters. A program need not know of it: where `ledger` is null,
+ * The ledger holds the emitters that stand, the limiters and the books. A program need not know of it: where `ledger` is null,
  * the world has one of its own, in the struct. To keep it elsewhere, set `ledger` to puldeho_ledger_length(grid) numbers
  * and `ledger_length` to that length before the load; the load writes all of it. Tracer t's block of numbers starts at
  * t*PULDEHO_LEDGER_BLOCK. In it stand at
@@ -176,14 +178,18 @@ static inline uint32_t puldeho_north_cap(struct puldeho_grid grid, uint32_t laye
  *   3 + 3*i, 4 + 3*i, 5 + 3*i  id, cell and units a tick of emitter i, counted from 0
  *   51                         the limiter's number, one of enum puldeho_limiter_number
  *   52 and 53, 54 and 55       its bounds lo and hi, of each the low and the high 32 bits
+ *   56, 57, 58                 the book: units loaded, and emitted and withdrawn since the load
  * A new emitter comes after the last. In place of a removed one comes the last one, whose place becomes 0, 0, 0. A load
- * leaves limiter 1 in each block, and 0 everywhere else; before the first load a world's own ledger is all zeros.
+ * leaves in each block limiter 1 and the tracer's total as loaded, and 0 everywhere else; before the first load a world's
+ * own ledger is all zeros.
  * So two programs that make the same calls have the same ledger, number for number.
- * Read it with puldeho_lent_ledger, a limiter with puldeho_limiter_of. Only calls may write it. The four calls on emitters
- * refuse with 5 a ledger in which some tracer has more emitters than that, one in an absent cell, an id twice or a false
- * sum. The calls that move air and puldeho_count_zonal refuse with 21 one in which some tracer's limiter is unknown or its
- * lo above its hi. No other call looks into it. To keep emitters and limiters in a file, keep what stands in each block; to
- * bring them back, load, add the emitters again in the same order, and set the limiters: the ledger is then the same.
+ * Read it with puldeho_lent_ledger, a limiter with puldeho_limiter_of, a book with puldeho_book_of. Only calls may write
+ * it. Every call but a load refuses with 22 a ledger in which some tracer's loaded + emitted - withdrawn is not the sum of
+ * its cells. The four calls on emitters refuse with 5 one in which some tracer has more emitters than that, one in an
+ * absent cell, an id twice or a false sum; the calls that move air and puldeho_count_zonal refuse with 21 one in which
+ * some tracer's limiter is unknown or its lo above its hi. To keep emitters and limiters in a file, keep what stands in
+ * each block; to bring them back, load, add the emitters again in the same order, and set the limiters: the ledger is then
+ * the same, but for the books, which begin anew.
  * Later versions have further numbers at the end of each block and after all blocks: take lengths and starts of
  * blocks from the functions and names above, and do not count on those of this version. */
 struct puldeho_world {
@@ -224,6 +230,29 @@ static inline struct puldeho_limiter puldeho_limiter_of(const struct puldeho_wor
         limiter.hi = (uint64_t)numbers[4] << 32 | numbers[3];
     }
     return limiter;
+}
+
+/* A tracer's book, in units: what the load found in all its cells, and what was emitted (ticks included) and withdrawn since
+ * then. In the ledger the sums have 32 bits; here they have 64 with a sign, so that they can be added and subtracted. */
+struct puldeho_book {
+    int64_t loaded, emitted, withdrawn;
+};
+
+/* The book of a tracer as it stands in the ledger; all three are -1 if the world has no such tracer, and 0 before the first
+ * load. Reading does not test it. Make a call of puldeho_total for any tracer before or after it: if that is accepted, every
+ * tracer's total is loaded + emitted - withdrawn; if not, it is refused with 22. */
+PULDEHO_NOT_NULL(1)
+static inline struct puldeho_book puldeho_book_of(const struct puldeho_world *world, uint32_t tracer)
+{
+    struct puldeho_book book = {-1, -1, -1};
+    size_t place = (size_t)tracer * PULDEHO_LEDGER_BLOCK + @BOOKPLACE@;
+    if (tracer < world->grid.n && place + 3 <= puldeho_lent_ledger_length(world)) {
+        const uint32_t *numbers = puldeho_lent_ledger(world) + place;
+        book.loaded = numbers[0];
+        book.emitted = numbers[1];
+        book.withdrawn = numbers[2];
+    }
+    return book;
 }
 
 /* Copies a world's state, all its lists, the ledger and whatever a later version adds, into another world over lists of

@@ -93,6 +93,7 @@ def calls(tables):
         "LIMITERS": "".join("    # %s\n    %s = %d\n" % (l.what, constant(l.name), l.number) for l in tables.limiters),
         "BOUNDED": ", ".join("Limiter.%s" % constant(l.name) for l in tables.limiters if l.bounds),
         "LIMITERPLACE": str(tables.limiter_place),
+        "BOOKPLACE": str(tables.book_place),
         "REFUSALS": "".join("    %s = %d\n" % (constant(r.name), r.number) for r in tables.refusals),
         "WHYSIZE": str(WHY_SIZE),
         "CONDITIONS": table(tables, "condition"),

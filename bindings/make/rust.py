@@ -189,6 +189,7 @@ def wrapper(tables):
         "REFUSALS": refusals(tables),
         "LIMITERS": limiters(tables),
         "LIMITERPLACE": str(tables.limiter_place),
+        "BOOKPLACE": str(tables.book_place),
         "LENGTHS": "".join(number(length_name(l), l.length, length_text(l)) for l in tables.lists),
         "BOUNDS": "".join(number(b.name, b.most, bound_text(b, tables)) for b in tables.bounds),
         "FIELDS": "".join("    %s: Vec<u32>,\n" % l.name for l in lists),

@@ -14,7 +14,7 @@ Refusal = namedtuple("Refusal", "number name condition cause remedy")
 Limit = namedtuple("Limit", "name number what")
 Pair = namedtuple("Pair", "first second given type what")
 Limiter = namedtuple("Limiter", "number name bounds what")
-Tables = namedtuple("Tables", "calls pairs lists bounds limits limiters limiter_place refusals programs stack version")
+Tables = namedtuple("Tables", "calls pairs lists bounds limits limiters limiter_place book_place refusals programs stack version")
 
 GRID = ("w", "r", "k", "n")
 # The limit of bindings/limits.txt that is the largest of each of the grid's numbers.
@@ -268,9 +268,9 @@ def read_tables():
     version = open("bindings/version.txt", encoding="utf-8").read().strip()
     limits = list(read_limits())
     lists = read_lists(calls, limits)
-    bounds, place = read_bounds(calls, lists, limits), int(unit_numbers()["LIMITER_PLACE"])
+    bounds, places = read_bounds(calls, lists, limits), [int(unit_numbers()[name]) for name in ("LIMITER_PLACE", "BOOK_PLACE")]
     return Tables(
-        calls, read_pairs(calls), lists, bounds, limits, read_limiters(), place, refusals, programs, read_stack(calls), version
+        calls, read_pairs(calls), lists, bounds, limits, read_limiters(), *places, refusals, programs, read_stack(calls), version
     )
 
 

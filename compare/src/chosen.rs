@@ -3,7 +3,7 @@
 //! compared where all gases are the first one, so that they differ by their limiters alone.
 
 use crate::limiters::{changed, standing, with_first, Limiter};
-use crate::{both, library, report};
+use crate::{books, both, library, report};
 use reference::{Answer, Call, World};
 use std::collections::BTreeMap;
 
@@ -71,6 +71,7 @@ impl Seen<'_> {
         let cells = self.before.air.len();
         let mut world = self.before.clone();
         world.tracers = world.tracers[..cells].repeat(self.limiters.len());
+        let world = books::with_new(&world);
         let (_, after, differ) = both(&world, self.call);
         if differ {
             report(&world, self.call);

@@ -1,7 +1,8 @@
 //! Seeded inputs of the runner: whole, nearly whole, damaged, cut off, and any bytes.
 
-use crate::records;
+use crate::reached::BY_SUM;
 use crate::worlds::{self, Random};
+use crate::{filled, records};
 use reference::{Call, Grid, World};
 
 /// An input in pieces, each a record or what is left of one.
@@ -9,27 +10,44 @@ pub type Pieces = Vec<Vec<u8>>;
 
 /// The first inputs are on small grids, so that a difference is met in a small one.
 const SMALL_ONES: u64 = 500;
-/// One input in so many is long, the last of each hundred.
-const LONG_ONES: u64 = 100;
+/// Of so many inputs the last is long, and the one in the middle fills the sums of a book.
+const HUNDRED: u64 = 100;
+
+/// An input, and how often in it 6 and 7 are given by a sum of a book alone, where that is known.
+pub struct Input {
+    pub pieces: Pieces,
+    pub by_sum: [u64; BY_SUM.len()],
+}
 
 /// The input with this number.
-pub fn input(number: u64) -> Pieces {
+pub fn input(number: u64) -> Input {
     let mut random = Random::new(number + 1);
-    if number % LONG_ONES == LONG_ONES - 1 {
-        return long(&mut random);
+    if number % HUNDRED == HUNDRED / 2 - 1 {
+        return filled::input(&mut random);
     }
+    let by_sum = Default::default();
+    let pieces = if number % HUNDRED == HUNDRED - 1 {
+        long(&mut random)
+    } else {
+        short(&mut random, number)
+    };
+    Input { pieces, by_sum }
+}
+
+/// An input of 20 to 60 records, or less: whole, or with something wrong.
+fn short(random: &mut Random, number: u64) -> Pieces {
     let way = random.below(20);
     if way == 0 {
-        return vec![any_bytes(&mut random)];
+        return vec![any_bytes(random)];
     }
-    let grid = program_grid(&mut random, number >= SMALL_ONES);
+    let grid = program_grid(random, number >= SMALL_ONES);
     let size = random.between(20, 60);
-    let pieces = whole(&mut random, grid, size, 25);
+    let pieces = whole(random, grid, size, 25);
     match way {
-        1 => bytes_after_load(&mut random, pieces),
-        2..=5 => misplaced(&mut random, pieces),
-        6..=8 => damaged(&mut random, pieces),
-        9..=11 => cut_off(&mut random, pieces),
+        1 => bytes_after_load(random, pieces),
+        2..=5 => misplaced(random, pieces),
+        6..=8 => damaged(random, pieces),
+        9..=11 => cut_off(random, pieces),
         _ => pieces,
     }
 }
@@ -49,7 +67,8 @@ pub fn long_loop(records: u64, take: impl FnMut(Vec<u8>)) {
         k: 2,
         n: 2,
     };
-    each_of_whole(&mut Random::new(1), grid, records - 1, 1_000, take);
+    let random = &mut Random::new(1);
+    each_of_whole(random, grid, [records - 1, 1_000], next_call, take);
 }
 
 /// One long input on a grid of as many cells as the program takes.
@@ -64,7 +83,7 @@ pub fn long_run() -> Pieces {
 }
 
 /// A grid that the program takes: small, or of any size up to as many cells as it takes.
-fn program_grid(random: &mut Random, large: bool) -> Grid {
+pub fn program_grid(random: &mut Random, large: bool) -> Grid {
     let (w, r, k) = match random.below(if large { 8 } else { 1 }) {
         0..=3 => (6, 2, 3),
         4 | 5 => (12, 5, 6),
@@ -118,16 +137,17 @@ fn refused_grid(random: &mut Random) -> Vec<u8> {
 /// The grid and `size` records after it, each in its place and whole. One record in `loads` is a load.
 fn whole(random: &mut Random, grid: Grid, size: u64, loads: u64) -> Pieces {
     let mut pieces = Vec::new();
-    each_of_whole(random, grid, size, loads, |piece| pieces.push(piece));
+    let take = |piece| pieces.push(piece);
+    each_of_whole(random, grid, [size, loads], next_call, take);
     pieces
 }
 
-/// The records of `whole`, handed on one by one.
-fn each_of_whole(
+/// The records of `whole`, handed on one by one, with the calls that `ask` gives.
+pub fn each_of_whole(
     random: &mut Random,
     grid: Grid,
-    size: u64,
-    loads: u64,
+    [size, loads]: [u64; 2],
+    mut ask: impl FnMut(&mut Random, &World) -> Call,
     mut take: impl FnMut(Vec<u8>),
 ) {
     take(records::grid(&grid));
@@ -135,7 +155,7 @@ fn each_of_whole(
     for _ in 0..size {
         match world.as_mut() {
             Some(world) if !random.one_in(loads) => {
-                let asked = next_call(random, world);
+                let asked = ask(random, world);
                 reference::call(world, &asked);
                 take(records::call(&asked));
             }
@@ -161,7 +181,8 @@ fn next_world(random: &mut Random, grid: Grid, now: Option<World>) -> World {
     world
 }
 
-fn next_call(random: &mut Random, world: &World) -> Call {
+/// Any call that has a record.
+pub fn next_call(random: &mut Random, world: &World) -> Call {
     loop {
         let asked = match random.below(16) {
             0..=2 => steady_wind(random, world),

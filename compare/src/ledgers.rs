@@ -1,18 +1,23 @@
 //! Seeded ledgers and calls on emitters: mostly sound records, some with one of the four faults, some ledgers of a wrong length.
 
+use crate::books::{self, Book};
 use crate::limiters;
-use crate::worlds::{cells, in_range, index, Random, MOST};
+use crate::worlds::{cells, in_range, index, sizes, Random, MOST};
 use reference::{Call, World};
 
 /// The emitters' numbers in a tracer's block: how many stand, their units a tick in two halves, 16 times id, cell, units.
 pub const EMITTERS: usize = 51;
-/// A tracer's block of the ledger: its emitters, then its limiter.
-pub const BLOCK: usize = EMITTERS + limiters::NUMBERS;
+/// A tracer's block of the ledger: its emitters, then its limiter, then its book.
+pub const BLOCK: usize = EMITTERS + limiters::NUMBERS + books::NUMBERS;
 
-/// The ledger of so many tracers as a load leaves it.
-pub fn after_load(tracers: usize) -> Vec<u32> {
-    let block = [&[0; EMITTERS][..], &limiters::AFTER_LOAD[..]].concat();
-    block.repeat(tracers)
+/// The world with the ledger that a load leaves.
+pub fn after_load(mut world: World) -> World {
+    let block = |total: u64| {
+        let book = Book::of_load(total).numbers();
+        [&[0; EMITTERS][..], &limiters::AFTER_LOAD, &book].concat()
+    };
+    world.ledger = books::totals(&world).into_iter().flat_map(block).collect();
+    world
 }
 
 /// Ids at both ends, few enough that they are met again.
@@ -93,16 +98,17 @@ pub fn lend(random: &mut Random, world: &mut World) {
     }
     if random.one_in(50) {
         let length = world.ledger.len();
-        // The last is the length that it had before the limiters.
+        // The last two are the lengths that it had before the books, and before the limiters.
         let lengths = [
             0,
             length - BLOCK,
             length - 1,
             length + 1,
             length + BLOCK,
+            length / BLOCK * books::PLACE,
             length / BLOCK * EMITTERS,
         ];
-        world.ledger.resize(lengths[random.below(6) as usize], 0);
+        world.ledger.resize(lengths[random.below(7) as usize], 0);
     }
 }
 
@@ -123,7 +129,7 @@ fn some_id(random: &mut Random, world: &World, tracer: u32) -> u32 {
 /// A call on the emitters.
 pub fn call(random: &mut Random, world: &World) -> Call {
     let g = &world.grid;
-    let all = if in_range(g) { cells(g) } else { 6 };
+    let (all, _) = sizes(g);
     let tracer = index(random, g.n.into());
     match random.below(9) {
         0..=2 => Call::AddEmitter {

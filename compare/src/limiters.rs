@@ -48,7 +48,7 @@ pub fn changed(world: &World, change: impl FnMut(Limiter) -> Limiter) -> World {
     let limiters: Vec<Limiter> = standing(world).map(change).collect();
     let mut world = world.clone();
     for (block, limiter) in world.ledger.chunks_exact_mut(BLOCK).zip(limiters) {
-        block[EMITTERS..].copy_from_slice(&limiter.numbers());
+        block[EMITTERS..][..NUMBERS].copy_from_slice(&limiter.numbers());
     }
     world
 }
@@ -141,7 +141,7 @@ pub fn lend(random: &mut Random, world: &mut World) {
         limiters[tracer] = broken(random, limiters[tracer]);
     }
     for (block, limiter) in world.ledger.chunks_exact_mut(BLOCK).zip(limiters) {
-        block[EMITTERS..].copy_from_slice(&limiter.numbers());
+        block[EMITTERS..][..NUMBERS].copy_from_slice(&limiter.numbers());
     }
 }
 

@@ -8,8 +8,11 @@
 //!     compare long-run                    writes one long input of the runner
 //!     compare long-loop [RECORDS]         writes an input of so many records (default 5,000,000)
 
+mod booked;
+mod books;
 mod chosen;
 mod emitters;
+mod filled;
 mod gases;
 mod inputs;
 mod ledgers;
@@ -31,7 +34,7 @@ use std::collections::BTreeMap;
 use std::io::Write;
 use std::process::ExitCode;
 
-const CALLS: usize = 24;
+const CALLS: usize = 32;
 /// From so many lists on, every answer must be reached.
 const FULL: u64 = 2_000;
 
@@ -165,6 +168,7 @@ fn compare_calls(lists: u64) {
     let mut presses = presses::Situations::default();
     let mut thin = thin::Situations::default();
     let mut chosen = chosen::Situations::default();
+    let mut booked = booked::Situations::default();
     for list in 0..lists {
         let size = if list * 10 < lists * 6 {
             0
@@ -178,8 +182,9 @@ fn compare_calls(lists: u64) {
         let mut random = worlds::Random::new(list + 1);
         let grid = worlds::grid(&mut random, size);
         let mut world = worlds::world_with_ledger(&mut random, grid);
+        booked.begin();
         for _ in 0..CALLS {
-            let call = worlds::call(&mut random, &world);
+            let call = worlds::next_call(&mut random, &mut world);
             let (want, after, differ) = both(&world, &call);
             if differ {
                 report(&world, &call);
@@ -198,6 +203,7 @@ fn compare_calls(lists: u64) {
             presses.add(&world, &call, &after, want);
             thin.add(&world, &call, &after, want);
             chosen.add(&world, &call, &after, want);
+            booked.add(&world, &call, &after, want);
             world = after;
             *seen.entry((library::name(&call), want.number)).or_default() += 1;
         }
@@ -212,10 +218,12 @@ fn compare_calls(lists: u64) {
     presses.print();
     thin.print();
     chosen.print();
+    booked.print();
     if lists >= FULL {
         let unmet = long.missing().into_iter().chain(emitters.missing());
         let unmet = unmet.chain(readout.missing()).chain(presses.missing());
-        all_reached(&seen, unmet.chain(thin.missing()).chain(chosen.missing()));
+        let unmet = unmet.chain(thin.missing()).chain(chosen.missing());
+        all_reached(&seen, unmet.chain(booked.missing()));
     }
 }
 
@@ -237,6 +245,12 @@ fn all_reached(seen: &BTreeMap<(&str, u32), u64>, unmet: impl Iterator<Item = St
     println!("every answer of bindings/calls.txt was reached by its call");
 }
 
+/// Prints the lines that put amounts and ledger in place; the first of them writes books, so the ledger comes after it.
+fn print_gas_and_ledger(world: &World) {
+    println!("tracers{}", library::numbers(&world.tracers));
+    println!("ledger{}", library::numbers(&world.ledger));
+}
+
 /// Prints the lists as a script that shows the world after every call.
 fn script(lists: u64) {
     for list in 0..lists {
@@ -245,10 +259,13 @@ fn script(lists: u64) {
         let mut world = worlds::world_with_ledger(&mut random, grid);
         println!("grid {} {} {} {}", grid.w, grid.r, grid.k, grid.n);
         println!("air{}", library::numbers(&world.air));
-        println!("tracers{}", library::numbers(&world.tracers));
-        println!("ledger{}", library::numbers(&world.ledger));
+        print_gas_and_ledger(&world);
         for _ in 0..CALLS {
-            let call = worlds::call(&mut random, &world);
+            let before = world.clone();
+            let call = worlds::next_call(&mut random, &mut world);
+            if world != before {
+                print_gas_and_ledger(&world);
+            }
             println!("{}\nshow\nshow_ledger", library::line(&call));
             reference::call(&mut world, &call);
         }

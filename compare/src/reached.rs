@@ -2,10 +2,13 @@
 
 /// Row 0 is for all unknown kinds, row k for kind k.
 const ROWS: usize = 10;
-const ANSWERS: usize = 16;
+const ANSWERS: usize = 23;
 const COUNTS: usize = 17;
 
 const ALL_CALLS: &[usize] = &[2, 3, 4, 5, 6, 7, 8, 9];
+const ALL_KINDS: &[usize] = &[1, 2, 3, 4, 5, 6, 7, 8, 9];
+/// The refusals by the sums of a book: the answer, and the sum.
+pub const BY_SUM: [(usize, &str); 2] = [(6, "emitted"), (7, "withdrawn")];
 
 /// Answers that some kinds never get, and why.
 struct Never {
@@ -14,10 +17,12 @@ struct Never {
     why: &'static str,
 }
 
-const NEVER: [Never; 13] = [
+const NEVER: [Never; 17] = [
     Never {
         kinds: &[0],
-        answers: &[0, 1, 2, 3, 4, 5, 6, 7, 8, 9, 10, 11, 12, 14, 15],
+        answers: &[
+            0, 1, 2, 3, 4, 5, 6, 7, 8, 9, 10, 11, 12, 14, 15, 16, 17, 18, 19, 20, 21, 22,
+        ],
         why: "an unknown kind is 13 before anything else is tested",
     },
     Never {
@@ -80,6 +85,26 @@ const NEVER: [Never; 13] = [
         answers: &[15],
         why: "place 15 is tested in the grid's record (kind 1) only",
     },
+    Never {
+        kinds: ALL_KINDS,
+        answers: &[16, 17, 18, 19, 20],
+        why: "the calls that test places 16 to 20 have no record",
+    },
+    Never {
+        kinds: ALL_KINDS,
+        answers: &[21],
+        why: "a load gives every tracer limiter 1 with bounds of 0, and no record sets another",
+    },
+    Never {
+        kinds: &[1, 2],
+        answers: &[22],
+        why: "a grid's record and a load test no book",
+    },
+    Never {
+        kinds: &[3, 4, 5, 6, 7, 8, 9],
+        answers: &[22],
+        why: "they need an accepted load, and in a world reached from one every book balances (law `reached`)",
+    },
 ];
 
 fn is_never(kind: usize, answer: usize) -> bool {
@@ -92,6 +117,7 @@ fn is_never(kind: usize, answer: usize) -> bool {
 pub struct Reached {
     pairs: [[u64; ANSWERS]; ROWS],
     counts: [u64; COUNTS],
+    by_sum: [u64; BY_SUM.len()],
 }
 
 impl Reached {
@@ -107,9 +133,16 @@ impl Reached {
         }
     }
 
+    /// Counts the records that were refused by a sum alone.
+    pub fn add_by_sum(&mut self, by_sum: [u64; BY_SUM.len()]) {
+        for (times, more) in self.by_sum.iter_mut().zip(by_sum) {
+            *times += more;
+        }
+    }
+
     pub fn print(&self) {
         println!("lines by kind (down; unknown kinds as one) and answer (across):");
-        let header: String = (0..ANSWERS).map(|answer| format!("{answer:>7}")).collect();
+        let header: String = (0..ANSWERS).map(|answer| format!("{answer:>6}")).collect();
         println!("       {header}");
         for (kind, row) in self.pairs.iter().enumerate() {
             let cells: String = (0..ANSWERS)
@@ -121,6 +154,9 @@ impl Reached {
             .map(|n| format!("{n}: {}", self.counts[n]))
             .collect();
         println!("accepted zonal sweeps by count: {}", counts.join(", "));
+        for ((answer, sum), times) in BY_SUM.iter().zip(self.by_sum) {
+            println!("{answer} by the {sum} sum alone: {times}");
+        }
         println!("pairs marked - are never reached:");
         for never in &NEVER {
             let kinds: Vec<String> = never.kinds.iter().map(|kind| name(*kind)).collect();
@@ -153,6 +189,11 @@ impl Reached {
         for count in (1..COUNTS).filter(|count| full && self.counts[*count] == 0) {
             faults.push(format!("no zonal sweep had the count {count}"));
         }
+        for ((answer, sum), times) in BY_SUM.iter().zip(self.by_sum) {
+            if full && times == 0 {
+                faults.push(format!("no record got {answer} by the {sum} sum alone"));
+            }
+        }
         faults
     }
 }
@@ -167,8 +208,8 @@ fn name(kind: usize) -> String {
 
 fn cell(kind: usize, answer: usize, times: u64) -> String {
     if is_never(kind, answer) && times == 0 {
-        format!("{:>7}", "-")
+        format!("{:>6}", "-")
     } else {
-        format!("{times:>7}")
+        format!("{times:>6}")
     }
 }

@@ -1,7 +1,7 @@
 //! Compares the runner program with the second implementation's runner, byte for byte, on seeded inputs.
 //! A difference is made smaller, written as a file and as text, and the exit status is 1.
 
-use crate::inputs::{self, Pieces};
+use crate::inputs::{self, Input, Pieces};
 use crate::reached::Reached;
 use std::io::{Read, Write};
 use std::process::{Child, ChildStdin, Command, ExitCode, Stdio};
@@ -25,7 +25,7 @@ struct Tested<'a> {
 pub fn compare(inputs: u64, program: &str) -> ExitCode {
     let mut reached = Reached::default();
     for number in 0..inputs {
-        let pieces = inputs::input(number);
+        let Input { pieces, by_sum } = inputs::input(number);
         let slow = number % SLOW == 0;
         let tested = Tested { program, slow };
         let want = expected(&pieces);
@@ -35,6 +35,7 @@ pub fn compare(inputs: u64, program: &str) -> ExitCode {
             return ExitCode::FAILURE;
         }
         reached.add(&want);
+        reached.add_by_sum(by_sum);
     }
     println!("{inputs} inputs of the runner, no difference");
     reached.print();

@@ -1,6 +1,6 @@
 //! Seeded worlds and calls: mostly in range, some at and past the limits, some with lists of a wrong length.
 
-use crate::{gases, ledgers, limiters};
+use crate::{books, gases, ledgers, limiters};
 use reference::{Call, Grid, World};
 
 pub const MOST: u64 = 268_435_455;
@@ -75,13 +75,18 @@ pub fn in_range(g: &Grid) -> bool {
         && (1..=8).contains(&g.n)
 }
 
-/// A world whose ledger is as a load leaves it. The runner's inputs are made from it, and are the same bytes as before the ledger.
-pub fn world(random: &mut Random, grid: Grid) -> World {
-    let (count, tracers) = if in_range(&grid) {
-        (cells(&grid), grid.n as u64)
+/// How many cells, and how many tracers, the lists of a world of this grid have; those of a grid that no call takes are short.
+pub fn sizes(grid: &Grid) -> (u64, u64) {
+    if in_range(grid) {
+        (cells(grid), grid.n.into())
     } else {
         (6, 1)
-    };
+    }
+}
+
+/// A world whose ledger is as a load leaves it. The runner's inputs are made from it, and are the same bytes as before the ledger.
+pub fn world(random: &mut Random, grid: Grid) -> World {
+    let (count, tracers) = sizes(&grid);
     let base = random.between(1, 60_000);
     let mut air: Vec<u32> = (0..count)
         .map(|_| random.between(1 + base / 2, (base + base / 2 + 10).min(65_535)) as u32)
@@ -108,12 +113,12 @@ pub fn world(random: &mut Random, grid: Grid) -> World {
     if random.one_in(60) {
         amounts.push(0);
     }
-    World {
+    ledgers::after_load(World {
         grid,
         air,
         tracers: amounts,
-        ledger: ledgers::after_load(tracers as usize),
-    }
+        ledger: Vec::new(),
+    })
 }
 
 /// An index of n, now and then absent.
@@ -227,17 +232,28 @@ pub fn world_with_ledger(random: &mut Random, grid: Grid) -> World {
     ledgers::lend(random, &mut world);
     gases::lend(random, &mut world);
     limiters::lend(random, &mut world);
+    books::lend(random, &mut world);
     world
 }
 
-/// Any call of the library.
-pub fn call(random: &mut Random, world: &World) -> Call {
-    match random.below(12) {
+/// The next call of a list. Now and then a number of the world is changed before it.
+pub fn next_call(random: &mut Random, world: &mut World) -> Call {
+    books::meddle(random, world);
+    call(random, world)
+}
+
+/// Any call of the library. Where a book is broken, a load comes sooner.
+fn call(random: &mut Random, world: &World) -> Call {
+    if !books::all_balance(world) && random.one_in(24) {
+        return Call::Load;
+    }
+    match random.below(13) {
         0 | 1 => long_call(random, world),
         2..=4 => ledgers::call(random, world),
         5 if random.one_in(2) => remap_at_old_edges(random, world),
         6 => press(random, world),
         7 => limiters::call(random, world),
+        8 => books::call(random, world),
         _ => recorded_call(random, world),
     }
 }
@@ -273,7 +289,7 @@ fn press(random: &mut Random, world: &World) -> Call {
         let too_large = [1_048_561, -1_048_561, i32::MIN][random.below(3) as usize];
         fluxes.iter_mut().take(1).for_each(|flux| *flux = too_large);
     }
-    if random.one_in(4) {
+    if random.one_in(3) {
         return Call::CountZonal { layer, row, fluxes };
     }
     let count = Call::CountZonal {
@@ -281,8 +297,9 @@ fn press(random: &mut Random, world: &World) -> Call {
         row,
         fluxes: fluxes.clone(),
     };
-    // Where a limiter is broken, the count that the row has without it.
-    let right = reference::call(&mut limiters::with_first(world), &count).count as u32;
+    // Where a limiter or a book is broken, the count that the row has without it.
+    let mut sound = books::mended(&limiters::with_first(world));
+    let right = reference::call(&mut sound, &count).count as u32;
     let given = match random.below(8) {
         0 => right.wrapping_sub(1),
         1 => right + 1,
@@ -329,7 +346,7 @@ fn long_call(random: &mut Random, world: &World) -> Call {
 pub fn recorded_call(random: &mut Random, world: &World) -> Call {
     let g = &world.grid;
     let (w, r, k, n) = (g.w as u64, g.r as u64, g.k as u64, g.n as u64);
-    let all = if in_range(g) { cells(g) } else { 6 };
+    let (all, _) = sizes(g);
     let typical = world
         .air
         .first()

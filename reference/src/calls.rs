@@ -1,7 +1,7 @@
 //! The calls, each with one answer.
 
 use crate::grid::{Grid, World, MOST_TRACER};
-use crate::{emitters, ledger, limiter, long, meridional, presses, refusal, remap, zonal};
+use crate::{books, emitters, ledger, limiter, long, meridional, presses, refusal, remap, zonal};
 
 /// A call with its arguments. A remap's table is one flat list a, b, a, b, ...
 #[derive(Clone, Debug, PartialEq, Eq)]
@@ -101,23 +101,11 @@ fn count_or_refusal(world: &mut World, call: &Call) -> Result<u64, u32> {
     carry_out(world, call)
 }
 
-/// The call from its limiters on, where it tests them, else from its indices on.
+/// The call from its limiters on, where it tests them, else from its books on. A load tests
+/// neither.
 fn carry_out(world: &mut World, call: &Call) -> Result<u64, u32> {
     match call {
-        Call::Load => {
-            world.ledger = ledger::after_load(&world.grid);
-            Ok(0)
-        }
-        &Call::Emission {
-            tracer,
-            cell,
-            amount,
-        } => emission(world, tracer, cell, amount),
-        &Call::Withdrawal {
-            tracer,
-            cell,
-            amount,
-        } => withdrawal(world, tracer, cell, amount),
+        Call::Load => load(world),
         Call::Zonal { layer, row, fluxes } => zonal::sweep(world, *layer, *row, fluxes),
         Call::LongZonal { layer, row, fluxes } => long::sweep(world, *layer, *row, fluxes),
         Call::CountZonal { layer, row, fluxes } => presses::count(world, *layer, *row, fluxes),
@@ -129,15 +117,28 @@ fn carry_out(world: &mut World, call: &Call) -> Result<u64, u32> {
         } => presses::sweep_with_count(world, *layer, *row, *given, fluxes),
         Call::Meridional { layer, fluxes } => meridional::sweep(world, *layer, fluxes),
         Call::Remap { table } => remap::remap(world, table),
-        &Call::Total { tracer } => total(world, tracer),
-        &Call::Cell { tracer, cell } => cell_amount(world, tracer, cell),
-        _ => carry_out_on_ledger(world, call),
+        _ => {
+            books::check(world)?;
+            carry_out_on_tracer(world, call)
+        }
     }
 }
 
-/// The calls on the emitters, and the one that sets a limiter.
-fn carry_out_on_ledger(world: &mut World, call: &Call) -> Result<u64, u32> {
+/// The calls that name a tracer, from their indices on: 22 comes "before 5".
+fn carry_out_on_tracer(world: &mut World, call: &Call) -> Result<u64, u32> {
     match *call {
+        Call::Emission {
+            tracer,
+            cell,
+            amount,
+        } => emission(world, tracer, cell, amount),
+        Call::Withdrawal {
+            tracer,
+            cell,
+            amount,
+        } => withdrawal(world, tracer, cell, amount),
+        Call::Total { tracer } => total(world, tracer),
+        Call::Cell { tracer, cell } => cell_amount(world, tracer, cell),
         Call::AddEmitter {
             tracer,
             cell,
@@ -184,24 +185,36 @@ pub(crate) fn check_indices(grid: &Grid, tracer: u32, cell: u32) -> Result<(usiz
     Ok((tracer, cell))
 }
 
+/// "A load checks lent air and tracers, changes nothing in them, and they are the world from then
+/// on." It writes the ledger; what stood there is not tested.
+fn load(world: &mut World) -> Result<u64, u32> {
+    let tracers = 0..world.grid.n as usize;
+    // Place 4 is tested: a total is 32-bit.
+    let totals: Vec<u32> = tracers.map(|tracer| world.total(tracer) as u32).collect();
+    world.ledger = ledger::after_load(&totals);
+    Ok(0)
+}
+
 /// "Emission adds [...] an amount (0 to 4,294,967,295) in one cell of one tracer";
-/// "total would pass 268,435,455" is refusal 6.
+/// "total would pass 268,435,455" is refusal 6, and so is its emitted sum above its limit.
 fn emission(world: &mut World, tracer: u32, cell: u32, amount: u32) -> Result<u64, u32> {
     let (tracer, cell) = check_indices(&world.grid, tracer, cell)?;
     if world.total(tracer) + u64::from(amount) > MOST_TRACER {
         return Err(refusal::EMISSION);
     }
+    books::emit(world, tracer, u64::from(amount))?;
     world.tracer_mut(tracer)[cell] += amount;
     Ok(0)
 }
 
 /// "withdrawal takes, an amount (0 to 4,294,967,295) in one cell of one tracer";
-/// "cell has less than the amount" is refusal 7.
+/// "cell has less than the amount" is refusal 7, and so is its withdrawn sum above its limit.
 fn withdrawal(world: &mut World, tracer: u32, cell: u32, amount: u32) -> Result<u64, u32> {
     let (tracer, cell) = check_indices(&world.grid, tracer, cell)?;
     if world.tracer(tracer)[cell] < amount {
         return Err(refusal::WITHDRAWAL);
     }
+    books::withdraw(world, tracer, amount)?;
     world.tracer_mut(tracer)[cell] -= amount;
     Ok(0)
 }

@@ -3,7 +3,7 @@
 
 use crate::calls::check_indices;
 use crate::grid::{Grid, World, MOST_TRACER};
-use crate::{ledger, refusal};
+use crate::{books, ledger, refusal};
 
 /// "Keep up to 16 standing emitters for each tracer"
 const MOST_EMITTERS: usize = 16;
@@ -114,13 +114,16 @@ pub fn remove(world: &mut World, tracer: u32, id: u32) -> Result<u64, u32> {
     Ok(0)
 }
 
-/// "A tick names one tracer and emits all its emitters, or is refused whole by 6."
+/// "A tick names one tracer and emits all its emitters, or is refused whole by 6." What it emits is
+/// booked as one amount.
 pub fn tick(world: &mut World, tracer: u32) -> Result<u64, u32> {
     let tracer = Grid::present(tracer, world.grid.n as usize)?;
     let emitters = record(world, tracer)?;
-    if world.total(tracer) + sum(&emitters) > MOST_TRACER {
+    let units = sum(&emitters);
+    if world.total(tracer) + units > MOST_TRACER {
         return Err(refusal::EMISSION);
     }
+    books::emit(world, tracer, units)?;
     for emitter in emitters {
         world.tracer_mut(tracer)[emitter.cell as usize] += emitter.units;
     }

@@ -18,7 +18,7 @@ pub struct Grid {
 }
 
 /// A grid with lent air, tracers and ledger, raw: any lengths, any numbers. The ledger has each
-/// tracer's emitters and its limiter (ledger.rs).
+/// tracer's emitters, its limiter and its books (ledger.rs).
 #[derive(Clone, Debug, PartialEq, Eq)]
 pub struct World {
     pub grid: Grid,

@@ -2,8 +2,9 @@
 //! and of the requests of document 02 that have landed, written from their texts; of the walk
 //! (walk.rs) README.md says what else was known. Quotes in the comments are sentences of
 //! document 01, in scheme.rs, grid.rs, long.rs, emitters.rs, walk.rs, readout.rs, presses.rs,
-//! remap.rs, ledger.rs and limiter.rs of both.
+//! remap.rs, ledger.rs, limiter.rs, books.rs and calls.rs of both.
 
+mod books;
 mod calls;
 mod emitters;
 mod grid;

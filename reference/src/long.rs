@@ -1,10 +1,10 @@
 //! "Fast rows near the caps": document 02's long zonal sweep of one row in one layer.
 
 use crate::grid::{signed, write, World, MOST_AIR};
-use crate::limiter::{self, Limiter};
-use crate::refusal;
+use crate::limiter::Limiter;
 use crate::scheme::{mismatch, piece_from_low_end, ratio};
 use crate::zonal::row_of;
+use crate::{ledger, refusal};
 
 /// One tracer of a row on its line: "Lay the row's air out on a line from column 0."
 struct Line<'a> {
@@ -103,7 +103,7 @@ fn check(air: &[i64], fluxes: &[i64]) -> Result<(), u32> {
 /// The sweep, from the check of the limiters on. It writes that row's cells in its layer only.
 /// "Counts not named are 0."
 pub fn sweep(world: &mut World, layer: u32, row: u32, fluxes: &[i32]) -> Result<u64, u32> {
-    let limiters = limiter::of_tracers(world)?;
+    let limiters = ledger::limiters(world)?;
     let (cells, fluxes) = row_of(world.grid, layer, row, fluxes)?;
     let air = signed(&world.air[cells.clone()]);
     check(&air, &fluxes)?;

@@ -1,9 +1,8 @@
 //! "Meridional sweep of one layer."
 
 use crate::grid::{signed, write, Grid, World};
-use crate::limiter;
-use crate::refusal;
 use crate::substep::{Face, Neighbours, Region};
+use crate::{ledger, refusal};
 
 /// "size above [...] 65,535 (meridional)"
 const MOST_FLUX: u32 = 65_535;
@@ -54,7 +53,7 @@ fn region(grid: &Grid) -> Region {
 /// count 1".
 pub fn sweep(world: &mut World, layer: u32, fluxes: &[i32]) -> Result<u64, u32> {
     let grid = world.grid;
-    let limiters = limiter::of_tracers(world)?;
+    let limiters = ledger::limiters(world)?;
     let layer = Grid::present(layer, grid.layers())?;
     if fluxes.iter().any(|flux| flux.unsigned_abs() > MOST_FLUX) {
         return Err(refusal::FLUX);

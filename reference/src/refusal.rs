@@ -11,9 +11,11 @@ pub const TRACERS: u32 = 4;
 /// "call's indices | 5 | tracer, cell, layer or row absent"; for a call on emitters also "an
 /// absent cell, an id twice, more than 16 entries or a false sum" (document 02)
 pub const INDEX: u32 = 5;
-/// "emission | 6 | total would pass 268,435,455"
+/// "emission | 6 | total would pass 268,435,455"; also "when a sum would pass 4,294,967,295"
+/// (document 02)
 pub const EMISSION: u32 = 6;
-/// "withdrawal | 7 | cell has less than the amount"
+/// "withdrawal | 7 | cell has less than the amount"; also "when a sum would pass 4,294,967,295"
+/// (document 02)
 pub const WITHDRAWAL: u32 = 7;
 /// "fluxes | 8 | size above 1,048,560 (zonal) or 65,535 (meridional)"
 pub const FLUX: u32 = 8;
@@ -44,3 +46,6 @@ pub const NO_EMITTER: u32 = 19;
 pub const COUNT: u32 = 20;
 /// "21 when a tracer's limiter is unknown or its lo exceeds its hi" (document 02)
 pub const LIMITER: u32 = 21;
+/// "22 when that test fails or the left side is negative": loaded + emitted − withdrawn is not what
+/// a tracer's cells sum to (document 02)
+pub const BOOKS: u32 = 22;

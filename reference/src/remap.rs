@@ -1,10 +1,9 @@
 //! "Remap of all columns."
 
 use crate::grid::{amount_of, World, MOST_AIR};
-use crate::limiter::{self, Limiter};
-use crate::readout;
-use crate::refusal;
+use crate::limiter::Limiter;
 use crate::scheme::{mismatch, piece_from_low_end, ratio};
+use crate::{ledger, readout, refusal};
 
 /// "an a above 2,097,120"
 const MOST_A: u32 = 2_097_120;
@@ -148,7 +147,7 @@ fn write_differences(amounts: &mut [u32], cell: usize, layer_cells: usize, at_ed
 pub fn remap(world: &mut World, table: &[u32]) -> Result<u64, u32> {
     let grid = world.grid;
     let layer_cells = grid.layer_cells();
-    let limiters = limiter::of_tracers(world)?;
+    let limiters = ledger::limiters(world)?;
     check_table(table)?;
     for cell in 0..layer_cells {
         let p = column(&world.air, cell, layer_cells).iter().sum();

@@ -2,7 +2,7 @@
 
 use crate::readout::{self, Pair};
 use crate::walk::{self, State};
-use crate::{call, ledger, Call, Grid, Limiter, World};
+use crate::{books, call, ledger, Call, Grid, Limiter, World};
 use std::str::FromStr;
 
 /// What is wrong with a line `walk` or `pairs` if no remap accepts such a column.
@@ -57,8 +57,12 @@ fn run_line(world: &mut World, line: &str) -> Result<String, String> {
             world.ledger = ledger_of(&world.grid);
         }
         "air" => world.air = numbers(arguments)?,
-        "tracers" => world.tracers = numbers(arguments)?,
+        "tracers" => {
+            world.tracers = numbers(arguments)?;
+            book_loaded(world);
+        }
         "ledger" => world.ledger = numbers(arguments)?,
+        "books" => put_books(world, fixed(arguments)?)?,
         "show" => {
             fixed::<0>(arguments)?;
             return Ok(show(world));
@@ -120,14 +124,38 @@ fn read_grid(arguments: &[&str]) -> Result<Grid, String> {
     Ok(Grid { w, r, k, n })
 }
 
-/// The ledger as an accepted load leaves it: no emitter stands, and every tracer has the first
-/// limiter; an empty list where no call accepts the grid's N.
+/// The ledger as an accepted load of a world without gas leaves it: no emitter stands, every tracer
+/// has the first limiter, and its books are 0; an empty list where no call accepts the grid's N.
 fn ledger_of(grid: &Grid) -> Vec<u32> {
     if grid.n <= 8 {
-        ledger::after_load(grid)
+        ledger::after_load(&vec![0; grid.n as usize])
     } else {
         Vec::new()
     }
+}
+
+/// The books as an accepted load of these tracers leaves them, in each block that the ledger has:
+/// loaded is the sum of the tracer's amounts, as far as they are there, or 0 if it is not 32-bit.
+fn book_loaded(world: &mut World) {
+    let Grid { w, r, k, n } = world.grid;
+    let layer_cells = (r as usize * w as usize).saturating_add(2);
+    let cells = layer_cells.saturating_mul(k as usize);
+    let blocks = world.ledger.chunks_exact_mut(ledger::BLOCK);
+    for (tracer, block) in blocks.take(n as usize).enumerate() {
+        let amounts = world.tracers.iter().skip(cells.saturating_mul(tracer));
+        let total: u64 = amounts.take(cells).map(|&amount| u64::from(amount)).sum();
+        books::put(block, books::after_load(total.try_into().unwrap_or(0)));
+    }
+}
+
+/// Loaded, emitted and withdrawn of one tracer, put in its block of the ledger.
+fn put_books(world: &mut World, line: [u32; 4]) -> Result<(), String> {
+    let [tracer, loaded, emitted, withdrawn] = line;
+    let mut blocks = world.ledger.chunks_exact_mut(ledger::BLOCK);
+    let block = blocks.nth(tracer as usize);
+    let block = block.ok_or(format!("the ledger has no block of tracer {tracer}"))?;
+    books::put(block, [loaded, emitted, withdrawn]);
+    Ok(())
 }
 
 fn read_call(name: &str, arguments: &[&str]) -> Result<Call, String> {

@@ -1,10 +1,10 @@
 //! "Zonal sweep of one row in one layer."
 
 use crate::grid::{signed, write, Grid, World};
-use crate::limiter::{self, Limiter};
-use crate::refusal;
+use crate::limiter::Limiter;
 use crate::scheme::parts;
 use crate::substep::{Face, Neighbours, Region};
+use crate::{ledger, refusal};
 use std::ops::Range;
 
 /// "size above 1,048,560 (zonal)"
@@ -77,10 +77,10 @@ pub(crate) struct Ready {
     pub smallest: u32,
 }
 
-/// The sweep made ready, from the check of the limiters on, or refusal 21, 5, 8 or 9.
+/// The sweep made ready, from the check of the limiters on, or refusal 21, 22, 5, 8 or 9.
 pub(crate) fn ready(world: &World, layer: u32, row: u32, fluxes: &[i32]) -> Result<Ready, u32> {
     let grid = world.grid;
-    let limiters = limiter::of_tracers(world)?;
+    let limiters = ledger::limiters(world)?;
     let (cells, fluxes) = row_of(grid, layer, row, fluxes)?;
     let air = signed(&world.air[cells.clone()]);
     let smallest = smallest_count(&region(grid.columns()), &air, &fluxes)?;

@@ -4,7 +4,7 @@ mod common;
 use common::*;
 use reference::{call, script, Call, World};
 
-/// Grid 4, 1, 1, 2 with air 100, 6 cells, and blocks of the ledger at 0 and 56.
+/// Grid 4, 1, 1, 2 with air 100, 6 cells, and blocks of the ledger at 0 and 59.
 fn small_world() -> World {
     even_world(grid(4, 1, 1, 2), 100)
 }
@@ -18,12 +18,12 @@ fn with_emitters(world: &World, tracer: u32, emitters: &[[u32; 3]]) -> World {
     world
 }
 
-/// The first numbers of a tracer's block; the rest of its emitters' must be 0, and its limiter is
-/// that of a load.
+/// The first numbers of a tracer's block; the rest of its emitters' must be 0, and its limiter and
+/// its books are those of a load without gas.
 fn expect_block(world: &World, tracer: usize, numbers: &[u32]) {
     let mut block = numbers.to_vec();
     block.resize(51, 0);
-    block.extend([1, 0, 0, 0, 0]);
+    block.extend([1, 0, 0, 0, 0, 0, 0, 0]);
     assert_eq!(world.ledger[BLOCK * tracer..BLOCK * (tracer + 1)], block);
 }
 
@@ -49,11 +49,11 @@ fn sixteen_stand_and_a_place_is_used_again() {
     expect_accepted(&world, &add_emitter(0, 0, 1, 0), 0);
     world = expect_accepted(&world, &remove_emitter(1, 104), 0);
     // The last one, 115 in cell 3, stands in the fifth place; 0 is over the place that it left.
-    assert_eq!(world.ledger[56 + 3 + 12..56 + 3 + 15], [115, 3, 3]);
-    assert_eq!(world.ledger[56 + 48..56 + 51], [0, 0, 0]);
+    assert_eq!(world.ledger[59 + 3 + 12..59 + 3 + 15], [115, 3, 3]);
+    assert_eq!(world.ledger[59 + 48..59 + 51], [0, 0, 0]);
     world = expect_accepted(&world, &add_emitter(1, 5, 1, 9), 0);
-    assert_eq!(world.ledger[56 + 48..56 + 51], [1, 5, 9]);
-    assert_eq!(world.ledger[56..59], [16, 15 * 3 + 9, 0]);
+    assert_eq!(world.ledger[59 + 48..59 + 51], [1, 5, 9]);
+    assert_eq!(world.ledger[59..62], [16, 15 * 3 + 9, 0]);
     expect_refusal(&world, &add_emitter(1, 0, 2, 0), 18);
     expect_refusal(&world, &add_emitter(1, 0, 100, 0), 18);
 }
@@ -105,6 +105,7 @@ fn ticks_to_the_limit_and_one_past_it() {
     let mut world = small_world();
     world.tracers[0] = MOST_TRACER as u32 - 100;
     world.tracers[6] = MOST_TRACER as u32;
+    balance(&mut world);
     world = with_emitters(&world, 0, &[[1, 2, 30], [2, 4, 15], [3, 2, 5], [4, 1, 0]]);
     for n in 1..=2 {
         world = expect_accepted(&world, &tick(0), 0);
@@ -215,6 +216,7 @@ fn a_refused_load_leaves_the_ledger() {
 fn absent_indices_and_5_before_18_19_and_6() {
     let mut full = with_emitters(&small_world(), 0, &sixteen(3));
     full.tracers[0] = MOST_TRACER as u32;
+    balance(&mut full);
     for tracer in [2, u32::MAX] {
         for asked in emitter_calls(tracer) {
             expect_refusal(&full, &asked, 5);
@@ -228,7 +230,7 @@ fn absent_indices_and_5_before_18_19_and_6() {
     expect_refusal(&full, &add_emitter(0, 5, 1, 1), 18);
     expect_refusal(&full, &remove_emitter(0, 1), 19);
     expect_refusal(&full, &tick(0), 6);
-    full.ledger[56] = 17;
+    full.ledger[59] = 17;
     for asked in [add_emitter(0, 5, 1, 1), remove_emitter(0, 1), tick(0)] {
         expect_refusal(&full, &asked, 5);
     }
@@ -244,7 +246,8 @@ fn a_cell_counts_over_all_layers() {
 }
 
 /// In worlds reached by calls: an emitter added and removed leaves the ledger as it was, and a
-/// tick adds to each cell the units of the emitters that name it, to no other cell.
+/// tick adds to each cell the units of the emitters that name it, to no other cell, and all of them
+/// to the emitted sum.
 #[test]
 fn added_and_removed_and_ticked_on_random_lists() {
     let mut random = Random::new(31);
@@ -265,6 +268,7 @@ fn added_and_removed_and_ticked_on_random_lists() {
                 let standing = world.ledger[0] as usize;
                 for emitter in world.ledger[3..3 + 3 * standing].chunks(3) {
                     ticked.tracers[emitter[1] as usize] -= emitter[2];
+                    ticked.ledger[57] -= emitter[2];
                 }
                 assert_eq!(ticked, world);
                 met.1 += standing;

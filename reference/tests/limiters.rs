@@ -182,7 +182,7 @@ fn no_other_call_tests_what_stands() {
 fn the_setting_call() {
     let (bad, good) = bounds();
     let mut world = small_world();
-    world.ledger[60..90].copy_from_slice(&[9; 30]);
+    world.ledger[63..93].copy_from_slice(&[9; 30]);
     put_limits(&mut world, 1, limits(7, 6, 5));
     for number in 1..=3 {
         for &(lo, hi) in &bad {
@@ -470,6 +470,7 @@ fn totals_and_whole_number_ratios_stay() {
         if even {
             let amounts: Vec<u32> = world.air.iter().map(|m| z * m).collect();
             world.tracers[t * cells..(t + 1) * cells].copy_from_slice(&amounts);
+            balance(&mut world);
         }
         let before = world.clone();
         for _ in 0..4 {
@@ -619,6 +620,7 @@ fn random_attempt(random: &mut Random, kind: usize) -> Attempt {
         let alike = (random.amount(2, 60_000), random.amount(0, 9_000));
         world.air.fill(alike.0);
         world.tracers.fill(alike.1);
+        balance(&mut world);
     }
     let wanted = |asked: &Call| match kind {
         0 => matches!(asked, Call::Zonal { .. }),
@@ -704,6 +706,7 @@ fn change(random: &mut Random, attempt: &mut Attempt) {
     for _ in 0..random.amount(1, 2) {
         change_one(random, attempt);
     }
+    balance(&mut attempt.world);
     put_tight_bounds(random, &mut attempt.world);
 }
 

@@ -100,6 +100,7 @@ fn one_row_of_all_tracers_in_one_layer() {
     for (place, tracer) in world.tracers.iter_mut().enumerate() {
         *tracer = place as u32 * 7 % 100;
     }
+    balance(&mut world);
     let after = expect_accepted(&world, &long_zonal(1, 2, &[100; 4]), 0);
     // Row 2 of layer 1 starts at 14 + 1 + 2·4, that of tracer 1 28 later: one column east.
     for first in [23, 28 + 23] {
@@ -114,6 +115,7 @@ fn a_row_of_72_that_no_count_serves() {
     for (place, tracer) in world.tracers.iter_mut().enumerate() {
         *tracer = place as u32;
     }
+    balance(&mut world);
     expect_refusal(&world, &zonal(0, 0, &[1_601; 72]), 9);
     expect_accepted(&world, &long_zonal(0, 0, &[1_601; 72]), 0);
     expect_accepted(&world, &long_zonal(0, 0, &[-7_200; 72]), 0);

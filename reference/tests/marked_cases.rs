@@ -92,6 +92,7 @@ fn world_of_m9(cells: &[usize]) -> World {
         world.tracers[6 + cell] = 100;
         world.tracers[12 + cell] = 200;
     }
+    balance(&mut world);
     world
 }
 
@@ -202,6 +203,7 @@ fn all_pieces_come_from_the_amounts_before() {
 fn northward_world() -> World {
     let mut world = row_world([100; 4], [100; 4]);
     world.tracers[5] = 200;
+    balance(&mut world);
     world
 }
 
@@ -224,6 +226,7 @@ fn meridional_pieces_between_rows_by_hand() {
     let mut world = even_world(grid(4, 3, 1, 1), 100);
     world.tracers[7] = 100;
     world.tracers[11] = 200;
+    balance(&mut world);
     let mut fluxes = [0; 16];
     fluxes[2 * 4 + 2] = 50;
     let after = expect_accepted(&world, &meridional(0, &fluxes), 1);
@@ -238,6 +241,7 @@ fn meridional_pieces_between_rows_by_hand() {
 fn a_cap_gives_a_plain_piece_at_each_face() {
     let mut world = northward_world();
     world.tracers[5] = 205;
+    balance(&mut world);
     // Two pieces of floor(30·205/100) = 61, not one of floor(60·205/100) = 123.
     let south = meridional(0, &[0, 0, 0, 0, 0, -30, -30, 0]);
     let after = expect_accepted(&world, &south, 1);
@@ -252,6 +256,7 @@ fn each_sweep_stays_in_its_row_or_layer() {
     for tracer in &mut world.tracers {
         *tracer = random.amount(0, 999);
     }
+    balance(&mut world);
     let after = expect_accepted(&world, &zonal(1, 2, &[9, 8, -9, 7]), 1);
     let changed = |after: &World| -> Vec<usize> {
         (0..28).filter(|&c| after.air[c] != world.air[c]).collect()
@@ -271,6 +276,7 @@ fn readings_give_the_amounts() {
     for (place, tracer) in world.tracers.iter_mut().enumerate() {
         *tracer = place as u32;
     }
+    balance(&mut world);
     expect_accepted(&world, &Call::Total { tracer: 0 }, (0..12).sum());
     expect_accepted(&world, &Call::Total { tracer: 1 }, (12..24).sum());
     let after = expect_accepted(&world, &Call::Cell { tracer: 1, cell: 7 }, 19);

@@ -2,6 +2,7 @@
 //! random worlds, every given count, 20 and its order, calls between the two.
 
 mod common;
+use common::books::put_books;
 use common::*;
 use reference::{call, script, Answer, Call, World};
 
@@ -106,6 +107,7 @@ fn m1_m6_m7_and_m8() {
 fn sixteen_substeps_move_the_row() {
     let mut world = even_world(grid(5, 1, 1, 1), 100);
     world.tracers[1..6].copy_from_slice(&[0, 100, 200, 100, 37]);
+    balance(&mut world);
     let after = expect_count(&world, &press(0, 0, &[1_600; 5]), 16);
     world.tracers[1..6].rotate_right(1);
     assert_eq!(after, world);
@@ -145,7 +147,7 @@ fn either_side_of_the_largest_flux() {
     expect_number(&world, &press(0, 0, &[0, 0, 0, i32::MAX]), 8);
 }
 
-/// Places 1, 2, 3, 4, 5, 8, 9 and 20: all apply at first, and are mended one after another.
+/// Places 1, 2, 3, 4, 22, 5, 8, 9 and 20: all apply at first, and are mended one after another.
 #[test]
 fn places_in_order() {
     let mut world = row_of_four();
@@ -161,6 +163,9 @@ fn places_in_order() {
     world.air[0] = 100;
     expect_number(&world, &press, 4);
     world.tracers[5] = 0;
+    put_books(&mut world, 0, [399, 0, 0]);
+    expect_number(&world, &press, 22);
+    balance(&mut world);
     expect_number(&world, &press, 5);
     press.layer = 0;
     expect_number(&world, &press, 5);
@@ -178,6 +183,7 @@ fn each_place_comes_before_20() {
     let expect = |change: fn(&mut World, &mut Press), number: u32| {
         let (mut world, mut press) = (row_of_four(), press(0, 0, &[150; 4]));
         change(&mut world, &mut press);
+        balance(&mut world);
         for given in given_counts().filter(|&given| given != 2) {
             expect_refusal(&world, &press.second(given), number);
         }
@@ -292,6 +298,10 @@ fn random_press(random: &mut Random) -> (World, Press) {
         world.tracers[place] = u32::MAX - random.amount(0, 9);
     }
     if random.one_in(40) {
+        let place = place_in(random, &world.tracers);
+        world.tracers[place] = world.tracers[place].saturating_sub(1);
+    }
+    if random.one_in(40) {
         let place = place_in(random, &world.air);
         world.air[place] = if random.one_in(2) { 0 } else { 65_536 };
     }
@@ -313,7 +323,7 @@ fn random_press(random: &mut Random) -> (World, Press) {
 #[test]
 fn two_presses_are_the_single_sweep_on_random_worlds() {
     let mut random = Random::new(51);
-    let mut met = [0; 22];
+    let mut met = [0; 23];
     let mut counts = [0; 17];
     for _ in 0..10_000 {
         let (world, press) = random_press(&mut random);
@@ -321,7 +331,7 @@ fn two_presses_are_the_single_sweep_on_random_worlds() {
         met[answer.number as usize] += 1;
         counts[answer.count as usize] += 1;
     }
-    for number in [1, 2, 3, 4, 5, 8, 9] {
+    for number in [1, 2, 3, 4, 5, 8, 9, 22] {
         assert!(met[number] > 100, "{met:?}");
     }
     assert!(counts[1..].iter().all(|&met| met > 50), "{counts:?}");

@@ -1,6 +1,7 @@
 //! The four properties of demand 3, the smallest count and the remap's count, on random lists.
 
 mod common;
+use common::books::{put_books, random_books};
 use common::limits::{put_limits, random_limits};
 use common::range::{self, Written};
 use common::*;
@@ -312,7 +313,8 @@ fn lists_on_worlds_at_the_limits() {
     run_lists_of(random_extreme_world, 62);
 }
 
-/// The same list on two worlds that differ in all tracers but `kept`, and in their limiters.
+/// The same list on two worlds that differ in all tracers but `kept`, in their limiters and in their
+/// books.
 fn run_twin_lists(random: &mut Random) {
     let mut world = random_world(random);
     let kept = random.next() as usize % world.grid.n as usize;
@@ -329,6 +331,8 @@ fn run_twin_lists(random: &mut Random) {
     for t in tracers(&world.grid).filter(|&t| t != kept) {
         let other = random_limits(random, &twin, t);
         put_limits(&mut twin, t, other);
+        let other = random_books(random, sum(tracer(&twin, t)));
+        put_books(&mut twin, t, other);
     }
     for _ in 0..12 {
         let asked = random_call(random, &world);

@@ -205,6 +205,7 @@ fn one_tracer_or_eight_give_the_same_count() {
             world.tracers = (0..n)
                 .flat_map(|_| random_tracer(&mut random, &world.air))
                 .collect();
+            balance(&mut world);
             expect_accepted(&world, &remap(&column.table()), count);
         }
     }

@@ -1,5 +1,5 @@
 //! Refusals 1 to 12 at both sides of their limits, and their order; 16 and 17 are in long.rs, 18
-//! and 19 in emitters.rs, 20 in presses.rs, 21 in limiters.rs.
+//! and 19 in emitters.rs, 20 in presses.rs, 21 in limiters.rs, 22 in books.rs.
 
 mod common;
 use common::*;
@@ -142,14 +142,17 @@ fn refusal_4_tracer_totals() {
         let mut world = middle_world();
         world.tracers[30 * tracer] = MOST_TRACER as u32 - 5;
         world.tracers[30 * tracer + 29] = 5;
+        balance(&mut world);
         expect_none(&world);
         world.tracers[30 * tracer + 29] = 6;
+        balance(&mut world);
         expect_all(&world, 4);
     }
     // Each tracer has its own total.
     let mut world = middle_world();
     world.tracers[29] = MOST_TRACER as u32;
     world.tracers[30] = MOST_TRACER as u32;
+    balance(&mut world);
     expect_none(&world);
     // A sum that would be small in 32 bits.
     let mut world = middle_world();
@@ -199,6 +202,7 @@ fn refusal_6_emission() {
     let mut world = middle_world();
     world.tracers[0] = 1_000;
     world.tracers[30] = 1_000_000;
+    balance(&mut world);
     let most = MOST_TRACER as u32 - 1_000;
     let after = expect_accepted(&world, &emission(0, 29, most), 0);
     assert_eq!(after.tracers[29], most);
@@ -212,6 +216,7 @@ fn refusal_7_withdrawal() {
     let mut world = middle_world();
     world.tracers[30 + 4] = 1_000;
     world.tracers[30 + 5] = 9_999;
+    balance(&mut world);
     let after = expect_accepted(&world, &withdrawal(1, 4, 1_000), 0);
     assert_eq!(after.tracers[34], 0);
     expect_refusal(&world, &withdrawal(1, 4, 1_001), 7);
@@ -472,7 +477,7 @@ fn any_numbers_and_lengths_never_panic() {
             _ => {}
         }
         let answer = checked_call(&mut world, &asked);
-        assert!(answer.number <= 12 || (16..=21).contains(&answer.number));
+        assert!(answer.number <= 12 || (16..=22).contains(&answer.number));
         if answer.number == 0 {
             assert_eq!(call(&mut world, &Call::Load), accepted(0));
         }

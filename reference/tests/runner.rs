@@ -189,6 +189,31 @@ fn a_refused_call_does_not_end_the_program() {
     assert_eq!(run(&input), lines);
 }
 
+/// "6 and 7 are also given when a sum would pass 4,294,967,295" (document 02): a gas emitted and
+/// withdrawn whole in turn, until a new load begins new books.
+#[test]
+fn the_17th_is_refused() {
+    let whole = MOST_TRACER as u32;
+    let emitted = (record(&emission(0, 2, whole)), "3 0 0\n", "3 6 0\n");
+    let withdrawn = (record(&withdrawal(0, 2, whole)), "4 0 0\n", "4 7 0\n");
+    for (loaded, first, second) in [(0, &emitted, &withdrawn), (whole, &withdrawn, &emitted)] {
+        let load = load_record(&row_world([100; 4], [0, loaded, 0, 0]));
+        let turns = [first.0.clone(), second.0.clone()].concat().repeat(16);
+        let input = [
+            grid_record(4, 1, 1, 1),
+            load.clone(),
+            turns,
+            first.0.clone(),
+            load,
+            first.0.clone(),
+        ]
+        .concat();
+        let turns = [first.1, second.1].concat().repeat(16);
+        let lines = ["1 0 0\n2 0 0\n", &turns, first.2, "2 0 0\n", first.1].concat();
+        assert_eq!(run(&input), lines);
+    }
+}
+
 #[test]
 fn refusal_14_at_every_byte() {
     let whole = case_p();

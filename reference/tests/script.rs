@@ -66,6 +66,8 @@ fn a_grid_line_gives_the_ledger_of_a_load() {
                   show\n\
                   grid 4 1 1 1\n\
                   remove_emitter 0 4294967295\n\
+                  books 0 7 0 0\n\
+                  remove_emitter 0 4294967295\n\
                   grid 4 1 1 9\n\
                   show_ledger\n";
     let outcome = run(script);
@@ -73,9 +75,9 @@ fn a_grid_line_gives_the_ledger_of_a_load() {
     assert_eq!(
         outcome.lines,
         format!(
-            "ledger\nadd_emitter 0 0\nledger 1 7 0 4294967295 5 7{zeros} 1 0 0 0 0\nunits_a_tick 0 7\n\
-             tick 0 0\nremove_emitter 19 0\ntick 2 0\nledger 1 2 3\nair 9 9 9 9 9 9\n\
-             tracers 0 0 0 0 0 7\nremove_emitter 19 0\nledger\n"
+            "ledger\nadd_emitter 0 0\nledger 1 7 0 4294967295 5 7{zeros} 1 0 0 0 0 0 0 0\n\
+             units_a_tick 0 7\ntick 0 0\nremove_emitter 19 0\ntick 2 0\nledger 1 2 3\n\
+             air 9 9 9 9 9 9\ntracers 0 0 0 0 0 7\nremove_emitter 22 0\nremove_emitter 19 0\nledger\n"
         )
     );
 }
@@ -124,11 +126,73 @@ fn a_limiter_in_a_script() {
         outcome.lines,
         format!(
             "set_limiter 0 0\nset_limiter 21 0\n\
-             ledger{zeros} 1 0 0 0 0{zeros} 3 0 1 4294967295 4294967295\n\
+             ledger{zeros} 1 0 0 0 0 550 0 0{zeros} 3 0 1 4294967295 4294967295 550 0 0\n\
              set_limiter 0 0\nzonal 0 1\nair 100 100 50 150 100 100\n\
              tracers 0 0 150 350 50 0 0 0 138 362 50 0\nset_limiter 5 0\nload 0 0\n\
-             ledger{zeros} 1 0 0 0 0{zeros} 1 0 0 0 0\n"
+             ledger{zeros} 1 0 0 0 0 550 0 0{zeros} 1 0 0 0 0 550 0 0\n"
         )
+    );
+}
+
+#[test]
+fn books_in_a_script() {
+    let zeros = " 0".repeat(51);
+    let script = "grid 4 1 1 2\n\
+                  air 100 100 100 100 100 100\n\
+                  tracers 0 0 300 200 50 0 7\n\
+                  show_ledger\n\
+                  tracers 0 0 300 200 50 0 4294967295 1 0 0 0 0\n\
+                  show_ledger\n\
+                  tracers 0 0 300 200 50 0 0 0 300 200 50 0\n\
+                  total 1\n\
+                  books 1 500 60 11\n\
+                  total 0\n\
+                  books 1 500 60 10\n\
+                  emission 1 0 3\n\
+                  withdrawal 0 3 4\n\
+                  show_ledger\n\
+                  load\n\
+                  show_ledger\n";
+    let outcome = run(script);
+    assert_eq!(outcome.error, None);
+    let ledger = |one: &str, other: &str| {
+        format!("ledger{zeros} 1 0 0 0 0 {one}{zeros} 1 0 0 0 0 {other}\n")
+    };
+    let lines = [
+        ledger("550 0 0", "7 0 0"),
+        ledger("550 0 0", "0 0 0"),
+        "total 0 550\ntotal 22 0\nemission 0 0\nwithdrawal 0 0\n".to_string(),
+        ledger("550 0 4", "500 63 10"),
+        "load 0 0\n".to_string(),
+        ledger("546 0 0", "553 0 0"),
+    ];
+    assert_eq!(outcome.lines, lines.concat());
+}
+
+/// A `tracers` line books in whole blocks of the grid's tracers only; a `ledger` line replaces all.
+#[test]
+fn books_of_other_lengths_in_a_script() {
+    let block = "1 ".repeat(59);
+    let script = format!(
+        "ledger {block}\n\
+         tracers 5\n\
+         show_ledger\n\
+         grid 4294967295 4294967295 4294967295 1\n\
+         ledger {block}2 2\n\
+         tracers 5 6\n\
+         show_ledger\n\
+         ledger 3 4\n\
+         tracers 5\n\
+         show_ledger\n\
+         books 0 1 2 3\n"
+    );
+    let outcome = run(&script);
+    let error = "line 11: the ledger has no block of tracer 0".to_string();
+    assert_eq!(outcome.error, Some(error));
+    let ones = " 1".repeat(56);
+    assert_eq!(
+        outcome.lines,
+        format!("ledger{ones} 1 1 1\nledger{ones} 11 0 0 2 2\nledger 3 4\n")
     );
 }
 
@@ -190,6 +254,11 @@ fn a_bad_line_is_named() {
         "show 1",
         "show_ledger 1",
         "ledger -1",
+        "books 0 0 0 0",
+        "books 0 0 0",
+        "books 0 0 0 0 0",
+        "books 0 0 4294967296 0",
+        "books 0 0 0 -1",
         "add_emitter 0 0 0",
         "remove_emitter 0 0 0",
         "tick",

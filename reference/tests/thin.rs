@@ -285,6 +285,7 @@ fn further_range_ends() {
         (columns.air[6 + cell], columns.tracers[6 + cell]) = (65_185, 232);
         (columns.air[12 + cell], columns.tracers[12 + cell]) = (26_692, 95);
     }
+    balance(&mut columns);
     let table = remap(&[0, 0, 33_048, 0, 66_185, 0, 0, 65_536]);
     expect_range_end(&columns, &table, 6 + 2, (33_137, 119));
 }
@@ -297,6 +298,7 @@ fn cap_and_columns(w: u32, cap: (u32, u32), column: (u32, u32), m: i32) -> (Worl
     let north = w as usize + 1;
     (world.air[0], world.tracers[0]) = cap;
     (world.air[north], world.tracers[north]) = (100, 100 * (column.1 / column.0 + 1));
+    balance(&mut world);
     let fluxes = [vec![-m; w as usize], vec![0; w as usize]].concat();
     (world, meridional(0, &fluxes))
 }
@@ -425,6 +427,7 @@ fn random_caps_stay_in_range() {
         let least = random.amount(1, 3_000);
         let share = u64::from(world.tracers[0]) * u64::from(least) / u64::from(world.air[0]);
         world.tracers[0] = share as u32;
+        balance(&mut world);
         world.air[0] = least;
         let most = (65_535 - least) / w;
         let fluxes: Vec<i32> = (0..2 * w)

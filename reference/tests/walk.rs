@@ -155,6 +155,7 @@ fn differences_of_marks_are_what_a_remap_leaves() {
             world.air[6 * k..6 * (k + 1)].fill(case.air[k]);
             world.tracers[6 * k + cell] = case.tracer[k];
         }
+        balance(&mut world);
         let answer = checked_call(&mut world, &remap(&case.table()));
         assert_eq!(answer.number, 0, "{:?}", case.edges);
 

@@ -3,12 +3,12 @@
 import collections
 import enum
 
-__all__ = ["Limiter", "Refusal", "StandingLimiter", "CountedZonal", "SCALE", "AIR_LIMIT", "TOTAL_LIMIT", "ZONAL_LIMIT", "MERIDIONAL_LIMIT", "MOST_SUBSTEPS", "TABLE_LIMIT", "TABLE_SCALE", "MOST_COLUMNS", "MOST_ROWS", "MOST_LAYERS", "MOST_TRACERS", "MOST_EMITTERS", "LEDGER_BLOCK"]
+__all__ = ["Book", "Limiter", "Refusal", "StandingLimiter", "CountedZonal", "SCALE", "AIR_LIMIT", "TOTAL_LIMIT", "SUM_LIMIT", "ZONAL_LIMIT", "MERIDIONAL_LIMIT", "MOST_SUBSTEPS", "TABLE_LIMIT", "TABLE_SCALE", "MOST_COLUMNS", "MOST_ROWS", "MOST_LAYERS", "MOST_TRACERS", "MOST_EMITTERS", "LEDGER_BLOCK"]
 
-VERSION = "0.7.0"
+VERSION = "0.8.0"
 # The shared library of this version. Another version's functions may take other arguments.
-SONAME = "libpuldeho.so.0.7"
-ABI = "puldeho_abi_0_7"
+SONAME = "libpuldeho.so.0.8"
+ABI = "puldeho_abi_0_8"
 
 # The scale of ratios, mismatches and pieces, in which set_limiter takes its bounds: 262144 from version 0.6 on, and 65536 before. Builds whose scales differ may give other amounts
 SCALE = 262144
@@ -16,6 +16,8 @@ SCALE = 262144
 AIR_LIMIT = 65535
 # The most units of a tracer in all cells together
 TOTAL_LIMIT = 268435455
+# The most units of a tracer that its book has as emitted, or as withdrawn, since the load
+SUM_LIMIT = 4294967295
 # The largest size of a flux of a zonal or a long zonal sweep
 ZONAL_LIMIT = 1048560
 # The largest size of a flux of a meridional sweep
@@ -37,7 +39,7 @@ MOST_TRACERS = 8
 # The most emitters of a tracer that stand at once
 MOST_EMITTERS = 16
 # How many numbers of the ledger each tracer has; tracer t's block starts at t times this number. Later versions have more
-LEDGER_BLOCK = 56
+LEDGER_BLOCK = 59
 
 
 class Refusal(enum.IntEnum):
@@ -61,6 +63,7 @@ class Refusal(enum.IntEnum):
     EMITTER_ABSENT = 19
     GIVEN_COUNT = 20
     LIMITERS = 21
+    BOOKS = 22
 
 
 class Limiter(enum.IntEnum):
@@ -86,6 +89,17 @@ class StandingLimiter(collections.namedtuple("StandingLimiter", "limiter lo hi")
     __slots__ = ()
 
 
+# Where a tracer's book stands in its block of the ledger: what was loaded, emitted, withdrawn.
+BOOK_PLACE = 56
+
+
+class Book(collections.namedtuple("Book", "loaded emitted withdrawn")):
+    """A tracer's book: the units that the load found in all its cells, and those emitted (ticks included) and withdrawn since then.
+    World.book gives it."""
+
+    __slots__ = ()
+
+
 # Bytes that are room enough for any text that says why a call is refused.
 WHY_SIZE = 1024
 
@@ -96,8 +110,8 @@ CONDITIONS = {
     Refusal.AIR_RANGE: "a cell's air is 0 or above 65,535",
     Refusal.TOTALS: "a tracer's total is above 268,435,455",
     Refusal.INDEX: "the tracer, cell, layer or row is absent; in add_emitter, remove_emitter, tick and units_a_tick also: in the ledger some tracer has more than 16 emitters, an emitter in an absent cell, an id twice or a false sum",
-    Refusal.EMISSION: "the total would pass 268,435,455",
-    Refusal.WITHDRAWAL: "the cell has less than the amount",
+    Refusal.EMISSION: "the total would pass 268,435,455, or the tracer's emitted sum 4,294,967,295",
+    Refusal.WITHDRAWAL: "the cell has less than the amount, or the tracer's withdrawn sum would pass 4,294,967,295",
     Refusal.FLUXES: "a flux's size is above 1,048,560 (zonal) or 65,535 (meridional)",
     Refusal.ZONAL: "no count from 1 to 16 serves",
     Refusal.MERIDIONAL: "the substep is not allowed",
@@ -109,6 +123,7 @@ CONDITIONS = {
     Refusal.EMITTER_ABSENT: "the tracer has no emitter of that id",
     Refusal.GIVEN_COUNT: "the given count differs from the smallest that serves",
     Refusal.LIMITERS: "a tracer's limiter is none of 1, 2 and 3, or its lo exceeds its hi",
+    Refusal.BOOKS: "a tracer's loaded + emitted - withdrawn is not the sum of its cells",
 }
 
 # What to do about each refusal.
@@ -118,8 +133,8 @@ REMEDIES = {
     Refusal.AIR_RANGE: "choose the unit of air so that every cell has 1 to 65,535, with room for the changes within a step",
     Refusal.TOTALS: "choose a larger unit for that gas, so that its total with all later emissions stays below the limit",
     Refusal.INDEX: "count from 0, and take cell numbers from the grid's functions for cells and caps; if the ledger is at fault, load the world again, which leaves no emitter standing, and add the emitters anew",
-    Refusal.EMISSION: "correct an amount that is wrong, and remove an emitter whose units are wrong; else load the gas in a larger unit, with room for all emissions and ticks of the run, and add its emitters anew, with their units in the larger unit",
-    Refusal.WITHDRAWAL: "read the cell first, and withdraw at most what it has",
+    Refusal.EMISSION: "correct an amount that is wrong, and remove an emitter whose units are wrong; else load the gas in a larger unit, with room for all emissions and ticks of the run, and add its emitters anew, with their units in the larger unit; if the emitted sum is full, read the book and load again, which begins the sums anew, then add the emitters and set the limiters anew",
+    Refusal.WITHDRAWAL: "read the cell first, and withdraw at most what it has; if the withdrawn sum is full, read the book and load again, which begins the sums anew, then add the emitters and set the limiters anew",
     Refusal.FLUXES: "give fluxes in units of air for this step, and divide the step if they are still too large",
     Refusal.ZONAL: "make the sweep as two or more, each with a part of the fluxes, or as a long zonal sweep (in the library only), which gives other amounts of tracer; if a cell would end with no air or too much, make the whole step (zonal, meridional, remap) in parts, or make the meridional sweep or a remap first",
     Refusal.MERIDIONAL: "make the sweep as two or more, each with a part of the fluxes; if a cell would end with no air or too much, make the whole step (zonal, meridional, remap) in parts, or make the zonal sweeps or a remap first",
@@ -131,18 +146,19 @@ REMEDIES = {
     Refusal.EMITTER_ABSENT: "remove each stack once, from the tracer that it was added to, and add the emitters anew after a load",
     Refusal.GIVEN_COUNT: "see that layer, row and fluxes are those that were counted; then count again with count_zonal, look at the new count, and give that",
     Refusal.LIMITERS: "load the world before other calls, and again if the ledger was written by anything but calls, then add the emitters and set the limiters anew; give set_limiter 1, 2 or 3, and lo and hi as mixing ratios times 262,144, lo at most hi (with 1 and 2 both 0)",
+    Refusal.BOOKS: "load the world before other calls, and again after anything but calls wrote into tracers or ledger: what the cells have then is the loaded amount, and emitters and limiters must be set anew; to go back to a kept state, bring back tracers and ledger together",
 }
 
 # The world's lists, in the order of the C struct.
 WORLD = ("air", "tracers", "ledger")
 # Those among them that each world has of its own, with their lengths on the largest grid.
-OWN = {"ledger": 448}
+OWN = {"ledger": 472}
 
 # The parameters of each proved function after the grid's four numbers, with their types in the library.
 SIGNATURES = {
     "load": (("air", "&[u32]"), ("tracers", "&[u32]"), ("ledger", "&mut [u32]")),
-    "emission": (("air", "&[u32]"), ("tracers", "&mut [u32]"), ("ledger", "&[u32]"), ("tracer", "u32"), ("cell", "u32"), ("amount", "u32")),
-    "withdrawal": (("air", "&[u32]"), ("tracers", "&mut [u32]"), ("ledger", "&[u32]"), ("tracer", "u32"), ("cell", "u32"), ("amount", "u32")),
+    "emission": (("air", "&[u32]"), ("tracers", "&mut [u32]"), ("ledger", "&mut [u32]"), ("tracer", "u32"), ("cell", "u32"), ("amount", "u32")),
+    "withdrawal": (("air", "&[u32]"), ("tracers", "&mut [u32]"), ("ledger", "&mut [u32]"), ("tracer", "u32"), ("cell", "u32"), ("amount", "u32")),
     "zonal": (("air", "&mut [u32]"), ("tracers", "&mut [u32]"), ("ledger", "&[u32]"), ("layer", "u32"), ("row", "u32"), ("fluxes", "&[i32]")),
     "count_zonal": (("air", "&[u32]"), ("tracers", "&[u32]"), ("ledger", "&[u32]"), ("layer", "u32"), ("row", "u32"), ("fluxes", "&[i32]")),
     "zonal_with_count": (("air", "&mut [u32]"), ("tracers", "&mut [u32]"), ("ledger", "&[u32]"), ("layer", "u32"), ("row", "u32"), ("given", "u32"), ("fluxes", "&[i32]")),
@@ -153,7 +169,7 @@ SIGNATURES = {
     "cell": (("air", "&[u32]"), ("tracers", "&[u32]"), ("ledger", "&[u32]"), ("tracer", "u32"), ("cell", "u32")),
     "add_emitter": (("air", "&[u32]"), ("tracers", "&[u32]"), ("ledger", "&mut [u32]"), ("tracer", "u32"), ("cell", "u32"), ("id", "u32"), ("units", "u32")),
     "remove_emitter": (("air", "&[u32]"), ("tracers", "&[u32]"), ("ledger", "&mut [u32]"), ("tracer", "u32"), ("id", "u32")),
-    "tick": (("air", "&[u32]"), ("tracers", "&mut [u32]"), ("ledger", "&[u32]"), ("tracer", "u32")),
+    "tick": (("air", "&[u32]"), ("tracers", "&mut [u32]"), ("ledger", "&mut [u32]"), ("tracer", "u32")),
     "units_a_tick": (("air", "&[u32]"), ("tracers", "&[u32]"), ("ledger", "&[u32]"), ("tracer", "u32")),
     "set_limiter": (("air", "&[u32]"), ("tracers", "&[u32]"), ("ledger", "&mut [u32]"), ("tracer", "u32"), ("limiter", "u32"), ("lo", "u64"), ("hi", "u64")),
 }
@@ -206,16 +222,16 @@ class Lengths:
 
     @property
     def ledger_length(self):
-        """The length of ledger: N*56. In it: the emitters and the limiter, a block for each tracer: at its
-        place 0 how many emitters stand, at 1 and 2 the sum of their units, low and high 32 bits, from 3 on
-        id, cell and units of each, at 51 the limiter, at 52 and 53 its lo and at 54 and 55 its hi, low and
-        high 32 bits."""
-        return self.n * 56
+        """The length of ledger: N*59. In it: the emitters, the limiter and the book, a block for each tracer:
+        at its place 0 how many emitters stand, at 1 and 2 the sum of their units, low and high 32 bits, from
+        3 on id, cell and units of each, at 51 the limiter, at 52 and 53 its lo and at 54 and 55 its hi, low
+        and high 32 bits, at 56 what was loaded, at 57 what was emitted and at 58 what was withdrawn."""
+        return self.n * 59
 
     @property
     def ledger_shape(self):
         """The shape of such an array of numpy; one of one dimension serves too."""
-        return (self.n, 56,)
+        return (self.n, 59,)
 
     @property
     def zonal_fluxes_length(self):
@@ -312,32 +328,33 @@ class Calls:
 
     @property
     def ledger(self):
-        """The world's own, which only calls write: the emitters and the limiter, a block for each tracer: at
-        its place 0 how many emitters stand, at 1 and 2 the sum of their units, low and high 32 bits, from 3
-        on id, cell and units of each, at 51 the limiter, at 52 and 53 its lo and at 54 and 55 its hi, low and
-        high 32 bits."""
+        """The world's own, which only calls write: the emitters, the limiter and the book, a block for each
+        tracer: at its place 0 how many emitters stand, at 1 and 2 the sum of their units, low and high 32
+        bits, from 3 on id, cell and units of each, at 51 the limiter, at 52 and 53 its lo and at 54 and 55
+        its hi, low and high 32 bits, at 56 what was loaded, at 57 what was emitted and at 58 what was
+        withdrawn."""
         return memoryview(self._kept["ledger"]).toreadonly()
 
     def emission(self, tracer, cell, amount):
-        """Adds amount to one cell of one tracer. Cells are numbered over all layers. Refusals, in order: 1 2
-        3 4 5 6."""
+        """Adds amount to one cell of one tracer, and to what its book has as emitted. Cells are numbered over
+        all layers. Refusals, in order: 1 2 3 4 22 5 6."""
         self._make("emission", tracer, cell, amount)
 
     def withdrawal(self, tracer, cell, amount):
-        """Takes amount from one cell of one tracer. Cells are numbered over all layers. Refusals, in order: 1
-        2 3 4 5 7."""
+        """Takes amount from one cell of one tracer, and adds it to what its book has as withdrawn. Cells are
+        numbered over all layers. Refusals, in order: 1 2 3 4 22 5 7."""
         self._make("withdrawal", tracer, cell, amount)
 
     def zonal(self, layer, row, fluxes):
         """Sweeps one row of one layer by W fluxes, positive eastward. Returns the number of substeps, 1 to
-        16. Refusals, in order: 1 2 3 4 21 5 8 9."""
+        16. Refusals, in order: 1 2 3 4 21 22 5 8 9."""
         return self._make("zonal", layer, row, fluxes)
 
     def count_zonal(self, layer, row, fluxes):
         """Counts the substeps of a zonal sweep of one row of one layer by W fluxes, positive eastward, before
         it is made, to be seen and then given to zonal_with_count. Returns a CountedZonal with layer, row,
         fluxes and substeps, the number of substeps that the sweep takes, 1 to 16. Refusals, in order: 1 2 3 4
-        21 5 8 9."""
+        21 22 5 8 9."""
         layer = self._held("count_zonal", "layer", layer)
         row = self._held("count_zonal", "row", row)
         fluxes = self._held("count_zonal", "fluxes", fluxes)
@@ -346,7 +363,7 @@ class Calls:
     def zonal_with_count(self, counted):
         """Makes the sweep of zonal, if the given count is the one that count_zonal gives for the same layer,
         row and fluxes now; with any other count it is refused with 20. counted: what count_zonal gave.
-        Returns the count in it. Refusals, in order: 1 2 3 4 21 5 8 9 20."""
+        Returns the count in it. Refusals, in order: 1 2 3 4 21 22 5 8 9 20."""
         if not isinstance(counted, CountedZonal):
             raise TypeError("zonal_with_count takes what count_zonal gave, not a value of type %s" % type(counted).__name__)
         return self._make("zonal_with_count", counted.layer, counted.row, counted.substeps, counted.fluxes)
@@ -354,49 +371,51 @@ class Calls:
     def long_zonal(self, layer, row, fluxes):
         """Sweeps one row of one layer by W fluxes, positive eastward, without substeps: a face takes whole
         cells and then a part of the next. Its amounts are not those of zonal. Refusals, in order: 1 2 3 4 21
-        5 8 16 17."""
+        22 5 8 16 17."""
         self._make("long_zonal", layer, row, fluxes)
 
     def meridional(self, layer, fluxes):
         """Sweeps one layer by W*(R + 1) fluxes, positive northward. Returns the number of substeps, 1.
-        Refusals, in order: 1 2 3 4 21 5 8 10."""
+        Refusals, in order: 1 2 3 4 21 22 5 8 10."""
         return self._make("meridional", layer, fluxes)
 
     def remap(self, table):
         """Remaps all columns to the edges of a table of K + 1 pairs a, b, lent as 2*(K + 1) numbers. Makes at
         most 2*K steps for each column and tracer, in all at most the grid's most_remap_steps. Section 6 of
         the guide writes a count out by hand. Returns exactly the number of pairs of an old and a new layer
-        that share some air, summed over columns. Refusals, in order: 1 2 3 4 21 11 12."""
+        that share some air, summed over columns. Refusals, in order: 1 2 3 4 21 22 11 12."""
         return self._make("remap", table)
 
     def total(self, tracer):
-        """Reads the total of one tracer. Returns the total of the tracer. Refusals, in order: 1 2 3 4 5."""
+        """Reads the total of one tracer. As every call but a load it tests the books of all tracers: if it is
+        accepted, the total of each is what its book has as loaded + emitted - withdrawn. Returns the total of
+        the tracer. Refusals, in order: 1 2 3 4 22 5."""
         return self._make("total", tracer)
 
     def cell(self, tracer, cell):
         """Reads one cell of one tracer. Cells are numbered over all layers. Returns the amount in the cell.
-        Refusals, in order: 1 2 3 4 5."""
+        Refusals, in order: 1 2 3 4 22 5."""
         return self._make("cell", tracer, cell)
 
     def add_emitter(self, tracer, cell, id, units):
         """Lets an emitter stand for one tracer: in each tick it gives so many units to the cell. Any number
         is an id, and each tracer has its own. Cells are numbered over all layers. Refusals, in order: 1 2 3 4
-        5 18."""
+        22 5 18."""
         self._make("add_emitter", tracer, cell, id, units)
 
     def remove_emitter(self, tracer, id):
         """Removes the emitter that one tracer has under the id. The tracer's last emitter takes its place in
-        the ledger. Refusals, in order: 1 2 3 4 5 19."""
+        the ledger. Refusals, in order: 1 2 3 4 22 5 19."""
         self._make("remove_emitter", tracer, id)
 
     def tick(self, tracer):
-        """Adds the units of every emitter of one tracer to its cell, or, if it is refused, of none. Refusals,
-        in order: 1 2 3 4 5 6."""
+        """Adds the units of every emitter of one tracer to its cell, and to what its book has as emitted, or,
+        if it is refused, of none. Refusals, in order: 1 2 3 4 22 5 6."""
         self._make("tick", tracer)
 
     def units_a_tick(self, tracer):
         """Reads how much a tick of one tracer emits. Returns the units that the tracer's emitters give in a
-        tick. Refusals, in order: 1 2 3 4 5."""
+        tick. Refusals, in order: 1 2 3 4 22 5."""
         return self._make("units_a_tick", tracer)
 
     def set_limiter(self, tracer, limiter, *, lo=None, hi=None):
@@ -404,7 +423,7 @@ class Calls:
         lo and hi, which are mixing ratios (units of gas for one of air) times the scale, 262144. The bounds
         are stored with every limiter, and only 3 reads them; give 0 and 0 with 1 and 2. Holds until the next
         set_limiter of this tracer or the next load. lo and hi are whole numbers, and 0 if they are not given;
-        a limiter that reads them wants them. Refusals, in order: 1 2 3 4 5 21."""
+        a limiter that reads them wants them. Refusals, in order: 1 2 3 4 22 5 21."""
         lo, hi = self._bounds(limiter, lo, hi)
         self._make("set_limiter", tracer, limiter, lo, hi)
 

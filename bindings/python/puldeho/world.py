@@ -4,12 +4,15 @@ import collections
 import ctypes
 
 from . import lists, shared
-from .calls import BOUNDED, CONDITIONS, LEDGER_BLOCK, LIMITER_PLACE, OWN, REMEDIES, SCALE, SHAPES, SIGNATURES, SONAME, WHY_SIZE, WORLD
-from .calls import Calls, Lengths, Limiter, Refusal, StandingLimiter
+from .calls import BOOK_PLACE, BOUNDED, CONDITIONS, LEDGER_BLOCK, LIMITER_PLACE, OWN, REMEDIES, SCALE, SHAPES, SIGNATURES, SONAME, WHY_SIZE, WORLD
+from .calls import Book, Calls, Lengths, Limiter, Refusal, StandingLimiter
 
 # Where `why` says for the world at hand what would help, the general remedy is left out.
 CURED = (Refusal.ZONAL, Refusal.MERIDIONAL, Refusal.REMAP, Refusal.LONG_FLUX, Refusal.LONG_AIR, Refusal.EMITTER_ADDED,
-         Refusal.GIVEN_COUNT, Refusal.LIMITERS)
+         Refusal.GIVEN_COUNT, Refusal.LIMITERS, Refusal.BOOKS)
+# Refusals for two reasons: a fault of the ledger, or a full sum in it, is one. `why` then names a number of the ledger and says what would
+# help; the general remedy speaks of it at its end, and for 5 the condition does.
+TWOFOLD = (Refusal.INDEX, Refusal.EMISSION, Refusal.WITHDRAWAL)
 
 
 class Grid(Lengths, collections.namedtuple("Grid", "w r k n")):
@@ -59,10 +62,9 @@ class Refused(Exception):
 
     def __str__(self):
         condition, remedy = CONDITIONS[self.refusal], REMEDIES[self.refusal]
-        ledger = self.refusal == Refusal.INDEX and "of the ledger" in self.why
-        if self.refusal == Refusal.INDEX and not ledger:
-            # What stands after a semicolon is for a ledger at fault.
-            condition, remedy = condition.split("; ")[0], remedy.split("; ")[0]
+        ledger = self.refusal in TWOFOLD and "of the ledger" in self.why
+        if self.refusal in TWOFOLD and not ledger:
+            condition, remedy = condition.split("; ")[0], remedy.split("; if ")[0]
         text = "%s refused with %d (%s): %s." % (self.call, self.number, condition, self.why)
         return text if ledger or self.refusal in CURED else text + " What to do: %s." % remedy
 
@@ -73,10 +75,11 @@ class World(Calls):
     Each list is anything with the buffer protocol that holds 32-bit unsigned numbers side by side and may be
     written, such as a numpy array of uint32, and is used without a copy: the calls change it in place. Arrays have
     one dimension or the shape grid.air_shape, grid.tracers_shape. A plain list of numbers is copied; the copy is
-    world.air or world.tracers. Do not write the lists while a call runs. The emitters that stand and the limiters are in a
-    list that the world has of its own, world.ledger: no emitter and Limiter.PRESENT after a load, copied, restored and
-    pickled with the world, and written by the calls alone. A world takes no attributes of yours: a later version may give a
-    name to something of its own.
+    world.air or world.tracers. Do not write the lists while a call runs. After you wrote into them, make a new world of
+    them: calls on the old one are refused with 22 if the cells of some tracer do not sum to what its book says. The emitters
+    that stand, the limiters and the books are in a list that the world has of its own, world.ledger: no emitter,
+    Limiter.PRESENT and a new book after a load, copied, restored and pickled with the world, and written by the calls alone.
+    A world takes no attributes of yours: a later version may give a name to something of its own.
     """
 
     __slots__ = ("_grid", "_kept", "_lists", "__weakref__")
@@ -120,7 +123,7 @@ class World(Calls):
 
     def __setstate__(self, own):
         """The world's own lists, after a load. Of a world that a version with shorter blocks has pickled, a block's other numbers
-        stay as the load left them."""
+        stay as the load left them: limiter 1, and a book that begins with this load."""
         for name, numbers in own.items():
             kept, tracers = self._kept[name], self.grid.n
             block, had = len(kept) // tracers, len(numbers) // tracers
@@ -146,11 +149,20 @@ class World(Calls):
 
     def limiter(self, tracer):
         """The limiter that a tracer has now, with its bounds; World.set_limiter sets it."""
+        number, lo_low, lo_high, hi_low, hi_high = self._block(tracer)[LIMITER_PLACE : LIMITER_PLACE + 5]
+        return StandingLimiter(Limiter(number), lo_high << 32 | lo_low, hi_high << 32 | hi_low)
+
+    def book(self, tracer):
+        """The book of a tracer: loaded, emitted and withdrawn, in units, the last two since the load. Reading does not test it.
+        If world.total is accepted, for any tracer, the total of every tracer is loaded + emitted - withdrawn; if not, it is
+        refused with 22."""
+        return Book(*self._block(tracer)[BOOK_PLACE : BOOK_PLACE + 3])
+
+    def _block(self, tracer):
+        """A tracer's block of the ledger."""
         if not 0 <= tracer < self.grid.n:
             raise IndexError("tracer %d is not from 0 to %d" % (tracer, self.grid.n - 1))
-        place = tracer * LEDGER_BLOCK + LIMITER_PLACE
-        number, lo_low, lo_high, hi_low, hi_high = self._kept["ledger"][place : place + 5]
-        return StandingLimiter(Limiter(number), lo_high << 32 | lo_low, hi_high << 32 | hi_low)
+        return self._kept["ledger"][tracer * LEDGER_BLOCK : (tracer + 1) * LEDGER_BLOCK]
 
     @staticmethod
     def _bounds(limiter, lo, hi):

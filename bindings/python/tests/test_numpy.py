@@ -71,6 +71,17 @@ class Arrays(unittest.TestCase):
         with self.assertRaisesRegex(TypeError, "hi: .* is not a whole number"):
             self.world.set_limiter(1, 3, lo=0, hi=numpy.float64(262144))
 
+    def test_books(self):
+        self.world.emission(1, 5, 600)
+        before = self.world.book(numpy.int64(1))
+        self.assertEqual((before, [type(units) for units in before]), ((0, 600, 0), [int] * 3))
+        saved = self.tracers.copy()
+        self.world.withdrawal(1, 5, 100)
+        self.tracers[:] = saved                       # without the ledger of then
+        with self.assertRaisesRegex(puldeho.Refused, "the book of tracer 1 has 0 loaded, 600 emitted and 100 withdrawn .*100 more"):
+            self.world.total(0)
+        self.assertEqual(puldeho.World(GRID, self.air, self.tracers).book(1), (600, 0, 0))
+
     def test_masked(self):
         fluxes = numpy.ma.masked_array(numpy.zeros(GRID.w, dtype=numpy.int32), [True] + [False] * 5)
         with self.assertRaisesRegex(ValueError, "fluxes: has masked entries"):

@@ -82,7 +82,7 @@ class CaseP(unittest.TestCase):
         self.assertIsNone(one.tick(0))
         self.assertEqual(one.tracers.tolist(), [0, 0, 100, 300, 130, 0])
         self.assertIsNone(one.remove_emitter(0, 7))
-        self.assertEqual(one.ledger.tolist(), [2, 90, 0, 0, 4, 30, 8, 3, 60] + [0] * 42 + [1, 0, 0, 0, 0])
+        self.assertEqual(one.ledger.tolist(), [2, 90, 0, 0, 4, 30, 8, 3, 60] + [0] * 42 + [1, 0, 0, 0, 0] + [400, 130, 0])
         self.assertEqual(len(one.ledger), GRID.ledger_length)
         one.add_emitter(0, 0, 2**32 - 1, 2**32 - 1)
         self.assertEqual(one.units_a_tick(0), 2**32 + 89)
@@ -119,6 +119,56 @@ class CaseP(unittest.TestCase):
         for absent in (-1, 2):
             with self.assertRaisesRegex(IndexError, "tracer -?[12] is not from 0 to 1"):
                 one.limiter(absent)
+
+    def test_books(self):
+        one = puldeho.World(GRID._replace(n=2), AIR, TRACERS + [5] * 6)
+        self.assertEqual([one.book(t) for t in range(2)], [(400, 0, 0), (30, 0, 0)])
+        one.emission(0, 3, 50)
+        one.add_emitter(tracer=0, cell=2, id=7, units=11)
+        one.tick(0)
+        one.withdrawal(0, 3, 20)
+        one.zonal(0, 0, [0, 50, 0, 0])
+        with self.assertRaises(puldeho.Refused):
+            one.withdrawal(0, 3, 1000)
+        book = one.book(0)
+        self.assertEqual(repr(book), "Book(loaded=400, emitted=61, withdrawn=20)")
+        self.assertEqual(book.loaded + book.emitted - book.withdrawn, one.total(0))
+        self.assertEqual(one.book(1), puldeho.Book(loaded=30, emitted=0, withdrawn=0))
+        again = puldeho.World(one.grid, one.air, one.tracers)
+        self.assertEqual([again.book(t) for t in range(2)], [(441, 0, 0), (30, 0, 0)])
+        for absent in (-1, 2):
+            with self.assertRaisesRegex(IndexError, "tracer -?[12] is not from 0 to 1"):
+                one.book(absent)
+
+    def test_two_points_of_a_run(self):
+        """The difference of two totals, read off the books."""
+        one = world()
+        one.emission(0, 3, 7)
+        total, book = one.total(0), one.book(0)
+        one.withdrawal(0, 3, 5)
+        one.long_zonal(0, 0, [0, 50, 0, 0])
+        one.emission(0, 2, 11)
+        later = one.book(0)
+        self.assertEqual(one.total(0) + later.withdrawn + book.emitted, total + book.withdrawn + later.emitted)
+        self.assertEqual(later.loaded, book.loaded)
+
+    def test_full_sums(self):
+        one = puldeho.World(GRID, AIR, [0] * 6)
+        for _ in range(16):
+            one.emission(0, 2, puldeho.TOTAL_LIMIT)
+            one.withdrawal(0, 2, puldeho.TOTAL_LIMIT)
+        for amount in (puldeho.TOTAL_LIMIT, 16):
+            with self.assertRaisesRegex(puldeho.Refused, "emission refused with 6 .*so at most 15 can be emitted until the next load") as caught:
+                one.emission(0, 2, amount)
+            self.assertNotIn("What to do", str(caught.exception))
+        one.emission(0, 2, 15)
+        one.emission(0, 2, 0)
+        self.assertEqual(one.book(0), (0, puldeho.SUM_LIMIT, puldeho.SUM_LIMIT - 15))
+        self.assertEqual((puldeho.SUM_LIMIT, one.total(0)), (2**32 - 1, 15))
+        one.withdrawal(0, 2, 15)
+        with self.assertRaisesRegex(puldeho.Refused, "refused with 7 .*has 0 of tracer 0.* What to do: .*withdraw at most what it has[.]$"):
+            one.withdrawal(0, 2, 1)
+        self.assertEqual(puldeho.World(GRID, one.air, one.tracers).book(0), (0, 0, 0))
 
     def test_emitters_and_limiters_again_after_a_load(self):
         """As the guide does it, after chemistry."""
@@ -198,12 +248,25 @@ class Copies(unittest.TestCase):
             second.restore(one)
             self.assertEqual(second.limiter(0), one.limiter(0))
 
+    def test_books_are_copied(self):
+        one = world()
+        one.emission(0, 3, 50)
+        for second in (one.copy(), copy.copy(one), copy.deepcopy(one), pickle.loads(pickle.dumps(one))):
+            second.withdrawal(0, 3, 20)
+            self.assertEqual((second.book(0), one.book(0)), ((400, 50, 20), (400, 50, 0)))
+            second.restore(one)
+            self.assertEqual((second.book(0), second.total(0)), ((400, 50, 0), 450))
+
     def test_pickled_by_a_version_with_shorter_blocks(self):
         one = puldeho.World(GRID._replace(n=2), AIR, TRACERS + TRACERS)
-        one.__setstate__({"ledger": array.array("I", [0] * 51 + [1, 40, 0, 7, 3, 40] + [0] * 45)})
+        emitters, limiter = [1, 40, 0, 7, 3, 40] + [0] * 45, [3, 5, 0, 9, 0]
+        one.__setstate__({"ledger": array.array("I", [0] * 51 + emitters)})
         self.assertEqual([(one.units_a_tick(t), one.limiter(t).limiter) for t in range(2)], [(0, 1), (40, 1)])
+        one.__setstate__({"ledger": array.array("I", ([0] * 51 + limiter) + (emitters + limiter))})
+        self.assertEqual([(one.units_a_tick(t), one.limiter(t)) for t in range(2)], [(0, (3, 5, 9)), (40, (3, 5, 9))])
+        self.assertEqual([one.book(t) for t in range(2)], [(400, 0, 0)] * 2)
         with self.assertRaisesRegex(ValueError, "a later version has pickled this world"):
-            one.__setstate__({"ledger": array.array("I", [0] * 2 * 57)})
+            one.__setstate__({"ledger": array.array("I", [0] * 2 * (puldeho.LEDGER_BLOCK + 1))})
 
 
 class NotTaken(unittest.TestCase):
@@ -345,6 +408,21 @@ class Refusals(unittest.TestCase):
             one.zonal(0, 0, [0, 50, 0, 0])
         self.assertEqual(one.total(0), 400)
 
+    def test_of_books(self):
+        one = world()
+        one.tracers[3] += 1
+        for call, arguments in ((one.total, (0,)), (one.emission, (9, 9, 9)), (one.zonal, (9, 9, [0] * 4)), (one.remap, ([1] * 4,))):
+            with self.assertRaisesRegex(puldeho.Refused, "refused with 22 .*its cells sum to 401, 1 more; .*load again") as caught:
+                call(*arguments)
+            self.assertEqual(caught.exception.refusal, puldeho.Refusal.BOOKS)
+            self.assertNotIn("What to do", str(caught.exception))
+        self.assertEqual(one.book(0), (400, 0, 0))
+        one.tracers[2] -= 1  # two changes that cancel each other are not noticed
+        self.assertEqual(one.total(0), 400)
+        one.tracers[2] += 1
+        again = puldeho.World(GRID, one.air, one.tracers)
+        self.assertEqual((again.total(0), again.book(0)), (401, (401, 0, 0)))
+
     def test_words(self):
         refused = self.refused(9, "zonal", 0, 0, [0, 100, 0, 0])
         self.assertIn("zonal refused with 9 (no count from 1 to 16 serves): cell 2", str(refused))
@@ -355,6 +433,9 @@ class Refusals(unittest.TestCase):
         self.assertIn("total refused with 5 (the tracer, cell, layer or row is absent): there is no tracer 1", absent)
         self.assertIn("What to do: count from 0", absent)
         self.assertNotIn("ledger", absent)
+        above = str(self.refused(6, "emission", 0, 0, 2**32 - 1))
+        self.assertIn("tracer 0 has the total 400 and the amount is 4294967295", above)
+        self.assertTrue(above.endswith("with their units in the larger unit."))
         for fluxes, number in ([401] * 4, 16), ([100, 0, 0, 0], 17):
             self.assertNotIn("What to do", str(self.refused(number, "long_zonal", 0, 0, fluxes)))
         self.assertIn("with 400 taken off every flux", self.refused(16, "long_zonal", 0, 0, [401] * 4).why)

@@ -16,7 +16,7 @@ struct CWorld {
     tracers_length: usize,
     ledger: *const u32,
     ledger_length: usize,
-    own_ledger: [u32; 448],
+    own_ledger: [u32; 472],
 }
 
 extern "C" {
@@ -41,14 +41,14 @@ extern "C" {
 /// Does nothing, and is linked with the library of this version only: another one's functions may take other arguments.
 pub(crate) fn same_version() {
     extern "C" {
-        fn puldeho_abi_0_7();
+        fn puldeho_abi_0_8();
     }
     // SAFETY: it takes nothing and does nothing.
-    unsafe { puldeho_abi_0_7() }
+    unsafe { puldeho_abi_0_8() }
 }
 
 /// The version of the library that this wrapper was made for.
-pub const VERSION: &str = "0.7.0";
+pub const VERSION: &str = "0.8.0";
 
 /// The scale of ratios, mismatches and pieces, in which set_limiter takes its bounds: 262144 from version 0.6 on, and 65536 before. Builds whose scales differ may give other amounts
 pub const SCALE: u32 = 262144;
@@ -56,6 +56,8 @@ pub const SCALE: u32 = 262144;
 pub const AIR_LIMIT: u32 = 65535;
 /// The most units of a tracer in all cells together
 pub const TOTAL_LIMIT: u32 = 268435455;
+/// The most units of a tracer that its book has as emitted, or as withdrawn, since the load
+pub const SUM_LIMIT: u32 = 4294967295;
 /// The largest size of a flux of a zonal or a long zonal sweep
 pub const ZONAL_LIMIT: u32 = 1048560;
 /// The largest size of a flux of a meridional sweep
@@ -77,7 +79,7 @@ pub const MOST_TRACERS: u32 = 8;
 /// The most emitters of a tracer that stand at once
 pub const MOST_EMITTERS: u32 = 16;
 /// How many numbers of the ledger each tracer has; tracer t's block starts at t times this number. Later versions have more
-pub const LEDGER_BLOCK: u32 = 56;
+pub const LEDGER_BLOCK: u32 = 59;
 
 /// Why a call was refused. It then changed nothing. `refusal as u32` is its number.
 #[derive(Clone, Copy, Debug, PartialEq, Eq)]
@@ -93,9 +95,9 @@ pub enum Refusal {
     Totals = 4,
     /// the tracer, cell, layer or row is absent; in add_emitter, remove_emitter, tick and units_a_tick also: in the ledger some tracer has more than 16 emitters, an emitter in an absent cell, an id twice or a false sum
     Index = 5,
-    /// the total would pass 268,435,455
+    /// the total would pass 268,435,455, or the tracer's emitted sum 4,294,967,295
     Emission = 6,
-    /// the cell has less than the amount
+    /// the cell has less than the amount, or the tracer's withdrawn sum would pass 4,294,967,295
     Withdrawal = 7,
     /// a flux's size is above 1,048,560 (zonal) or 65,535 (meridional)
     Fluxes = 8,
@@ -119,6 +121,8 @@ pub enum Refusal {
     GivenCount = 20,
     /// a tracer's limiter is none of 1, 2 and 3, or its lo exceeds its hi
     Limiters = 21,
+    /// a tracer's loaded + emitted - withdrawn is not the sum of its cells
+    Books = 22,
 }
 
 impl Refusal {
@@ -142,6 +146,7 @@ impl Refusal {
         Refusal::EmitterAbsent,
         Refusal::GivenCount,
         Refusal::Limiters,
+        Refusal::Books,
     ];
 
     /// The refusal's condition, in words.
@@ -152,8 +157,8 @@ impl Refusal {
             Refusal::AirRange => "a cell's air is 0 or above 65,535",
             Refusal::Totals => "a tracer's total is above 268,435,455",
             Refusal::Index => "the tracer, cell, layer or row is absent; in add_emitter, remove_emitter, tick and units_a_tick also: in the ledger some tracer has more than 16 emitters, an emitter in an absent cell, an id twice or a false sum",
-            Refusal::Emission => "the total would pass 268,435,455",
-            Refusal::Withdrawal => "the cell has less than the amount",
+            Refusal::Emission => "the total would pass 268,435,455, or the tracer's emitted sum 4,294,967,295",
+            Refusal::Withdrawal => "the cell has less than the amount, or the tracer's withdrawn sum would pass 4,294,967,295",
             Refusal::Fluxes => "a flux's size is above 1,048,560 (zonal) or 65,535 (meridional)",
             Refusal::Zonal => "no count from 1 to 16 serves",
             Refusal::Meridional => "the substep is not allowed",
@@ -165,6 +170,7 @@ impl Refusal {
             Refusal::EmitterAbsent => "the tracer has no emitter of that id",
             Refusal::GivenCount => "the given count differs from the smallest that serves",
             Refusal::Limiters => "a tracer's limiter is none of 1, 2 and 3, or its lo exceeds its hi",
+            Refusal::Books => "a tracer's loaded + emitted - withdrawn is not the sum of its cells",
         }
     }
 
@@ -176,8 +182,8 @@ impl Refusal {
             Refusal::AirRange => "choose the unit of air so that every cell has 1 to 65,535, with room for the changes within a step",
             Refusal::Totals => "choose a larger unit for that gas, so that its total with all later emissions stays below the limit",
             Refusal::Index => "count from 0, and take cell numbers from the grid's functions for cells and caps; if the ledger is at fault, load the world again, which leaves no emitter standing, and add the emitters anew",
-            Refusal::Emission => "correct an amount that is wrong, and remove an emitter whose units are wrong; else load the gas in a larger unit, with room for all emissions and ticks of the run, and add its emitters anew, with their units in the larger unit",
-            Refusal::Withdrawal => "read the cell first, and withdraw at most what it has",
+            Refusal::Emission => "correct an amount that is wrong, and remove an emitter whose units are wrong; else load the gas in a larger unit, with room for all emissions and ticks of the run, and add its emitters anew, with their units in the larger unit; if the emitted sum is full, read the book and load again, which begins the sums anew, then add the emitters and set the limiters anew",
+            Refusal::Withdrawal => "read the cell first, and withdraw at most what it has; if the withdrawn sum is full, read the book and load again, which begins the sums anew, then add the emitters and set the limiters anew",
             Refusal::Fluxes => "give fluxes in units of air for this step, and divide the step if they are still too large",
             Refusal::Zonal => "make the sweep as two or more, each with a part of the fluxes, or as a long zonal sweep (in the library only), which gives other amounts of tracer; if a cell would end with no air or too much, make the whole step (zonal, meridional, remap) in parts, or make the meridional sweep or a remap first",
             Refusal::Meridional => "make the sweep as two or more, each with a part of the fluxes; if a cell would end with no air or too much, make the whole step (zonal, meridional, remap) in parts, or make the zonal sweeps or a remap first",
@@ -189,6 +195,7 @@ impl Refusal {
             Refusal::EmitterAbsent => "remove each stack once, from the tracer that it was added to, and add the emitters anew after a load",
             Refusal::GivenCount => "see that layer, row and fluxes are those that were counted; then count again with count_zonal, look at the new count, and give that",
             Refusal::Limiters => "load the world before other calls, and again if the ledger was written by anything but calls, then add the emitters and set the limiters anew; give set_limiter 1, 2 or 3, and lo and hi as mixing ratios times 262,144, lo at most hi (with 1 and 2 both 0)",
+            Refusal::Books => "load the world before other calls, and again after anything but calls wrote into tracers or ledger: what the cells have then is the loaded amount, and emitters and limiters must be set anew; to go back to a kept state, bring back tracers and ledger together",
         }
     }
 }
@@ -238,9 +245,9 @@ impl Grid {
         self.n as usize * self.k as usize * self.cells_in_layer()
     }
 
-    /// The length of ledger: N*56. In it: the emitters and the limiter, a block for each tracer: at its place 0 how many emitters stand, at 1 and 2 the sum of their units, low and high 32 bits, from 3 on id, cell and units of each, at 51 the limiter, at 52 and 53 its lo and at 54 and 55 its hi, low and high 32 bits.
+    /// The length of ledger: N*59. In it: the emitters, the limiter and the book, a block for each tracer: at its place 0 how many emitters stand, at 1 and 2 the sum of their units, low and high 32 bits, from 3 on id, cell and units of each, at 51 the limiter, at 52 and 53 its lo and at 54 and 55 its hi, low and high 32 bits, at 56 what was loaded, at 57 what was emitted and at 58 what was withdrawn.
     pub fn ledger_length(self) -> usize {
-        self.n as usize * 56
+        self.n as usize * 59
     }
 
     /// The length of fluxes of a zonal call: W. In it: flux i crosses the face from column i to column i + 1, the last to column 0; positive eastward.
@@ -279,6 +286,18 @@ impl Grid {
     }
 }
 
+/// A tracer's book: what was loaded, and what was emitted and withdrawn since then, in units. [`World::book`] gives it. The sums
+/// have 32 bits in the ledger; here they can be added without a carry that is lost.
+#[derive(Clone, Copy, Debug, PartialEq, Eq)]
+pub struct Book {
+    /// What the load found in all cells of the tracer.
+    pub loaded: u64,
+    /// What emissions and ticks have added since the load.
+    pub emitted: u64,
+    /// What withdrawals have taken since the load.
+    pub withdrawn: u64,
+}
+
 /// A world that owns its lists, made by an accepted load, so that a later call is refused for its own arguments only.
 /// Two are equal if all that they have is equal, also what a later version adds; to compare amounts, compare the lists.
 #[derive(Clone, Debug, PartialEq, Eq)]
@@ -292,14 +311,14 @@ pub struct World {
 impl World {
     /// Takes the lists as the world from now on, if the load is accepted.
     pub fn load(grid: Grid, air: impl Into<Vec<u32>>, tracers: impl Into<Vec<u32>>) -> Result<World, Refusal> {
-        let mut world = World { grid, air: air.into(), tracers: tracers.into(), ledger: vec![0; grid.ledger_length().min(448)] };
+        let mut world = World { grid, air: air.into(), tracers: tracers.into(), ledger: vec![0; grid.ledger_length().min(472)] };
         raw::load(grid, &world.air, &world.tracers, &mut world.ledger)?;
         Ok(world)
     }
 
     /// Why a load of these lists is refused, in words.
     pub fn why_load(grid: Grid, air: impl Into<Vec<u32>>, tracers: impl Into<Vec<u32>>) -> String {
-        let given = World { grid, air: air.into(), tracers: tracers.into(), ledger: vec![0; grid.ledger_length().min(448)] };
+        let given = World { grid, air: air.into(), tracers: tracers.into(), ledger: vec![0; grid.ledger_length().min(472)] };
         let world = given.lent();
         // SAFETY: each pointer goes with its list's length, and nothing but the text is written.
         words(|text, size| unsafe { puldeho_why_load(&world, text, size) })
@@ -315,13 +334,21 @@ impl World {
             tracers_length: self.tracers.len(),
             ledger: self.ledger.as_ptr(),
             ledger_length: self.ledger.len(),
-            own_ledger: [0; 448],
+            own_ledger: [0; 472],
         }
     }
 
     /// The grid.
     pub fn grid(&self) -> Grid {
         self.grid
+    }
+
+    /// The book of a tracer, if the grid has the tracer. Reading does not test it; every call but a load does, as [`World::total`],
+    /// for all tracers. As only calls write a world, none is refused with [`Refusal::Books`].
+    pub fn book(&self, tracer: u32) -> Option<Book> {
+        let block = self.ledger.chunks(LEDGER_BLOCK as usize).nth(tracer as usize)?;
+        let sum = |place: usize| u64::from(block[56 + place]);
+        Some(Book { loaded: sum(0), emitted: sum(1), withdrawn: sum(2) })
     }
 
     /// The limiter that a tracer has now, if the grid has the tracer.
@@ -341,24 +368,24 @@ impl World {
         &self.tracers
     }
 
-    /// The emitters and the limiter, a block for each tracer: at its place 0 how many emitters stand, at 1 and 2 the sum of their units, low and high 32 bits, from 3 on id, cell and units of each, at 51 the limiter, at 52 and 53 its lo and at 54 and 55 its hi, low and high 32 bits.
+    /// The emitters, the limiter and the book, a block for each tracer: at its place 0 how many emitters stand, at 1 and 2 the sum of their units, low and high 32 bits, from 3 on id, cell and units of each, at 51 the limiter, at 52 and 53 its lo and at 54 and 55 its hi, low and high 32 bits, at 56 what was loaded, at 57 what was emitted and at 58 what was withdrawn.
     pub fn ledger(&self) -> &[u32] {
         &self.ledger
     }
 
-    /// Adds amount to one cell of one tracer. Cells are numbered over all layers.
+    /// Adds amount to one cell of one tracer, and to what its book has as emitted. Cells are numbered over all layers.
     ///
-    /// Refusals, in order: 1 2 3 4 5 6.
+    /// Refusals, in order: 1 2 3 4 22 5 6.
     pub fn emission(&mut self, tracer: u32, cell: u32, amount: u32) -> Result<(), Refusal> {
-        raw::emission(self.grid, &self.air, &mut self.tracers, &self.ledger, tracer, cell, amount)?;
+        raw::emission(self.grid, &self.air, &mut self.tracers, &mut self.ledger, tracer, cell, amount)?;
         Ok(())
     }
 
-    /// Takes amount from one cell of one tracer. Cells are numbered over all layers.
+    /// Takes amount from one cell of one tracer, and adds it to what its book has as withdrawn. Cells are numbered over all layers.
     ///
-    /// Refusals, in order: 1 2 3 4 5 7.
+    /// Refusals, in order: 1 2 3 4 22 5 7.
     pub fn withdrawal(&mut self, tracer: u32, cell: u32, amount: u32) -> Result<(), Refusal> {
-        raw::withdrawal(self.grid, &self.air, &mut self.tracers, &self.ledger, tracer, cell, amount)?;
+        raw::withdrawal(self.grid, &self.air, &mut self.tracers, &mut self.ledger, tracer, cell, amount)?;
         Ok(())
     }
 
@@ -366,7 +393,7 @@ impl World {
     ///
     /// It gives the number of substeps, 1 to 16.
     ///
-    /// Refusals, in order: 1 2 3 4 21 5 8 9.
+    /// Refusals, in order: 1 2 3 4 21 22 5 8 9.
     pub fn zonal(&mut self, layer: u32, row: u32, fluxes: &[i32]) -> Result<u32, Refusal> {
         raw::zonal(self.grid, &mut self.air, &mut self.tracers, &self.ledger, layer, row, fluxes)
     }
@@ -375,7 +402,7 @@ impl World {
     ///
     /// It gives a [`CountedZonal`] with the number of substeps that the sweep takes, 1 to 16.
     ///
-    /// Refusals, in order: 1 2 3 4 21 5 8 9.
+    /// Refusals, in order: 1 2 3 4 21 22 5 8 9.
     pub fn count_zonal(&self, layer: u32, row: u32, fluxes: &[i32]) -> Result<CountedZonal, Refusal> {
         let substeps = raw::count_zonal(self.grid, &self.air, &self.tracers, &self.ledger, layer, row, fluxes)?;
         Ok(CountedZonal { layer, row, fluxes: fluxes.to_vec(), substeps })
@@ -385,14 +412,14 @@ impl World {
     ///
     /// It gives the count in `counted`.
     ///
-    /// Refusals, in order: 1 2 3 4 21 5 8 9 20.
+    /// Refusals, in order: 1 2 3 4 21 22 5 8 9 20.
     pub fn zonal_with_count(&mut self, counted: &CountedZonal) -> Result<u32, Refusal> {
         raw::zonal_with_count(self.grid, &mut self.air, &mut self.tracers, &self.ledger, counted.layer, counted.row, counted.substeps, &counted.fluxes)
     }
 
     /// Sweeps one row of one layer by W fluxes, positive eastward, without substeps: a face takes whole cells and then a part of the next. Its amounts are not those of zonal.
     ///
-    /// Refusals, in order: 1 2 3 4 21 5 8 16 17.
+    /// Refusals, in order: 1 2 3 4 21 22 5 8 16 17.
     pub fn long_zonal(&mut self, layer: u32, row: u32, fluxes: &[i32]) -> Result<(), Refusal> {
         raw::long_zonal(self.grid, &mut self.air, &mut self.tracers, &self.ledger, layer, row, fluxes)?;
         Ok(())
@@ -402,7 +429,7 @@ impl World {
     ///
     /// It gives the number of substeps, 1.
     ///
-    /// Refusals, in order: 1 2 3 4 21 5 8 10.
+    /// Refusals, in order: 1 2 3 4 21 22 5 8 10.
     pub fn meridional(&mut self, layer: u32, fluxes: &[i32]) -> Result<u32, Refusal> {
         raw::meridional(self.grid, &mut self.air, &mut self.tracers, &self.ledger, layer, fluxes)
     }
@@ -411,16 +438,16 @@ impl World {
     ///
     /// It gives exactly the number of pairs of an old and a new layer that share some air, summed over columns.
     ///
-    /// Refusals, in order: 1 2 3 4 21 11 12.
+    /// Refusals, in order: 1 2 3 4 21 22 11 12.
     pub fn remap(&mut self, table: &[u32]) -> Result<u32, Refusal> {
         raw::remap(self.grid, &mut self.air, &mut self.tracers, &self.ledger, table)
     }
 
-    /// Reads the total of one tracer.
+    /// Reads the total of one tracer. As every call but a load it tests the books of all tracers: if it is accepted, the total of each is what its book has as loaded + emitted - withdrawn.
     ///
     /// It gives the total of the tracer.
     ///
-    /// Refusals, in order: 1 2 3 4 5.
+    /// Refusals, in order: 1 2 3 4 22 5.
     pub fn total(&self, tracer: u32) -> Result<u32, Refusal> {
         raw::total(self.grid, &self.air, &self.tracers, &self.ledger, tracer)
     }
@@ -429,14 +456,14 @@ impl World {
     ///
     /// It gives the amount in the cell.
     ///
-    /// Refusals, in order: 1 2 3 4 5.
+    /// Refusals, in order: 1 2 3 4 22 5.
     pub fn cell(&self, tracer: u32, cell: u32) -> Result<u32, Refusal> {
         raw::cell(self.grid, &self.air, &self.tracers, &self.ledger, tracer, cell)
     }
 
     /// Lets an emitter stand for one tracer: in each tick it gives so many units to the cell. Any number is an id, and each tracer has its own. Cells are numbered over all layers.
     ///
-    /// Refusals, in order: 1 2 3 4 5 18.
+    /// Refusals, in order: 1 2 3 4 22 5 18.
     pub fn add_emitter(&mut self, tracer: u32, cell: u32, id: u32, units: u32) -> Result<(), Refusal> {
         raw::add_emitter(self.grid, &self.air, &self.tracers, &mut self.ledger, tracer, cell, id, units)?;
         Ok(())
@@ -444,17 +471,17 @@ impl World {
 
     /// Removes the emitter that one tracer has under the id. The tracer's last emitter takes its place in the ledger.
     ///
-    /// Refusals, in order: 1 2 3 4 5 19.
+    /// Refusals, in order: 1 2 3 4 22 5 19.
     pub fn remove_emitter(&mut self, tracer: u32, id: u32) -> Result<(), Refusal> {
         raw::remove_emitter(self.grid, &self.air, &self.tracers, &mut self.ledger, tracer, id)?;
         Ok(())
     }
 
-    /// Adds the units of every emitter of one tracer to its cell, or, if it is refused, of none.
+    /// Adds the units of every emitter of one tracer to its cell, and to what its book has as emitted, or, if it is refused, of none.
     ///
-    /// Refusals, in order: 1 2 3 4 5 6.
+    /// Refusals, in order: 1 2 3 4 22 5 6.
     pub fn tick(&mut self, tracer: u32) -> Result<(), Refusal> {
-        raw::tick(self.grid, &self.air, &mut self.tracers, &self.ledger, tracer)?;
+        raw::tick(self.grid, &self.air, &mut self.tracers, &mut self.ledger, tracer)?;
         Ok(())
     }
 
@@ -462,14 +489,14 @@ impl World {
     ///
     /// It gives the units that the tracer's emitters give in a tick.
     ///
-    /// Refusals, in order: 1 2 3 4 5.
+    /// Refusals, in order: 1 2 3 4 22 5.
     pub fn units_a_tick(&self, tracer: u32) -> Result<u64, Refusal> {
         raw::units_a_tick(self.grid, &self.air, &self.tracers, &self.ledger, tracer)
     }
 
     /// Chooses the limiter of one tracer: 1 the present one, 2 the positive one, 3 the fixed one between lo and hi, which are mixing ratios (units of gas for one of air) times the scale, 262144. The bounds are stored with every limiter, and only 3 reads them; give 0 and 0 with 1 and 2. Holds until the next set_limiter of this tracer or the next load.
     ///
-    /// Refusals, in order: 1 2 3 4 5 21.
+    /// Refusals, in order: 1 2 3 4 22 5 21.
     pub fn set_limiter(&mut self, tracer: u32, limiter: Limiter) -> Result<(), Refusal> {
         raw::set_limiter(self.grid, &self.air, &self.tracers, &mut self.ledger, tracer, limiter.numbers().0, limiter.numbers().1, limiter.numbers().2)?;
         Ok(())
@@ -629,7 +656,7 @@ pub mod raw {
             w: u32, r: u32, k: u32, n: u32,
             air: *const u32, air_length: usize,
             tracers: *mut u32, tracers_length: usize,
-            ledger: *const u32, ledger_length: usize,
+            ledger: *mut u32, ledger_length: usize,
             tracer: u32,
             cell: u32,
             amount: u32,
@@ -638,7 +665,7 @@ pub mod raw {
             w: u32, r: u32, k: u32, n: u32,
             air: *const u32, air_length: usize,
             tracers: *mut u32, tracers_length: usize,
-            ledger: *const u32, ledger_length: usize,
+            ledger: *mut u32, ledger_length: usize,
             tracer: u32,
             cell: u32,
             amount: u32,
@@ -732,7 +759,7 @@ pub mod raw {
             w: u32, r: u32, k: u32, n: u32,
             air: *const u32, air_length: usize,
             tracers: *mut u32, tracers_length: usize,
-            ledger: *const u32, ledger_length: usize,
+            ledger: *mut u32, ledger_length: usize,
             tracer: u32,
         ) -> u64;
         fn puldeho_raw_units_a_tick(
@@ -761,7 +788,7 @@ pub mod raw {
         ) -> u64;
 }
 
-    /// Tests the grid and the lists air and tracers, which are the world from then on, and changes no number in them. Leaves no emitter standing, and gives every tracer limiter 1 with both bounds 0: it writes the whole ledger and does not look at what stood there.
+    /// Tests the grid and the lists air and tracers, which are the world from then on, and changes no number in them. Leaves no emitter standing, gives every tracer limiter 1 with both bounds 0, and begins its book: its total as loaded, 0 as emitted and as withdrawn. It writes the whole ledger and does not look at what stood there.
     ///
     /// Count: 0. Refusals, in order: 1 2 3 4.
     pub fn load(
@@ -781,14 +808,14 @@ pub mod raw {
         })
     }
 
-    /// Adds amount to one cell of one tracer. Cells are numbered over all layers.
+    /// Adds amount to one cell of one tracer, and to what its book has as emitted. Cells are numbered over all layers.
     ///
-    /// Count: 0. Refusals, in order: 1 2 3 4 5 6.
+    /// Count: 0. Refusals, in order: 1 2 3 4 22 5 6.
     pub fn emission(
         grid: Grid,
         air: &[u32],
         tracers: &mut [u32],
-        ledger: &[u32],
+        ledger: &mut [u32],
         tracer: u32,
         cell: u32,
         amount: u32,
@@ -799,7 +826,7 @@ pub mod raw {
                 grid.w, grid.r, grid.k, grid.n,
                 air.as_ptr(), air.len(),
                 tracers.as_mut_ptr(), tracers.len(),
-                ledger.as_ptr(), ledger.len(),
+                ledger.as_mut_ptr(), ledger.len(),
                 tracer,
                 cell,
                 amount,
@@ -807,14 +834,14 @@ pub mod raw {
         })
     }
 
-    /// Takes amount from one cell of one tracer. Cells are numbered over all layers.
+    /// Takes amount from one cell of one tracer, and adds it to what its book has as withdrawn. Cells are numbered over all layers.
     ///
-    /// Count: 0. Refusals, in order: 1 2 3 4 5 7.
+    /// Count: 0. Refusals, in order: 1 2 3 4 22 5 7.
     pub fn withdrawal(
         grid: Grid,
         air: &[u32],
         tracers: &mut [u32],
-        ledger: &[u32],
+        ledger: &mut [u32],
         tracer: u32,
         cell: u32,
         amount: u32,
@@ -825,7 +852,7 @@ pub mod raw {
                 grid.w, grid.r, grid.k, grid.n,
                 air.as_ptr(), air.len(),
                 tracers.as_mut_ptr(), tracers.len(),
-                ledger.as_ptr(), ledger.len(),
+                ledger.as_mut_ptr(), ledger.len(),
                 tracer,
                 cell,
                 amount,
@@ -835,7 +862,7 @@ pub mod raw {
 
     /// Sweeps one row of one layer by W fluxes, positive eastward.
     ///
-    /// Count: the number of substeps, 1 to 16. Refusals, in order: 1 2 3 4 21 5 8 9.
+    /// Count: the number of substeps, 1 to 16. Refusals, in order: 1 2 3 4 21 22 5 8 9.
     pub fn zonal(
         grid: Grid,
         air: &mut [u32],
@@ -861,7 +888,7 @@ pub mod raw {
 
     /// Counts the substeps of a zonal sweep of one row of one layer by W fluxes, positive eastward, before it is made, to be seen and then given to zonal_with_count.
     ///
-    /// Count: the number of substeps that the sweep takes, 1 to 16. Refusals, in order: 1 2 3 4 21 5 8 9.
+    /// Count: the number of substeps that the sweep takes, 1 to 16. Refusals, in order: 1 2 3 4 21 22 5 8 9.
     pub fn count_zonal(
         grid: Grid,
         air: &[u32],
@@ -887,7 +914,7 @@ pub mod raw {
 
     /// Makes the sweep of zonal, if the given count is the one that count_zonal gives for the same layer, row and fluxes now; with any other count it is refused with 20.
     ///
-    /// Count: the given count. Refusals, in order: 1 2 3 4 21 5 8 9 20.
+    /// Count: the given count. Refusals, in order: 1 2 3 4 21 22 5 8 9 20.
     pub fn zonal_with_count(
         grid: Grid,
         air: &mut [u32],
@@ -915,7 +942,7 @@ pub mod raw {
 
     /// Sweeps one row of one layer by W fluxes, positive eastward, without substeps: a face takes whole cells and then a part of the next. Its amounts are not those of zonal.
     ///
-    /// Count: 0. Refusals, in order: 1 2 3 4 21 5 8 16 17.
+    /// Count: 0. Refusals, in order: 1 2 3 4 21 22 5 8 16 17.
     pub fn long_zonal(
         grid: Grid,
         air: &mut [u32],
@@ -941,7 +968,7 @@ pub mod raw {
 
     /// Sweeps one layer by W*(R + 1) fluxes, positive northward.
     ///
-    /// Count: the number of substeps, 1. Refusals, in order: 1 2 3 4 21 5 8 10.
+    /// Count: the number of substeps, 1. Refusals, in order: 1 2 3 4 21 22 5 8 10.
     pub fn meridional(
         grid: Grid,
         air: &mut [u32],
@@ -965,7 +992,7 @@ pub mod raw {
 
     /// Remaps all columns to the edges of a table of K + 1 pairs a, b, lent as 2*(K + 1) numbers. Makes at most 2*K steps for each column and tracer, in all at most the grid's most_remap_steps. Section 6 of the guide writes a count out by hand.
     ///
-    /// Count: exactly the number of pairs of an old and a new layer that share some air, summed over columns. Refusals, in order: 1 2 3 4 21 11 12.
+    /// Count: exactly the number of pairs of an old and a new layer that share some air, summed over columns. Refusals, in order: 1 2 3 4 21 22 11 12.
     pub fn remap(
         grid: Grid,
         air: &mut [u32],
@@ -985,9 +1012,9 @@ pub mod raw {
         })
     }
 
-    /// Reads the total of one tracer.
+    /// Reads the total of one tracer. As every call but a load it tests the books of all tracers: if it is accepted, the total of each is what its book has as loaded + emitted - withdrawn.
     ///
-    /// Count: the total of the tracer. Refusals, in order: 1 2 3 4 5.
+    /// Count: the total of the tracer. Refusals, in order: 1 2 3 4 22 5.
     pub fn total(
         grid: Grid,
         air: &[u32],
@@ -1009,7 +1036,7 @@ pub mod raw {
 
     /// Reads one cell of one tracer. Cells are numbered over all layers.
     ///
-    /// Count: the amount in the cell. Refusals, in order: 1 2 3 4 5.
+    /// Count: the amount in the cell. Refusals, in order: 1 2 3 4 22 5.
     pub fn cell(
         grid: Grid,
         air: &[u32],
@@ -1033,7 +1060,7 @@ pub mod raw {
 
     /// Lets an emitter stand for one tracer: in each tick it gives so many units to the cell. Any number is an id, and each tracer has its own. Cells are numbered over all layers.
     ///
-    /// Count: 0. Refusals, in order: 1 2 3 4 5 18.
+    /// Count: 0. Refusals, in order: 1 2 3 4 22 5 18.
     pub fn add_emitter(
         grid: Grid,
         air: &[u32],
@@ -1061,7 +1088,7 @@ pub mod raw {
 
     /// Removes the emitter that one tracer has under the id. The tracer's last emitter takes its place in the ledger.
     ///
-    /// Count: 0. Refusals, in order: 1 2 3 4 5 19.
+    /// Count: 0. Refusals, in order: 1 2 3 4 22 5 19.
     pub fn remove_emitter(
         grid: Grid,
         air: &[u32],
@@ -1083,14 +1110,14 @@ pub mod raw {
         })
     }
 
-    /// Adds the units of every emitter of one tracer to its cell, or, if it is refused, of none.
+    /// Adds the units of every emitter of one tracer to its cell, and to what its book has as emitted, or, if it is refused, of none.
     ///
-    /// Count: 0. Refusals, in order: 1 2 3 4 5 6.
+    /// Count: 0. Refusals, in order: 1 2 3 4 22 5 6.
     pub fn tick(
         grid: Grid,
         air: &[u32],
         tracers: &mut [u32],
-        ledger: &[u32],
+        ledger: &mut [u32],
         tracer: u32,
     ) -> Result<u32, Refusal> {
         // SAFETY: each pointer goes with its slice's length, and the borrows keep all others from what is written.
@@ -1099,7 +1126,7 @@ pub mod raw {
                 grid.w, grid.r, grid.k, grid.n,
                 air.as_ptr(), air.len(),
                 tracers.as_mut_ptr(), tracers.len(),
-                ledger.as_ptr(), ledger.len(),
+                ledger.as_mut_ptr(), ledger.len(),
                 tracer,
             )
         })
@@ -1107,7 +1134,7 @@ pub mod raw {
 
     /// Reads how much a tick of one tracer emits.
     ///
-    /// Count: the units that the tracer's emitters give in a tick. Refusals, in order: 1 2 3 4 5.
+    /// Count: the units that the tracer's emitters give in a tick. Refusals, in order: 1 2 3 4 22 5.
     pub fn units_a_tick(
         grid: Grid,
         air: &[u32],
@@ -1137,7 +1164,7 @@ pub mod raw {
 
     /// Chooses the limiter of one tracer: 1 the present one, 2 the positive one, 3 the fixed one between lo and hi, which are mixing ratios (units of gas for one of air) times the scale, 262144. The bounds are stored with every limiter, and only 3 reads them; give 0 and 0 with 1 and 2. Holds until the next set_limiter of this tracer or the next load.
     ///
-    /// Count: 0. Refusals, in order: 1 2 3 4 5 21.
+    /// Count: 0. Refusals, in order: 1 2 3 4 22 5 21.
     pub fn set_limiter(
         grid: Grid,
         air: &[u32],

@@ -2,8 +2,9 @@
 //!
 //! A [`World`] is made by a load and owns its lists: `air` with K·C numbers and `tracers` with N·K·C,
 //! where C = 2 + R·W. Layer k starts at k·C, tracer t at t·K·C. The third, `ledger`, holds the emitters
-//! that stand and the limiters, and is written by the calls alone. A call gives its count, or the first refusal
-//! that applies, and then it changed nothing. docs/GUIDE.md explains grid, units, fluxes, emitters and limiters.
+//! that stand, the limiters and the books, and is written by the calls alone. A call gives its count, or the first
+//! refusal that applies, and then it changed nothing. docs/GUIDE.md explains grid, units, fluxes, emitters, limiters
+//! and books.
 //!
 //! What no type can say: the stack must have room for the call (bindings/puldeho.h has the bytes).
 

@@ -1,6 +1,6 @@
 //! Case P, m1 and each refusal through the safe wrapper, linked with the proved library.
 
-use puldeho::{raw, Grid, Limiter, Refusal, World, LEDGER_BLOCK, SCALE};
+use puldeho::{raw, Book, Grid, Limiter, Refusal, World, LEDGER_BLOCK, SCALE, SUM_LIMIT};
 
 const GRID: Grid = Grid {
     w: 4,
@@ -13,12 +13,18 @@ const TRACERS: [u32; 6] = [0, 0, 100, 200, 100, 0];
 const MOST: u32 = 268_435_455;
 /// The ledger of one tracer.
 const BLOCK: usize = LEDGER_BLOCK as usize;
-/// As a load leaves it: no emitter, limiter 1.
-const NONE: [u32; BLOCK] = loaded();
+/// Where its book stands.
+const BOOK: usize = 56;
+/// As a load of no gas leaves it.
+const NONE: [u32; BLOCK] = loaded(0);
+/// As a load of `TRACERS` leaves it.
+const LOADED: [u32; BLOCK] = loaded(400);
 
-const fn loaded() -> [u32; BLOCK] {
+/// No emitter, limiter 1, and so many units loaded.
+const fn loaded(total: u32) -> [u32; BLOCK] {
     let mut ledger = [0; BLOCK];
     ledger[51] = 1;
+    ledger[BOOK] = total;
     ledger
 }
 
@@ -133,7 +139,8 @@ fn emitters_that_start_and_stop() {
     assert_eq!(world.tracers(), [0, 0, 100, 300, 130, 0]);
     assert_eq!(world.remove_emitter(0, 7), Ok(()));
     assert_eq!(world.ledger()[..9], [2, 90, 0, 0, 4, 30, 8, 3, 60]);
-    assert_eq!(world.ledger()[9..], NONE[9..]);
+    assert_eq!(world.ledger()[9..BOOK], NONE[9..BOOK]);
+    assert_eq!(world.ledger()[BOOK..], [400, 130, 0]);
     assert_eq!(world.remove_emitter(0, 7), Err(Refusal::EmitterAbsent));
     assert_eq!(world.add_emitter(0, 1, 8, 1), Err(Refusal::EmitterAdded));
     assert!(world
@@ -198,7 +205,7 @@ fn a_limiter_for_each_gas() {
         [Some(Limiter::Present), Some(wide), None]
     );
     assert_eq!(
-        world.ledger()[BLOCK + 51..],
+        world.ledger()[BLOCK + 51..BLOCK + BOOK],
         [3, 0, 256, u32::MAX, u32::MAX]
     );
     assert_ne!(world, before);
@@ -211,6 +218,57 @@ fn a_limiter_for_each_gas() {
     assert_eq!(world.set_limiter(2, reversed), Err(Refusal::Index));
     assert_eq!(world.limiter(1), Some(wide));
     assert_eq!(before.limiter(1), Some(Limiter::Present));
+}
+
+#[test]
+fn a_book_for_each_gas() {
+    let two = Grid { n: 2, ..GRID };
+    let mut world = World::load(two, AIR, [TRACERS, [5; 6]].concat()).unwrap();
+    let book = |loaded, emitted, withdrawn| {
+        Some(Book {
+            loaded,
+            emitted,
+            withdrawn,
+        })
+    };
+    assert_eq!(
+        [0, 1, 2].map(|tracer| world.book(tracer)),
+        [book(400, 0, 0), book(30, 0, 0), None]
+    );
+    assert_eq!(world.emission(0, 3, 50), Ok(()));
+    assert_eq!(world.add_emitter(0, 2, 7, 11), Ok(()));
+    assert_eq!(world.tick(0), Ok(()));
+    assert_eq!(world.withdrawal(0, 3, 20), Ok(()));
+    let before = world.clone();
+    assert_eq!(world.zonal(0, 0, &[0, 50, 0, 0]), Ok(1));
+    assert_eq!(world.emission(0, 6, 1), Err(Refusal::Index));
+    assert_eq!(world.book(0), book(400, 61, 20));
+    assert_eq!(world.book(1), book(30, 0, 0));
+    assert_eq!(world.total(0), Ok(441));
+    assert_eq!(world.withdrawal(0, 3, 1), Ok(()));
+    assert_eq!(before.book(0), book(400, 61, 20));
+    let lists = (world.air().to_vec(), world.tracers().to_vec());
+    let again = World::load(two, lists.0, lists.1).unwrap();
+    assert_eq!(again.book(0), book(440, 0, 0));
+}
+
+#[test]
+fn a_gas_whose_sums_are_full() {
+    let mut world = World::load(GRID, AIR, [0; 6]).unwrap();
+    for _ in 0..16 {
+        assert_eq!(world.emission(0, 2, MOST), Ok(()));
+        assert_eq!(world.withdrawal(0, 2, MOST), Ok(()));
+    }
+    assert_eq!(world.emission(0, 2, MOST), Err(Refusal::Emission));
+    assert!(world
+        .why_emission(0, 2, MOST)
+        .contains("so at most 15 can be emitted until the next load"));
+    assert_eq!(world.emission(0, 2, 15), Ok(()));
+    assert_eq!(world.emission(0, 2, 1), Err(Refusal::Emission));
+    assert_eq!(world.emission(0, 2, 0), Ok(()));
+    let book = world.book(0).unwrap();
+    assert_eq!(book.emitted, u64::from(SUM_LIMIT));
+    assert_eq!(book.loaded + book.emitted, book.withdrawn + 15);
 }
 
 #[test]
@@ -286,7 +344,7 @@ fn m1() {
     let (mut air, mut tracers) = (AIR, TRACERS);
     let fluxes = [0, 50, 0, 0];
     assert_eq!(
-        raw::zonal(GRID, &mut air, &mut tracers, &NONE, 0, 0, &fluxes),
+        raw::zonal(GRID, &mut air, &mut tracers, &LOADED, 0, 0, &fluxes),
         Ok(1)
     );
     assert_eq!(air[1..5], [100, 50, 150, 100]);
@@ -295,25 +353,22 @@ fn m1() {
 
 #[test]
 fn emission_withdrawal_meridional_and_remap() {
-    let (mut air, mut tracers) = (AIR, TRACERS);
-    assert_eq!(
-        raw::emission(GRID, &air, &mut tracers, &NONE, 0, 5, 7),
-        Ok(0)
-    );
+    let (mut air, mut tracers, mut ledger) = (AIR, TRACERS, LOADED);
+    let emission = raw::emission(GRID, &air, &mut tracers, &mut ledger, 0, 5, 7);
+    assert_eq!(emission, Ok(0));
     assert_eq!(tracers, [0, 0, 100, 200, 100, 7]);
-    assert_eq!(
-        raw::withdrawal(GRID, &air, &mut tracers, &NONE, 0, 3, 200),
-        Ok(0)
-    );
+    let withdrawal = raw::withdrawal(GRID, &air, &mut tracers, &mut ledger, 0, 3, 200);
+    assert_eq!(withdrawal, Ok(0));
     assert_eq!(tracers, [0, 0, 100, 0, 100, 7]);
+    assert_eq!(ledger[BOOK..], [400, 7, 200]);
     let fluxes = [1, 0, 0, 0, 0, 0, 0, -10];
     assert_eq!(
-        raw::meridional(GRID, &mut air, &mut tracers, &NONE, 0, &fluxes),
+        raw::meridional(GRID, &mut air, &mut tracers, &ledger, 0, &fluxes),
         Ok(1)
     );
     assert_eq!(air, [99, 101, 100, 100, 110, 90]);
     assert_eq!(
-        raw::remap(GRID, &mut air, &mut tracers, &NONE, &[0, 0, 0, 65_536]),
+        raw::remap(GRID, &mut air, &mut tracers, &ledger, &[0, 0, 0, 65_536]),
         Ok(6)
     );
 }
@@ -377,14 +432,16 @@ fn refusals_1_to_4() {
 #[test]
 fn refusals_5_to_7() {
     let emission = |cell, amount| {
-        move |a: &mut [u32], t: &mut [u32]| raw::emission(GRID, a, t, &NONE, 0, cell, amount)
+        move |a: &mut [u32], t: &mut [u32]| {
+            raw::emission(GRID, a, t, &mut LOADED.clone(), 0, cell, amount)
+        }
     };
     refused(&AIR, &TRACERS, emission(6, 0), Refusal::Index);
     refused(&AIR, &TRACERS, emission(5, MOST), Refusal::Emission);
     refused(
         &AIR,
         &TRACERS,
-        |a, t| raw::withdrawal(GRID, a, t, &NONE, 0, 3, 201),
+        |a, t| raw::withdrawal(GRID, a, t, &mut LOADED.clone(), 0, 3, 201),
         Refusal::Withdrawal,
     );
 }
@@ -392,7 +449,7 @@ fn refusals_5_to_7() {
 #[test]
 fn refusals_8_to_10() {
     let zonal = |flux: i32| {
-        move |a: &mut [u32], t: &mut [u32]| raw::zonal(GRID, a, t, &NONE, 0, 0, &[0, flux, 0, 0])
+        move |a: &mut [u32], t: &mut [u32]| raw::zonal(GRID, a, t, &LOADED, 0, 0, &[0, flux, 0, 0])
     };
     refused(&AIR, &TRACERS, zonal(1_048_561), Refusal::Fluxes);
     refused(&AIR, &TRACERS, zonal(i32::MIN), Refusal::Fluxes);
@@ -400,7 +457,7 @@ fn refusals_8_to_10() {
     refused(
         &AIR,
         &TRACERS,
-        |a, t| raw::meridional(GRID, a, t, &NONE, 0, &[100, 0, 0, 0, 0, 0, 0, 0]),
+        |a, t| raw::meridional(GRID, a, t, &LOADED, 0, &[100, 0, 0, 0, 0, 0, 0, 0]),
         Refusal::Meridional,
     );
 }
@@ -420,7 +477,7 @@ fn refusals_11_and_12() {
 #[test]
 fn refusals_16_and_17() {
     let long = |fluxes: [i32; 4]| {
-        move |a: &mut [u32], t: &mut [u32]| raw::long_zonal(GRID, a, t, &NONE, 0, 0, &fluxes)
+        move |a: &mut [u32], t: &mut [u32]| raw::long_zonal(GRID, a, t, &LOADED, 0, 0, &fluxes)
     };
     refused(&AIR, &TRACERS, long([0, 0, 0, -1_048_561]), Refusal::Fluxes);
     refused(
@@ -441,7 +498,7 @@ fn refusals_16_and_17() {
 
 /// A ledger with an emitter of id 7, in cell 3, of 40 units.
 fn one_emitter() -> [u32; BLOCK] {
-    let mut ledger = NONE;
+    let mut ledger = LOADED;
     ledger[..6].copy_from_slice(&[1, 40, 0, 7, 3, 40]);
     ledger
 }
@@ -456,7 +513,7 @@ fn refusals_18_and_19() {
     assert_eq!(remove(&mut changed, 8), Err(Refusal::EmitterAbsent));
     assert_eq!(changed, ledger);
     assert_eq!(remove(&mut changed, 7), Ok(0));
-    assert_eq!(changed, NONE);
+    assert_eq!(changed, LOADED);
     assert_eq!(add(&mut changed), Ok(0));
     assert_eq!(changed, ledger);
 }
@@ -479,16 +536,83 @@ fn refusal_21() {
     let remap = raw::remap(GRID, &mut air, &mut tracers, &unloaded, &[0; 4]);
     assert_eq!(remap, Err(Refusal::Limiters));
     assert_eq!((air, tracers), (AIR, TRACERS));
-    assert_eq!(raw::total(GRID, &air, &tracers, &unloaded, 0), Ok(400));
-    let mut ledger = unloaded;
+    let total = raw::total(GRID, &air, &tracers, &unloaded, 0);
+    assert_eq!(total, Err(Refusal::Books));
+    let mut ledger = LOADED;
+    ledger[51] = 0;
+    let unlimited = ledger;
     let mut set = |number, lo, hi| {
         let set = raw::set_limiter(GRID, &AIR, &TRACERS, &mut ledger, 0, number, lo, hi);
         (set, ledger)
     };
-    assert_eq!(set(0, 0, 0), (Err(Refusal::Limiters), unloaded));
-    assert_eq!(set(4, 0, 0), (Err(Refusal::Limiters), unloaded));
-    assert_eq!(set(2, 1, 0), (Err(Refusal::Limiters), unloaded));
-    assert_eq!(set(1, 0, 0), (Ok(0), NONE));
+    assert_eq!(set(0, 0, 0), (Err(Refusal::Limiters), unlimited));
+    assert_eq!(set(4, 0, 0), (Err(Refusal::Limiters), unlimited));
+    assert_eq!(set(2, 1, 0), (Err(Refusal::Limiters), unlimited));
+    assert_eq!(set(1, 0, 0), (Ok(0), LOADED));
+}
+
+/// Every call but a load refuses the book with 22, also where its own arguments are absent, and leaves every list as it was.
+fn unbalanced(book: [u32; 3]) {
+    let mut ledger = LOADED;
+    ledger[BOOK..].copy_from_slice(&book);
+    let (mut a, mut t, mut l) = (AIR, TRACERS, ledger);
+    let still = [0; 4];
+    let answers = [
+        raw::emission(GRID, &a, &mut t, &mut l, 9, 0, 0),
+        raw::withdrawal(GRID, &a, &mut t, &mut l, 9, 0, 0),
+        raw::zonal(GRID, &mut a, &mut t, &l, 9, 0, &still),
+        raw::count_zonal(GRID, &a, &t, &l, 9, 0, &still),
+        raw::zonal_with_count(GRID, &mut a, &mut t, &l, 9, 0, 0, &still),
+        raw::long_zonal(GRID, &mut a, &mut t, &l, 9, 0, &still),
+        raw::meridional(GRID, &mut a, &mut t, &l, 9, &[0; 8]),
+        raw::remap(GRID, &mut a, &mut t, &l, &[1; 4]),
+        raw::total(GRID, &a, &t, &l, 9),
+        raw::cell(GRID, &a, &t, &l, 9, 0),
+        raw::add_emitter(GRID, &a, &t, &mut l, 9, 0, 0, 0),
+        raw::remove_emitter(GRID, &a, &t, &mut l, 9, 0),
+        raw::tick(GRID, &a, &mut t, &mut l, 9),
+        raw::set_limiter(GRID, &a, &t, &mut l, 9, 4, 1, 0),
+    ];
+    assert_eq!(answers, [Err(Refusal::Books); 14]);
+    let units = raw::units_a_tick(GRID, &a, &t, &l, 9);
+    assert_eq!(units, Err(Refusal::Books));
+    assert_eq!((a, t, l), (AIR, TRACERS, ledger));
+    assert_eq!(raw::load(GRID, &a, &t, &mut l), Ok(0));
+    assert_eq!(l, LOADED);
+}
+
+#[test]
+fn refusal_22() {
+    unbalanced([399, 0, 0]);
+    unbalanced([401, 0, 0]);
+    unbalanced([400, 1, 0]);
+    unbalanced([400, 0, 1]);
+    // 400, were the sums cut to 32 bits
+    unbalanced([0, 0, u32::MAX - 399]);
+    unbalanced([u32::MAX, 401, 0]);
+}
+
+#[test]
+fn sums_at_their_limit() {
+    let (mut tracers, mut ledger) = (TRACERS, LOADED);
+    ledger[BOOK..].copy_from_slice(&[395, SUM_LIMIT, SUM_LIMIT - 5]);
+    let before = ledger;
+    let emission = raw::emission(GRID, &AIR, &mut tracers, &mut ledger, 0, 3, 1);
+    assert_eq!(emission, Err(Refusal::Emission));
+    let withdrawal = raw::withdrawal(GRID, &AIR, &mut tracers, &mut ledger, 0, 3, 6);
+    assert_eq!(withdrawal, Err(Refusal::Withdrawal));
+    assert_eq!((tracers, ledger), (TRACERS, before));
+    let emission = raw::emission(GRID, &AIR, &mut tracers, &mut ledger, 0, 3, 0);
+    assert_eq!(emission, Ok(0));
+    let withdrawal = raw::withdrawal(GRID, &AIR, &mut tracers, &mut ledger, 0, 3, 5);
+    assert_eq!(withdrawal, Ok(0));
+    assert_eq!(ledger[BOOK..], [395, SUM_LIMIT, SUM_LIMIT]);
+    let add = raw::add_emitter(GRID, &AIR, &tracers, &mut ledger, 0, 3, 7, 1);
+    assert_eq!(add, Ok(0));
+    let tick = raw::tick(GRID, &AIR, &mut tracers, &mut ledger, 0);
+    assert_eq!(tick, Err(Refusal::Emission));
+    assert_eq!(raw::load(GRID, &AIR, &tracers, &mut ledger), Ok(0));
+    assert_eq!(ledger, loaded(395));
 }
 
 /// The calls on emitters refuse it with 5 and leave every list as it was; no other call looks into it, and a load clears it.
@@ -500,14 +624,14 @@ fn broken(change: impl Fn(&mut [u32])) {
     assert_eq!(add, Err(Refusal::Index));
     let remove = raw::remove_emitter(GRID, &AIR, &tracers, &mut lent, 0, 7);
     assert_eq!(remove, Err(Refusal::Index));
-    let tick = raw::tick(GRID, &AIR, &mut tracers, &lent, 0);
+    let tick = raw::tick(GRID, &AIR, &mut tracers, &mut lent, 0);
     assert_eq!(tick, Err(Refusal::Index));
     let units = raw::units_a_tick(GRID, &AIR, &tracers, &lent, 0);
     assert_eq!(units, Err(Refusal::Index));
     assert_eq!((lent, tracers), (ledger, TRACERS));
     assert_eq!(raw::total(GRID, &AIR, &tracers, &lent, 0), Ok(400));
     assert_eq!(raw::load(GRID, &AIR, &tracers, &mut lent), Ok(0));
-    assert_eq!(lent, NONE);
+    assert_eq!(lent, LOADED);
 }
 
 #[test]
@@ -532,7 +656,7 @@ fn a_refusal_says_its_number_and_condition() {
     );
     let numbers: Vec<u32> = Refusal::ALL.iter().map(|&r| r as u32).collect();
     // 13 to 15 are the runner program's.
-    assert_eq!(numbers, (1..=12).chain(16..=21).collect::<Vec<u32>>());
+    assert_eq!(numbers, (1..=12).chain(16..=22).collect::<Vec<u32>>());
 }
 
 /// On the greatest grid, in a thread whose whole stack is the 256 KiB that no call may pass.
@@ -552,11 +676,10 @@ fn every_call_runs_on_256_kib_of_stack() {
         assert_eq!(raw::load(grid, &air, &tracers, &mut l), Ok(0));
         let set = raw::set_limiter(grid, &air, &tracers, &mut l, 7, 3, 0, u64::MAX);
         assert_eq!(set, Ok(0));
-        assert_eq!(raw::emission(grid, &air, &mut tracers, &l, 7, 9, 1), Ok(0));
-        assert_eq!(
-            raw::withdrawal(grid, &air, &mut tracers, &l, 7, 9, 1),
-            Ok(0)
-        );
+        let emission = raw::emission(grid, &air, &mut tracers, &mut l, 7, 9, 1);
+        assert_eq!(emission, Ok(0));
+        let withdrawal = raw::withdrawal(grid, &air, &mut tracers, &mut l, 7, 9, 1);
+        assert_eq!(withdrawal, Ok(0));
         assert_eq!(
             raw::zonal(grid, &mut air, &mut tracers, &l, 31, 43, &[1600; 72]),
             Ok(16)
@@ -582,7 +705,7 @@ fn every_call_runs_on_256_kib_of_stack() {
             let add = raw::add_emitter(grid, &air, &tracers, &mut l, 7, id, id, 1);
             assert_eq!(add, Ok(0));
         }
-        assert_eq!(raw::tick(grid, &air, &mut tracers, &l, 7), Ok(0));
+        assert_eq!(raw::tick(grid, &air, &mut tracers, &mut l, 7), Ok(0));
         let remove = raw::remove_emitter(grid, &air, &tracers, &mut l, 7, 3);
         assert_eq!(remove, Ok(0));
         assert_eq!(raw::units_a_tick(grid, &air, &tracers, &l, 7), Ok(15));

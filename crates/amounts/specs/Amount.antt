@@ -1,20 +1,21 @@
 -- A cell's amount of a tracer: where it stands, and what the calls that name it answer and leave.
 use Prim.Native.Nat.{ℕ, suc, _+_, _*_, _-_, _≤_, _<_}
 use mathlib.Core.List.{List, [], _∷_}
+use mathlib.Core.Bool.{Bool, true, false, not, _&&_, _||_}
 use mathlib.Core.Path.{_≡_, refl, sym, ap, ap₂, _∙_}
 use native.Mathlib.Nat.{mul-le-mul-right}
 use native.Mathlib.Omega.{arith}
-use borrow.Author.Tests.{lt-ltb, le-ltb}
-use lib.Dec.{ltb}
+use borrow.Author.Tests.{not-true, not-false}
+use lib.Dec.{leb, ltb}
 use mir.Syntax.{w32}
 use mir.Val.{Fits as Fits32}
 use lib.ListN.{length, set}
-use Rattle.model.specs.Limits.{totalLimit, mostAmounts}
+use Rattle.model.specs.Limits.{totalLimit, sumLimit, mostAmounts}
 use Rattle.model.specs.Basic.{at, joined, tab}
-use Rattle.model.specs.World.{World, worldCells, withAmounts, withLedger, tracerStart, gas, gasTotal}
-use Rattle.model.specs.Limiters.{freshBlock}
-use Rattle.model.specs.Step.{Place, place, amountAt, load, emission, withdrawal, cell}
-use Rattle.model.specs.Laws.Basic.{at-part, term-le-sum}
+use Rattle.model.specs.World.{World, worldCells, withAmounts, withLedger, tracerStart, gas, block, gasTotal}
+use Rattle.model.specs.Books.{emittedSum, withdrawnSum, entered, freshBlock}
+use Rattle.model.specs.Step.{noRoom, tooLittle, amountAt, firstOf, limiterPlaces, bookPlaces, ownPlaces, load, emission, withdrawal, cell}
+use Rattle.model.specs.Laws.Basic.{tab-ext, at-part, term-le-sum}
 use Rattle.model.specs.Laws.Grid.{in-range, amounts-most}
 use Rattle.model.specs.Laws.Step.{Fits}
 use Rattle.units.specs.declared.Answer.the-variants.{Accepted, Refused}
@@ -25,7 +26,8 @@ use Rattle.places.specs.declared.Lent.the-variants.{Nothing}
 use Rattle.places.specs.declared.Tested.{Tested}
 use Rattle.places.specs.declared.Placed.{Placed}
 use Rattle.places.specs.Walk.{Left, IsPlaced, Like, next, resume, none, refuse}
-use Rattle.places.specs.Tested.{Passed, IsTested, own-left}
+use Rattle.places.specs.Tested.{Passed, IsWorldTested}
+use Rattle.books.specs.Lent.{lentBlock, putBlock, BlockThere, block-there, lent-block, entered-back, both-within, both-fit}
 
 -- ---- what `amount_place` finds: where the amount stands among all tracers' amounts, and the tracer's total
 pub record CellFound (w : World) (t c : ℕ) (p : Placed) : Type 0 where
@@ -37,6 +39,7 @@ pub record CellFound (w : World) (t c : ℕ) (p : Placed) : Type 0 where
   pub total : p .found ≡ gasTotal w t
   pub limit : p .found ≤ totalLimit
   pub share : at (w .tracers) (p .first) ≤ p .found
+  pub block : BlockThere (w .ledger) t
 
 abbrev pub IsCellPlace : World → ℕ → ℕ → Placed → Type 0
 IsCellPlace w t c p = IsPlaced w (Like w (cell t c)) (p .answer) (CellFound w t c p)
@@ -63,6 +66,7 @@ module _ {w : World} (fits : Fits w) {t c cells : ℕ} (tracerIn : t < w .grid .
         total = total;
         limit = rw total (fits .totals t tracerIn);
         share = rw (amount, total) (term-le-sum (worldCells (w .grid)) (at (gas w t)) c here);
+        block = block-there (w .ledger) (fits .ledgerLength) (in-range (w .grid) (fits .grid) .highN) tracerIn;
       }
 
 -- ---- a total that passed place 4 fits a count
@@ -72,45 +76,75 @@ total-fits {w} passed {t} h =
     omega (arith, passed .total t h)
 
 -- ---- load
-pub load-agrees : {w : World} {tested : Tested} {ledger : List ℕ} → IsTested w Nothing tested → numberOf (tested .answer) ≡ 0 →
-    ledger ≡ joined (tab (w .grid .N) (λ t. freshBlock)) → Agrees w load (tested .answer) (withLedger w ledger)
-load-agrees {w} is e none-left =
+pub load-refused : {w : World} {tested : Tested} → IsWorldTested w Nothing tested → (numberOf (tested .answer) ≡ 0 → ⊥) → Agrees w load (tested .answer) w
+load-refused is refused = is .refused refused load _ (record { fit = refl; behind = refl })
+
+pub load-agrees : {w : World} {tested : Tested} {ledger : List ℕ} → IsWorldTested w Nothing tested → numberOf (tested .answer) ≡ 0 →
+    ledger ≡ joined (tab (w .grid .N) (λ t. freshBlock (at (tested .totals) t))) → Agrees w load (tested .answer) (withLedger w ledger)
+unfolding limiterPlaces bookPlaces ownPlaces firstOf
+load-agrees {w} is e renewed =
     let passed = is .found e in
-    accepted-agrees (none (own-left passed refl refl)) e (passed .count) (ap (withLedger w) none-left)
+    accepted-agrees (passed .left .is load [] (record { fit = refl; behind = refl })) e (passed .count)
+    (ap (withLedger w) (renewed ∙ ap joined (tab-ext (w .grid .N) _ _ (λ t h. ap freshBlock (passed .total t h)))))
 
 -- ---- emission and withdrawal, each with its last place
-abbrev over-limit : ℕ → ℕ → Place
-over-limit t amount = place 6 (λ w. ltb totalLimit (gasTotal w t + amount))
+pub emission-like : {w : World} {t c amount : ℕ} → Like w (cell t c) (emission t c amount) (noRoom t (λ w. amount) ∷ [])
+emission-like = record { lent = refl; limiters = refl; books = refl; places = refl }
 
-abbrev too-little : ℕ → ℕ → ℕ → Place
-too-little t c amount = place 7 (λ w. ltb (amountAt w t c) amount)
+pub withdrawal-like : {w : World} {t c amount : ℕ} → Like w (cell t c) (withdrawal t c amount) (tooLittle t c amount ∷ [])
+withdrawal-like = record { lent = refl; limiters = refl; books = refl; places = refl }
 
-pub emission-like : {w : World} {t c amount : ℕ} → Like w (cell t c) (emission t c amount) (over-limit t amount ∷ [])
-emission-like = record { lent = refl; limiters = refl; places = refl }
+module _ {w : World} {t c : ℕ} {p : Placed} (found : CellFound w t c p) where
+  -- the world with another amount in the cell
+  abbrev with : ℕ → World
+  with x = withAmounts w (w .air) (set (w .tracers) (p .first) x)
 
-pub withdrawal-like : {w : World} {t c amount : ℕ} → Like w (cell t c) (withdrawal t c amount) (too-little t c amount ∷ [])
-withdrawal-like = record { lent = refl; limiters = refl; places = refl }
+  -- the tracer's block, as it is lent, and the ledger with that block entered
+  abbrev lent : List ℕ
+  lent = lentBlock (w .ledger) t
 
-module _ {w : World} {t c : ℕ} {p : Placed} (found : CellFound w t c p) {amount : ℕ} where
-  pub emission-refused : totalLimit < p .found + amount → Agrees w (emission t c amount) (Refused Emission) w
-  emission-refused over =
-      refuse (resume (found .left) emission-like) (lt-ltb _ _ (rw (found .total) at over)) refl
+  abbrev back : List ℕ → List ℕ
+  back = putBlock (w .ledger) t
 
-  pub emission-agrees : p .found + amount ≤ totalLimit →
-      Agrees w (emission t c amount) (Accepted 0) (withAmounts w (w .air) (set (w .tracers) (p .first) (at (w .tracers) (p .first) + amount)))
-  emission-agrees room =
-      accepted-agrees (none (next (resume (found .left) emission-like) (le-ltb _ _ (rw (found .total) at room)))) refl refl
-      (ap₂ (λ (j x : ℕ). withAmounts w (w .air) (set (w .tracers) j (x + amount))) (found .start) (found .amount))
+  module _ (amount : ℕ) {fit : Bool} (is : fit ≡ leb (p .found + amount) totalLimit && leb (emittedSum lent + amount) sumLimit) where
+    room-is : fit ≡ not (ltb totalLimit (gasTotal w t + amount) || ltb sumLimit (emittedSum (block w t) + amount))
+    room-is =
+        is ∙ ap₂ (λ (total : ℕ) (b : List ℕ). leb (total + amount) totalLimit && leb (emittedSum b + amount) sumLimit) (found .total) (lent-block (w .ledger) t) ∙
+        both-within (gasTotal w t + amount) totalLimit (emittedSum (block w t) + amount) sumLimit
 
-  pub withdrawal-refused : at (w .tracers) (p .first) < amount → Agrees w (withdrawal t c amount) (Refused Withdrawal) w
-  withdrawal-refused over =
-      refuse (resume (found .left) withdrawal-like) (lt-ltb _ _ (rw (found .amount) at over)) refl
+    pub emission-refused : fit ≡ false → Agrees w (emission t c amount) (Refused Emission) w
+    emission-refused left = refuse (resume (found .left) emission-like) (not-false _ (sym room-is ∙ left)) refl
 
-  pub withdrawal-agrees : amount ≤ at (w .tracers) (p .first) →
-      Agrees w (withdrawal t c amount) (Accepted 0) (withAmounts w (w .air) (set (w .tracers) (p .first) (at (w .tracers) (p .first) - amount)))
-  withdrawal-agrees room =
-      accepted-agrees (none (next (resume (found .left) withdrawal-like) (le-ltb _ _ (rw (found .amount) at room)))) refl refl
-      (ap₂ (λ (j x : ℕ). withAmounts w (w .air) (set (w .tracers) j (x - amount))) (found .start) (found .amount))
+    pub emission-room : fit ≡ true → (p .found + amount ≤ totalLimit) × (emittedSum lent + amount ≤ sumLimit)
+    emission-room taken = both-fit (p .found + amount) totalLimit (emittedSum lent + amount) sumLimit (sym is ∙ taken)
+
+    pub emission-agrees : {new : List ℕ} → fit ≡ true → new ≡ entered lent amount 0 →
+        Agrees w (emission t c amount) (Accepted 0) (withLedger (with (at (w .tracers) (p .first) + amount)) (back new))
+    emission-agrees {new} taken e =
+        accepted-agrees (none (next (resume (found .left) emission-like) (not-true _ (sym room-is ∙ taken)))) refl refl
+        (ap₂ (λ (v : World) (l : List ℕ). withLedger v l)
+        (ap₂ (λ (j x : ℕ). withAmounts w (w .air) (set (w .tracers) j (x + amount))) (found .start) (found .amount))
+        (entered-back (w .ledger) t (found .block) amount 0 e))
+
+  module _ (amount : ℕ) {fit : Bool} (is : fit ≡ leb amount (at (w .tracers) (p .first)) && leb (withdrawnSum lent + amount) sumLimit) where
+    taken-is : fit ≡ not (ltb (amountAt w t c) amount || ltb sumLimit (withdrawnSum (block w t) + amount))
+    taken-is =
+        is ∙ ap₂ (λ (had : ℕ) (b : List ℕ). leb amount had && leb (withdrawnSum b + amount) sumLimit) (found .amount) (lent-block (w .ledger) t) ∙
+        both-within amount (amountAt w t c) (withdrawnSum (block w t) + amount) sumLimit
+
+    pub withdrawal-refused : fit ≡ false → Agrees w (withdrawal t c amount) (Refused Withdrawal) w
+    withdrawal-refused left = refuse (resume (found .left) withdrawal-like) (not-false _ (sym taken-is ∙ left)) refl
+
+    pub withdrawal-room : fit ≡ true → (amount ≤ at (w .tracers) (p .first)) × (withdrawnSum lent + amount ≤ sumLimit)
+    withdrawal-room taken = both-fit amount (at (w .tracers) (p .first)) (withdrawnSum lent + amount) sumLimit (sym is ∙ taken)
+
+    pub withdrawal-agrees : {new : List ℕ} → fit ≡ true → new ≡ entered lent 0 amount →
+        Agrees w (withdrawal t c amount) (Accepted 0) (withLedger (with (at (w .tracers) (p .first) - amount)) (back new))
+    withdrawal-agrees {new} taken e =
+        accepted-agrees (none (next (resume (found .left) withdrawal-like) (not-true _ (sym taken-is ∙ taken)))) refl refl
+        (ap₂ (λ (v : World) (l : List ℕ). withLedger v l)
+        (ap₂ (λ (j x : ℕ). withAmounts w (w .air) (set (w .tracers) j (x - amount))) (found .start) (found .amount))
+        (entered-back (w .ledger) t (found .block) 0 amount e))
 
 -- ---- the reading
 pub cell-agrees : {w : World} {t c : ℕ} {p : Placed} → CellFound w t c p → Agrees w (cell t c) (Accepted (at (w .tracers) (p .first))) w

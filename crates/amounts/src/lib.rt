@@ -3,28 +3,35 @@ ghost use Rattle.model.specs.Step.{load as load-call, emission as emission-call
 ghost use Rattle.units.specs.Grid.{worldOf};
 ghost use Rattle.units.specs.Answer.{Agrees};
 ghost use Rattle.amounts.specs.Amount.{IsCellPlace};
+use books::emission_fits;
+use books::enter_emitted;
+use books::enter_withdrawn;
+use books::withdrawal_fits;
 use ledger::renew;
 use places::Lent;
 use places::Placed;
 use places::common_places;
 use places::not_placed;
+use places::world_places;
 use units::Answer;
 use units::Grid;
+use units::LEDGER_BLOCK;
 use units::Refusal;
-use units::TOTAL_LIMIT;
 use units::number;
+use units::wide;
 use units::world_cells;
 
-// Tests lent air and tracers, and leaves no emitter standing and the first limiter for every tracer.
+// Tests lent air and tracers, and leaves for every tracer no emitter, the first limiter, and its total in its book.
 pub fn load(g: Grid, air: &[u32], tracers: &[u32], ledger: &mut [u32]) -> Answer
     ensures { λ r. ⌜ Agrees (worldOf g (now (air .entry)) (now (tracers .entry)) (now (ledger .entry))) load-call r (worldOf g (now (air .entry)) (now (tracers .entry)) (now (ledger .exit))) ⌝ }
 {
-    let loaded = common_places(g, air, tracers, ledger, Lent::Nothing);
+    let loaded = world_places(g, air, tracers, ledger, Lent::Nothing);
     let answer = loaded.answer;
     if number(answer) == 0 {} else {
         return answer;
     }
-    renew(ledger, g.n as usize);
+    let sums = loaded.totals;
+    renew(ledger, sums, g.n as usize);
     answer
 }
 
@@ -94,42 +101,45 @@ pub fn cell(g: Grid, air: &[u32], tracers: &[u32], ledger: &[u32], tracer: u32, 
     Answer::Accepted(amount)
 }
 
-// Adds an amount of a tracer in one cell.
+// Adds an amount of a tracer in one cell, and enters it in the tracer's book.
 pub fn emission(
     g: Grid,
     air: &[u32],
     tracers: &mut [u32],
-    ledger: &[u32],
+    ledger: &mut [u32],
     tracer: u32,
     cell: u32,
     amount: u32,
 ) -> Answer
-    ensures { λ r. ⌜ Agrees (worldOf g (now (air .entry)) (now (tracers .entry)) (now (ledger .entry))) (emission-call tracer cell amount) r (worldOf g (now (air .entry)) (now (tracers .exit)) (now (ledger .entry))) ⌝ }
+    ensures { λ r. ⌜ Agrees (worldOf g (now (air .entry)) (now (tracers .entry)) (now (ledger .entry))) (emission-call tracer cell amount) r (worldOf g (now (air .entry)) (now (tracers .exit)) (now (ledger .exit))) ⌝ }
 {
     let place = amount_place(g, air, tracers, ledger, tracer, cell);
     let answer = place.answer;
     if number(answer) == 0 {} else {
         return answer;
     }
-    if place.found + (amount as u64) <= TOTAL_LIMIT {} else {
+    let a = (tracer as usize) * LEDGER_BLOCK;
+    let e = a + LEDGER_BLOCK;
+    if emission_fits(&ledger[a..e], place.found, wide(amount)) {} else {
         return Answer::Refused(Refusal::Emission);
     }
     let i = place.first;
     tracers[i] = tracers[i] + amount;
+    enter_emitted(&mut ledger[a..e], amount);
     Answer::Accepted(0) // counts not named are 0
 }
 
-// Takes an amount of a tracer from one cell.
+// Takes an amount of a tracer from one cell, and enters it in the tracer's book.
 pub fn withdrawal(
     g: Grid,
     air: &[u32],
     tracers: &mut [u32],
-    ledger: &[u32],
+    ledger: &mut [u32],
     tracer: u32,
     cell: u32,
     amount: u32,
 ) -> Answer
-    ensures { λ r. ⌜ Agrees (worldOf g (now (air .entry)) (now (tracers .entry)) (now (ledger .entry))) (withdrawal-call tracer cell amount) r (worldOf g (now (air .entry)) (now (tracers .exit)) (now (ledger .entry))) ⌝ }
+    ensures { λ r. ⌜ Agrees (worldOf g (now (air .entry)) (now (tracers .entry)) (now (ledger .entry))) (withdrawal-call tracer cell amount) r (worldOf g (now (air .entry)) (now (tracers .exit)) (now (ledger .exit))) ⌝ }
 {
     let place = amount_place(g, air, tracers, ledger, tracer, cell);
     let answer = place.answer;
@@ -138,9 +148,12 @@ pub fn withdrawal(
     }
     let i = place.first;
     let had = tracers[i];
-    if amount <= had {} else {
+    let a = (tracer as usize) * LEDGER_BLOCK;
+    let e = a + LEDGER_BLOCK;
+    if withdrawal_fits(&ledger[a..e], had, amount) {} else {
         return Answer::Refused(Refusal::Withdrawal);
     }
     tracers[i] = had - amount;
+    enter_withdrawn(&mut ledger[a..e], amount);
     Answer::Accepted(0)
 }

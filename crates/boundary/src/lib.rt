@@ -41,12 +41,12 @@ pub extern "C" fn puldeho_raw_emission(
     n: u32,
     air: &[u32],
     tracers: &mut [u32],
-    ledger: &[u32],
+    ledger: &mut [u32],
     tracer: u32,
     cell: u32,
     amount: u32,
 ) -> u64
-    ensures { λ x. ⌜ Returns (lentWorld w r k n (now (air .entry)) (now (tracers .entry)) (now (ledger .entry))) (emission tracer cell amount) x (lentWorld w r k n (now (air .entry)) (now (tracers .exit)) (now (ledger .entry))) ⌝ }
+    ensures { λ x. ⌜ Returns (lentWorld w r k n (now (air .entry)) (now (tracers .entry)) (now (ledger .entry))) (emission tracer cell amount) x (lentWorld w r k n (now (air .entry)) (now (tracers .exit)) (now (ledger .exit))) ⌝ }
 {
     let g = Grid { w, r, k, n };
     packed(amounts::emission(g, air, tracers, ledger, tracer, cell, amount))
@@ -60,12 +60,12 @@ pub extern "C" fn puldeho_raw_withdrawal(
     n: u32,
     air: &[u32],
     tracers: &mut [u32],
-    ledger: &[u32],
+    ledger: &mut [u32],
     tracer: u32,
     cell: u32,
     amount: u32,
 ) -> u64
-    ensures { λ x. ⌜ Returns (lentWorld w r k n (now (air .entry)) (now (tracers .entry)) (now (ledger .entry))) (withdrawal tracer cell amount) x (lentWorld w r k n (now (air .entry)) (now (tracers .exit)) (now (ledger .entry))) ⌝ }
+    ensures { λ x. ⌜ Returns (lentWorld w r k n (now (air .entry)) (now (tracers .entry)) (now (ledger .entry))) (withdrawal tracer cell amount) x (lentWorld w r k n (now (air .entry)) (now (tracers .exit)) (now (ledger .exit))) ⌝ }
 {
     let g = Grid { w, r, k, n };
     packed(amounts::withdrawal(g, air, tracers, ledger, tracer, cell, amount))
@@ -225,10 +225,10 @@ pub extern "C" fn puldeho_raw_tick(
     n: u32,
     air: &[u32],
     tracers: &mut [u32],
-    ledger: &[u32],
+    ledger: &mut [u32],
     tracer: u32,
 ) -> u64
-    ensures { λ x. ⌜ Returns (lentWorld w r k n (now (air .entry)) (now (tracers .entry)) (now (ledger .entry))) (tick tracer) x (lentWorld w r k n (now (air .entry)) (now (tracers .exit)) (now (ledger .entry))) ⌝ }
+    ensures { λ x. ⌜ Returns (lentWorld w r k n (now (air .entry)) (now (tracers .entry)) (now (ledger .entry))) (tick tracer) x (lentWorld w r k n (now (air .entry)) (now (tracers .exit)) (now (ledger .exit))) ⌝ }
 {
     let g = Grid { w, r, k, n };
     packed(emitters::tick(g, air, tracers, ledger, tracer))

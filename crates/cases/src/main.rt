@@ -38,9 +38,10 @@ fn layers(k: u32) -> units::Grid {
     }
 }
 
-// A ledger of one tracer with this limiter.
-fn chosen(limiter: u32, hi: u32) -> [u32; LEDGER_BLOCK] {
+// The ledger of one tracer as a load leaves it, with this limiter.
+fn chosen(g: units::Grid, air: &[u32], gas: &[u32], limiter: u32, hi: u32) -> [u32; LEDGER_BLOCK] {
     let mut ledger = [0u32; LEDGER_BLOCK];
+    amounts::load(g, air, gas, &mut ledger);
     ledger[LIMITER_PLACE] = limiter;
     ledger[LIMITER_PLACE + 3] = hi;
     ledger
@@ -48,41 +49,40 @@ fn chosen(limiter: u32, hi: u32) -> [u32; LEDGER_BLOCK] {
 
 // Row tracer 0, 300, 200, 50 by a limiter whose lower bound is 0.
 fn limited(name: &[u8], limiter: u32, hi: u32) {
-    let ledger = chosen(limiter, hi);
     let mut air = [100u32; 6];
     let mut gas = [0, 0, 300, 200, 50, 0];
+    let ledger = chosen(layers(1), &air, &gas, limiter, hi);
     let answer = zonal::zonal(layers(1), &mut air, &mut gas, &ledger, 0, 0, &[0, 50, 0, 0]);
     report(name, answer, &air, &gas);
 }
 
 fn case(name: &[u8], from: [u32; 6], had: [u32; 6], fluxes: [i32; 4]) {
-    let ledger = chosen(1, 0);
     let mut air = from;
     let mut gas = had;
+    let ledger = chosen(layers(1), &air, &gas, 1, 0);
     let answer = zonal::zonal(layers(1), &mut air, &mut gas, &ledger, 0, 0, &fluxes);
     report(name, answer, &air, &gas);
 }
 
 fn long_case(name: &[u8], fluxes: [i32; 4]) {
-    let ledger = chosen(1, 0);
     let mut air = [100u32; 6];
     let mut gas = [0, 0, 100, 200, 100, 0];
+    let ledger = chosen(layers(1), &air, &gas, 1, 0);
     let answer = long_zonal::long_zonal(layers(1), &mut air, &mut gas, &ledger, 0, 0, &fluxes);
     report(name, answer, &air, &gas);
 }
 
 // A meridional sweep with fluxes out of the south cap, and none into the north cap.
 fn from_south(name: &[u8], south: u32) {
-    let ledger = chosen(1, 0);
     let mut air = [south, 200, 200, 200, 200, 200];
     let mut gas = [50, 10, 20, 30, 40, 5];
+    let ledger = chosen(layers(1), &air, &gas, 1, 0);
     let fluxes = [60, 60, 0 - 50, 0, 0, 0, 0, 0];
     let answer = meridional::meridional(layers(1), &mut air, &mut gas, &ledger, 0, &fluxes);
     report(name, answer, &air, &gas);
 }
 
 fn columns() {
-    let ledger = chosen(1, 0);
     let mut air = [100u32; 18];
     let mut gas = [
         0,
@@ -104,6 +104,7 @@ fn columns() {
         200,
         200,
     ];
+    let ledger = chosen(layers(3), &air, &gas, 1, 0);
     let answer = remap::remap(
         layers(3),
         &mut air,
@@ -114,11 +115,12 @@ fn columns() {
     report(b"m9", answer, &air, &gas);
     let mut thin = [1u32; 12];
     let mut none = [0u32; 12];
+    let empty = chosen(layers(2), &thin, &none, 1, 0);
     let refused = remap::remap(
         layers(2),
         &mut thin,
         &mut none,
-        &ledger,
+        &empty,
         &[0, 0, 0, 16384, 0, 65536],
     );
     report(b"m10", refused, &thin, &none);

@@ -50,11 +50,11 @@ module _ {w : World} {tested : Tested} (passed : Passed w Nothing tested) (t : �
   unfit = place 21 (λ w. not (limiterFits given))
 
   pub no-tracer : w .grid .N ≤ t → Agrees w call (Refused Index) w
-  no-tracer outside = refuse (own-left passed refl refl) (missing outside) refl
+  no-tracer outside = refuse (own-left passed refl refl refl) (missing outside) refl
 
   module _ (present : t < w .grid .N) where
     behind-tracer : Left w (Like w call) (unfit ∷ [])
-    behind-tracer = next (own-left passed refl refl) (there present)
+    behind-tracer = next (own-left passed refl refl refl) (there present)
 
     pub no-limiter : {sound : Bool} → sound ≡ limiterFits given → sound ≡ false → Agrees w call (Refused Limiters) w
     no-limiter is left = refuse behind-tracer (fails is left) refl

@@ -131,10 +131,10 @@ pub fn make(
     body: &[u8],
     air: &mut [u32],
     tracers: &mut [u32],
-    ledger: &[u32],
+    ledger: &mut [u32],
 ) -> Answer
     requires { ⌜ MakeNeed g c (now body) ⌝ }
-    ensures { λ x. ⌜ Makes g c (now (body .entry)) x (buffers (now (air .entry)) (now (tracers .entry)) (now (ledger .entry))) (buffers (now (air .exit)) (now (tracers .exit)) (now (ledger .entry))) ⌝ }
+    ensures { λ x. ⌜ Makes g c (now (body .entry)) x (buffers (now (air .entry)) (now (tracers .entry)) (now (ledger .entry))) (buffers (now (air .exit)) (now (tracers .exit)) (now (ledger .exit))) ⌝ }
 {
     match c {
         Command::Grid(_) => Answer::Accepted(0), // never: no call

@@ -21,7 +21,7 @@ use Rattle.ledger.specs.Block.{Kept, Searched, removed-is}
 use Rattle.units.specs.Lent.{put-back}
 use Rattle.places.specs.declared.Placed.{Placed}
 use Rattle.places.specs.Walk.{there, missing}
-use Rattle.emitters.specs.Place.{EmittersFound, noRoom, noSuch, add-names, remove-names, places-left, block-lent, block-long, block-kept}
+use Rattle.emitters.specs.Place.{EmittersFound, noPlace, noSuch, add-names, remove-names, places-left, block-lent, block-long, block-kept}
 
 module _ {w : World} {t : ℕ} {p : Placed} (found : EmittersFound w t p) where
   -- the lent part of the ledger, and the ledger with that part changed
@@ -31,7 +31,7 @@ module _ {w : World} {t : ℕ} {p : Placed} (found : EmittersFound w t p) where
   abbrev back : List ℕ → List ℕ
   back new = putMid (p .first) (p .first + blockNumbers - p .first) (w .ledger) new
 
-  written-back : {new : List ℕ} (want : List ℕ → List ℕ) → new ≡ want lent → length (want (block w t)) ≡ blockNumbers →
+  pub written-back : {new : List ℕ} (want : List ℕ → List ℕ) → new ≡ want lent → length (want (block w t)) ≡ blockNumbers →
       withLedger w (back new) ≡ withBlock w t (want (block w t))
   written-back {new} want is long =
       let here : new ≡ want (block w t) = is ∙ ap want (block-lent found) in
@@ -63,14 +63,14 @@ module _ {w : World} {t : ℕ} {p : Placed} (found : EmittersFound w t p) where
     add-refused inside is left =
         refused-agrees
         (places-left found add-names ∙ passes (absent c worldCells) _ w (there inside) ∙
-        stops (noRoom t id) [] w (not-false _ (sym (rw (block-lent found) at is) ∙ left)))
+        stops (noPlace t id) [] w (not-false _ (sym (rw (block-lent found) at is) ∙ left)))
 
     pub add-agrees : {takes : Bool} {new : List ℕ} → c < worldCells (w .grid) → Takes id takes → takes ≡ true → new ≡ emitterAdded lent id c units →
         Agrees w (addEmitter t c id units) (Accepted 0) (withLedger w (back new))
     unfolding firstOf
     add-agrees inside is taken e =
         accepted-agrees
-        (places-left found add-names ∙ passes (absent c worldCells) (noRoom t id ∷ []) w (there inside) ∙ passes (noRoom t id) [] w (room id is taken))
+        (places-left found add-names ∙ passes (absent c worldCells) (noPlace t id ∷ []) w (there inside) ∙ passes (noPlace t id) [] w (room id is taken))
         refl refl
         (written-back (λ b. emitterAdded b id c units) e (simp length-set (block-long found)))
 

@@ -12,7 +12,7 @@ use Rattle.model.specs.Limits.{totalLimit, mostEmitters, blockNumbers, mostTrac
 use Rattle.model.specs.Basic.{at, part, every}
 use Rattle.model.specs.World.{World, worldCells, block, gasTotal}
 use Rattle.model.specs.Emitters.{standing, emitterCell, keptUnits, hasId, recordFits}
-use Rattle.model.specs.Step.{Call, Place, place, absent, brokenRecord, meaning, firstOf, ownPlaces, lentFits, refusal, addEmitter, removeEmitter, tick, unitsATick}
+use Rattle.model.specs.Step.{Call, Place, place, absent, noRoom, brokenRecord, meaning, firstOf, ownPlaces, lentFits, refusal, addEmitter, removeEmitter, tick, unitsATick}
 use Rattle.model.specs.Laws.Basic.{every-at, length-part}
 use Rattle.model.specs.Laws.Grid.{in-range}
 use Rattle.model.specs.Laws.Step.{Fits, passes, stops}
@@ -30,6 +30,7 @@ use Rattle.places.specs.Tested.{Passed, IsTested}
 pub record Names (w : World) (t : ℕ) (call : Call) (rest : List Place) : Type 0 where
   pub lent : lentFits (w .grid) call ≡ true
   pub limiters : meaning call .limiters ≡ false
+  pub books : meaning call .books ≡ true
   pub places : firstOf (ownPlaces call) w ≡ firstOf (absent t (λ g. g .N) ∷ brokenRecord ∷ rest) w
 
 abbrev pub named : ℕ → List Place
@@ -38,14 +39,14 @@ named t = absent t (λ g. g .N) ∷ brokenRecord ∷ []
 module _ {w : World} {t : ℕ} {tested : Tested} where
   pub names-left : Passed w Nothing tested → Left w (Names w t) (named t)
   names-left passed =
-      record { is = λ call rest names. passed .left .is call (ownPlaces call) (record { fit = names .lent; limiters = names .limiters; own = refl }) ∙ names .places }
+      record { is = λ call rest names. passed .left .is call (ownPlaces call) (record { fit = names .lent; limiters = names .limiters; books = names .books; own = refl }) ∙ names .places }
 
-  -- refused by places 1 to 4
+  -- refused by the places before its own
   pub names-refused : {answer : Answer} {Found : Type 0} → IsTested w Nothing tested → (numberOf (tested .answer) ≡ 0 → ⊥) →
       answer ≡ tested .answer → IsPlaced w (Names w t) answer Found
   names-refused is refused same =
       record {
-        refused = λ _ call rest names. rw same (is .refused refused call (ownPlaces call) (record { fit = names .lent; limiters = names .limiters; own = refl }));
+        refused = λ _ call rest names. rw same (is .refused refused call (ownPlaces call) (record { fit = names .lent; limiters = names .limiters; books = names .books; own = refl }));
         found = λ z. absurd (refused (rw same at z));
       }
 
@@ -72,14 +73,14 @@ emitters-found {w} {t} left fits there all start total =
     record { left = left; fits = fits; there = there; start = start; record-fits = every-at _ _ all t there; total = total }
 
 -- ---- the calls that `emitter_place` serves, each with the places that it has behind these
-abbrev pub noRoom : ℕ → ℕ → Place
-noRoom t id = place 18 (λ w. leb mostEmitters (standing (block w t)) || hasId (block w t) id)
+abbrev pub noPlace : ℕ → ℕ → Place
+noPlace t id = place 18 (λ w. leb mostEmitters (standing (block w t)) || hasId (block w t) id)
 
 abbrev pub noSuch : ℕ → ℕ → Place
 noSuch t id = place 19 (λ w. not (hasId (block w t) id))
 
 abbrev pub overLimit : ℕ → Place
-overLimit t = place 6 (λ w. ltb totalLimit (gasTotal w t + keptUnits (block w t)))
+overLimit t = noRoom t (λ w. keptUnits (block w t))
 
 -- two places of one number may be tested in either order
 swapped : (p q : Place) (ps : List Place) (w : World) → p .number ≡ q .number → firstOf (p ∷ q ∷ ps) w ≡ firstOf (q ∷ p ∷ ps) w
@@ -97,26 +98,27 @@ behind p ps qs w e = ap (λ (n : ℕ). elim (p .applies w) [ true ↦ p .number 
 
 module _ {w : World} {t : ℕ} where
   -- the cell is tested before the records by `step`, and after them by the code: both places have the number 5
-  pub add-names : {c id units : ℕ} → Names w t (addEmitter t c id units) (absent c worldCells ∷ noRoom t id ∷ [])
+  pub add-names : {c id units : ℕ} → Names w t (addEmitter t c id units) (absent c worldCells ∷ noPlace t id ∷ [])
   unfolding ownPlaces
   add-names {c} {id} =
       record {
         lent = refl;
         limiters = refl;
-        places = behind (absent t (λ g. g .N)) _ _ w (swapped (absent c worldCells) brokenRecord (noRoom t id ∷ []) w refl);
+        books = refl;
+        places = behind (absent t (λ g. g .N)) _ _ w (swapped (absent c worldCells) brokenRecord (noPlace t id ∷ []) w refl);
       }
 
   pub remove-names : {id : ℕ} → Names w t (removeEmitter t id) (noSuch t id ∷ [])
   unfolding ownPlaces
-  remove-names = record { lent = refl; limiters = refl; places = refl }
+  remove-names = record { lent = refl; limiters = refl; books = refl; places = refl }
 
   pub tick-names : Names w t (tick t) (overLimit t ∷ [])
   unfolding ownPlaces
-  tick-names = record { lent = refl; limiters = refl; places = refl }
+  tick-names = record { lent = refl; limiters = refl; books = refl; places = refl }
 
   pub units-names : Names w t (unitsATick t) []
   unfolding ownPlaces
-  units-names = record { lent = refl; limiters = refl; places = refl }
+  units-names = record { lent = refl; limiters = refl; books = refl; places = refl }
 
 -- refused by what all of them test
 pub place-refuses : {w : World} {t : ℕ} {call : Call} {rest : List Place} {p : Placed} → IsEmitterPlace w t p → (numberOf (p .answer) ≡ 0 → ⊥) →

@@ -1,22 +1,23 @@
 -- A tick's emission, one emitter after the other, and what the call that ticks answers and leaves.
 use Prim.Native.Nat.{ℕ, suc, _+_, _*_, _-_, _≤_, _<_}
 use mathlib.Core.List.{List, []}
-use mathlib.Core.Bool.{Bool, true, false}
+use mathlib.Core.Bool.{Bool, true, false, not, _&&_, _||_}
 use mathlib.Core.Path.{_≡_, refl, sym, ap, ap₂, _∙_}
 use native.Mathlib.Nat.{le-refl, mul-le-mul-right}
 use native.Mathlib.Numerals.{add-one}
 use native.Mathlib.Omega.{arith}
-use borrow.Author.Tests.{lt-ltb, le-ltb}
+use borrow.Author.Tests.{not-true, not-false}
 use borrow.Rule.Slice.PartMut.{putMid}
-use lib.Dec.{eqb}
+use lib.Dec.{leb, ltb, eqb}
 use lib.ListN.{length, set}
-use Rattle.model.specs.Limits.{totalLimit, mostEmitters, mostAmounts, blockNumbers}
+use Rattle.model.specs.Limits.{totalLimit, sumLimit, mostEmitters, mostAmounts, blockNumbers}
 use Rattle.model.specs.Basic.{at, part, written, sum}
-use Rattle.model.specs.World.{World, worldCells, withAmounts, gas, block, gasTotal}
+use Rattle.model.specs.World.{World, worldCells, withAmounts, withLedger, gas, block, gasTotal}
+use Rattle.model.specs.Books.{emittedSum, entered}
 use Rattle.model.specs.Emitters.{standing, emitterCell, emitterUnits, keptUnits, presentUnits, ticked}
 use Rattle.model.specs.Step.{firstOf, tick}
 use Rattle.model.specs.Laws.Basic.{sum-le, sum-more, sum-fewer, term-le-sum}
-use Rattle.model.specs.Laws.Emitters.{length-ticked, ticked-at}
+use Rattle.model.specs.Laws.Emitters.{length-entered, length-ticked, ticked-at}
 use Rattle.model.specs.Laws.Grid.{in-range, amounts-most}
 use Rattle.model.specs.Laws.Step.{passes, stops}
 use Rattle.model.specs.Laws.World.{length-gas}
@@ -26,6 +27,8 @@ use Rattle.units.specs.Answer.{Agrees}
 use Rattle.units.specs.Agrees.{accepted-agrees, refused-agrees}
 use Rattle.units.specs.Lent.{part-lent, put-back}
 use Rattle.places.specs.declared.Placed.{Placed}
+use Rattle.books.specs.Lent.{both-within, both-fit}
+use Rattle.emitters.specs.Entered.{written-back}
 use Rattle.emitters.specs.Place.{EmittersFound, overLimit, tick-names, places-left, block-lent, block-long, block-kept}
 
 -- a block whose emitters name cells that are there, and amounts that leave room for all of their units
@@ -86,18 +89,25 @@ module _ {w : World} {t : ℕ} {p : Placed} (found : EmittersFound w t p) where
   pub total-fits : p .found ≤ totalLimit
   total-fits = rw (found .total) (found .fits .totals t (found .there))
 
-  module _ {kept : ℕ} (is : kept ≡ keptUnits lentBlock) where
+  module _ {kept : ℕ} (is : kept ≡ keptUnits lentBlock) {fit : Bool} (tested : fit ≡ leb (p .found + kept) totalLimit && leb (emittedSum lentBlock + kept) sumLimit) where
     kept-is : kept ≡ keptUnits (block w t)
     kept-is = rw (block-lent found) at is
 
-    pub tick-refused : totalLimit - p .found < kept → Agrees w (tick t) (Refused Emission) w
-    tick-refused over =
-        refused-agrees
-        (places-left found tick-names ∙ stops (overLimit t) [] w (lt-ltb totalLimit (gasTotal w t + keptUnits (block w t)) (omega (arith, found .total, kept-is, total-fits))))
+    room-is : fit ≡ not (ltb totalLimit (gasTotal w t + keptUnits (block w t)) || ltb sumLimit (emittedSum (block w t) + keptUnits (block w t)))
+    room-is =
+        tested ∙ ap₂ (λ (total : ℕ) (b : List ℕ). leb (total + kept) totalLimit && leb (emittedSum b + kept) sumLimit) (found .total) (block-lent found) ∙
+        ap (λ (x : ℕ). leb (gasTotal w t + x) totalLimit && leb (emittedSum (block w t) + x) sumLimit) kept-is ∙
+        both-within (gasTotal w t + keptUnits (block w t)) totalLimit (emittedSum (block w t) + keptUnits (block w t)) sumLimit
 
-    module _ (room : kept ≤ totalLimit - p .found) {cells : ℕ} (same : cells ≡ worldCells (w .grid)) where
+    pub tick-refused : fit ≡ false → Agrees w (tick t) (Refused Emission) w
+    tick-refused left = refused-agrees (places-left found tick-names ∙ stops (overLimit t) [] w (not-false _ (sym room-is ∙ left)))
+
+    pub tick-room : fit ≡ true → (p .found + kept ≤ totalLimit) × (emittedSum lentBlock + kept ≤ sumLimit)
+    tick-room taken = both-fit (p .found + kept) totalLimit (emittedSum lentBlock + kept) sumLimit (sym tested ∙ taken)
+
+    module _ (taken : fit ≡ true) {cells : ℕ} (same : cells ≡ worldCells (w .grid)) where
       within-limit : gasTotal w t + presentUnits (block w t) ≤ totalLimit
-      within-limit = omega (arith, found .total, kept-is, total-fits, block-kept found .0 .sum)
+      within-limit = omega (arith, found .total, kept-is, tick-room taken .0, block-kept found .0 .sum)
 
       pub emit-need : EmitNeed lentBlock (lentGas cells)
       emit-need =
@@ -109,14 +119,16 @@ module _ {w : World} {t : ℕ} {p : Placed} (found : EmittersFound w t p) where
             room = λ c h. omega (arith, within-limit, term-le-sum (worldCells (w .grid)) (at (gas w t)) c (rw gas-long at h));
           })
 
-      pub tick-agrees : {new : List ℕ} → new ≡ ticked lentBlock (standing lentBlock) (lentGas cells) →
-          Agrees w (tick t) (Accepted 0) (withAmounts w (w .air) (putMid (t * cells) (t * cells + cells - t * cells) (w .tracers) new))
+      pub tick-agrees : {new booked : List ℕ} {units : ℕ} → new ≡ ticked lentBlock (standing lentBlock) (lentGas cells) → units ≡ kept → booked ≡ entered lentBlock units 0 →
+          Agrees w (tick t) (Accepted 0)
+          (withLedger (withAmounts w (w .air) (putMid (t * cells) (t * cells + cells - t * cells) (w .tracers) new)) (putMid (p .first) (p .first + blockNumbers - p .first) (w .ledger) booked))
       unfolding firstOf
-      tick-agrees {new} e =
+      tick-agrees {new} {booked} e u f =
           let here : new ≡ ticked (block w t) (standing (block w t)) (gas w t) = rw (block-lent found, gas-lent same) at e in
           let long : length new ≡ cells = ap length here ∙ length-ticked (block w t) (standing (block w t)) (gas w t) ∙ gas-long ∙ sym same in
           accepted-agrees
-          (places-left found tick-names ∙ passes (overLimit t) [] w (le-ltb totalLimit (gasTotal w t + keptUnits (block w t)) (omega (arith, found .total, kept-is, total-fits))))
+          (places-left found tick-names ∙ passes (overLimit t) [] w (not-true _ (sym room-is ∙ taken)))
           refl refl
-          (ap (withAmounts w (w .air))
-          (put-back (w .tracers) new (t * cells) cells long ∙ ap₂ (λ (n : ℕ) (l : List ℕ). written (w .tracers) (t * n) l) same here))
+          (ap₂ (λ (tracers ledger : List ℕ). withLedger (withAmounts w (w .air) tracers) ledger)
+          (put-back (w .tracers) new (t * cells) cells long ∙ ap₂ (λ (n : ℕ) (l : List ℕ). written (w .tracers) (t * n) l) same here)
+          (ap (λ (v : World). v .ledger) (written-back found (λ b. entered b (keptUnits (block w t)) 0) (f ∙ ap (λ (x : ℕ). entered lentBlock x 0) (u ∙ kept-is)) (length-entered (block w t) (keptUnits (block w t)) 0 ∙ block-long found))))

@@ -10,6 +10,8 @@ ghost use Rattle.units.specs.Answer.{Agrees, AgreesWide};
 ghost use Rattle.emitters.specs.Place.{IsEmitterPlace};
 ghost use Rattle.emitters.specs.Tick.{EmitNeed};
 ghost use Rattle.emitters.specs.Reading.{widened};
+use books::emission_fits;
+use books::enter_emitted;
 use ledger::add;
 use ledger::kept_units;
 use ledger::place_of;
@@ -26,12 +28,11 @@ use units::Grid;
 use units::LEDGER_BLOCK;
 use units::MOST_EMITTERS;
 use units::Refusal;
-use units::TOTAL_LIMIT;
 use units::WideAnswer;
 use units::number;
 use units::world_cells;
 
-// Places 1 to 4, the named tracer and the records of all tracers: where the tracer's block starts, and the tracer's total.
+// The places before a call's own, the named tracer and the records of all tracers: where the tracer's block starts, and the tracer's total.
 fn emitter_place(g: Grid, air: &[u32], tracers: &[u32], ledger: &[u32], tracer: u32) -> Placed
     ensures { λ p. ⌜ IsEmitterPlace (worldOf g (now (air .entry)) (now (tracers .entry)) (now (ledger .entry))) tracer p ⌝ }
 {
@@ -138,9 +139,9 @@ fn emit(gas: &mut [u32], block: &[u32])
     }
 }
 
-// Emits the units of all of a tracer's emitters, or of none.
-pub fn tick(g: Grid, air: &[u32], tracers: &mut [u32], ledger: &[u32], tracer: u32) -> Answer
-    ensures { λ r. ⌜ Agrees (worldOf g (now (air .entry)) (now (tracers .entry)) (now (ledger .entry))) (tick-call tracer) r (worldOf g (now (air .entry)) (now (tracers .exit)) (now (ledger .entry))) ⌝ }
+// Emits the units of all of a tracer's emitters, or of none, and enters their sum in the tracer's book.
+pub fn tick(g: Grid, air: &[u32], tracers: &mut [u32], ledger: &mut [u32], tracer: u32) -> Answer
+    ensures { λ r. ⌜ Agrees (worldOf g (now (air .entry)) (now (tracers .entry)) (now (ledger .entry))) (tick-call tracer) r (worldOf g (now (air .entry)) (now (tracers .exit)) (now (ledger .exit))) ⌝ }
 {
     let place = emitter_place(g, air, tracers, ledger, tracer);
     let answer = place.answer;
@@ -150,13 +151,14 @@ pub fn tick(g: Grid, air: &[u32], tracers: &mut [u32], ledger: &[u32], tracer: u
     let a = place.first;
     let e = a + LEDGER_BLOCK;
     let kept = kept_units(&ledger[a..e]);
-    if kept <= TOTAL_LIMIT - place.found {} else {
+    if emission_fits(&ledger[a..e], place.found, kept) {} else {
         return Answer::Refused(Refusal::Emission);
     }
     let cells = world_cells(g) as usize;
     let start = (tracer as usize) * cells;
     let end = start + cells;
     emit(&mut tracers[start..end], &ledger[a..e]);
+    enter_emitted(&mut ledger[a..e], kept as u32);
     Answer::Accepted(0)
 }
 

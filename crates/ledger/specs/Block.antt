@@ -16,7 +16,7 @@ use Rattle.model.specs.Basic.{at, part, written, sum, every, some}
 use Rattle.model.specs.Laws.Basic.{sum-le, sum-same, term-le-sum}
 use Rattle.model.specs.Laws.Emitters.{record-fitting, none-sound}
 use Rattle.model.specs.Emitters.{standing, emitterId, emitterCell, emitterUnits, half, keptUnits, presentUnits, hasId, recordFits, withHead, withEmitter, emitterAdded, placeOf, removedAt, emitterRemoved}
-use Rattle.model.specs.Limiters.{freshBlock}
+use Rattle.model.specs.Books.{freshBlock}
 use Rattle.units.specs.EachTracer.{Changes, changedUpTo, length-gas, part-more}
 use Rattle.units.specs.Lent.{put-back}
 
@@ -133,22 +133,25 @@ pub removed-leaves : (b : List ℕ) (i : ℕ) {n kept gone : ℕ} {head moved la
 removed-leaves b i e k g h m l = rw (l, m, h, g, k, e)
 
 -- ---- the ledger that a load leaves, block after block
-pub length-fresh : length freshBlock ≡ blockNumbers
-length-fresh = none-sound 0 .many
+pub length-fresh : (total : ℕ) → length (freshBlock total) ≡ blockNumbers
+length-fresh total = none-sound total 0 .many
 
 written-all : (l new : List ℕ) → length new ≡ length l → written l 0 new ≡ new
 written-all l new e = ap (λ (r : List ℕ). new ++ r) (drop-of-length-le l {i = 0 + length new} (omega arith)) ∙ append-nil new
 
-module _ (ledger : List ℕ) {n : ℕ} (long : length ledger ≡ n * blockNumbers) where
-  pub renews : Changes ledger n blockNumbers (λ t. freshBlock)
-  renews = record { long = long; sized = λ t h. length-fresh }
+abbrev renewed : List ℕ → ℕ → List ℕ
+renewed totals t = freshBlock (at totals t)
+
+module _ (ledger totals : List ℕ) {n : ℕ} (long : length ledger ≡ n * blockNumbers) where
+  pub renews : Changes ledger n blockNumbers (renewed totals)
+  renews = record { long = long; sized = λ t h. length-fresh (at totals t) }
 
   -- one more
-  pub renewed-more : {t : ℕ} → t < n → {now new : List ℕ} → now ≡ changedUpTo ledger blockNumbers (λ k. freshBlock) t → new ≡ freshBlock →
-      putMid (t * blockNumbers) (t * blockNumbers + blockNumbers - t * blockNumbers) now new ≡ changedUpTo ledger blockNumbers (λ k. freshBlock) (t + 1)
+  pub renewed-more : {t : ℕ} → t < n → {now new : List ℕ} → now ≡ changedUpTo ledger blockNumbers (renewed totals) t → new ≡ renewed totals t →
+      putMid (t * blockNumbers) (t * blockNumbers + blockNumbers - t * blockNumbers) now new ≡ changedUpTo ledger blockNumbers (renewed totals) (t + 1)
   renewed-more {t} h {now} {new} e f =
-      let size : length new ≡ blockNumbers = ap length f ∙ length-fresh in
-      let whole : written (part ledger (t * blockNumbers) blockNumbers) 0 new ≡ freshBlock =
+      let size : length new ≡ blockNumbers = ap length f ∙ length-fresh (at totals t) in
+      let whole : written (part ledger (t * blockNumbers) blockNumbers) 0 new ≡ renewed totals t =
       written-all (part ledger (t * blockNumbers) blockNumbers) new (size ∙ sym (length-gas ledger n blockNumbers long h)) ∙ f in
       put-back now new (t * blockNumbers) blockNumbers size ∙
       ap (λ (a : ℕ). written now a new) (sym (add-zero (t * blockNumbers))) ∙

@@ -1,21 +1,24 @@
-// The ledger: a block of 56 numbers for each tracer, with its standing emitters and, from number 51 on, its limiter (crate limiters). Number 0 is how
+// The ledger: a block of 59 numbers for each tracer, with its standing emitters, from number 51 on its limiter (crate limiters), and from 56 on its book (crate books). Number 0 is how
 // many stand, 1 and 2 are the halves of the sum of their units a tick; emitter i has its id at 3 + 3·i, its cell and its units behind it.
 ghost use mathlib.Core.Path.{_≡_};
-ghost use mathlib.Core.Bool.{not, _||_};
+ghost use mathlib.Core.Bool.{true, not, _||_};
 ghost use Prim.Native.Nat.{_+_, _*_, _≤_, _<_};
 ghost use lib.ListN.{length};
 ghost use lib.Dec.{leb, ltb, eqb};
-ghost use Rattle.model.specs.Limits.{mostEmitters, blockNumbers};
-ghost use Rattle.model.specs.Basic.{zeros, part, tab, joined, sum, every};
+ghost use Rattle.model.specs.Limits.{totalLimit, mostEmitters, blockNumbers};
+ghost use Rattle.model.specs.Basic.{at, zeros, part, tab, joined, sum, every};
 ghost use Rattle.model.specs.Emitters.{standing, emitterId, emitterCell, emitterUnits, keptUnits, hasId, recordFits, withHead, withEmitter, emitterAdded, removedAt};
-ghost use Rattle.model.specs.Limiters.{freshBlock};
+ghost use Rattle.model.specs.Books.{freshBlock};
 ghost use Rattle.ledger.specs.Block.{Entries, Searched, Kept};
 use limiters::joined;
 use limiters::write_limiter;
+use units::BOOK_PLACE;
 use units::LEDGER_BLOCK;
 use units::Limiter;
 use units::MOST_EMITTERS;
+use units::MOST_TRACERS;
 use units::PRESENT_LIMITER;
+use units::wide;
 
 // Writes 0 over a whole list.
 pub fn clear(list: &mut [u32])
@@ -28,10 +31,10 @@ pub fn clear(list: &mut [u32])
     }
 }
 
-// A block as a load leaves it: no emitter stands, and the first limiter with both bounds 0.
-fn renew_block(block: &mut [u32])
-    requires { ⌜ length (now block) ≡ blockNumbers ⌝ }
-    ensures { λ r. ⌜ now (block .exit) ≡ freshBlock ⌝ }
+// A block as a load of so many units leaves it: no emitter stands, the first limiter with both bounds 0, and in the book what was loaded.
+fn renew_block(block: &mut [u32], total: u64)
+    requires { ⌜ (length (now block) ≡ blockNumbers) × (total ≤ totalLimit) ⌝ }
+    ensures { λ r. ⌜ now (block .exit) ≡ freshBlock total ⌝ }
 {
     clear(block);
     write_limiter(
@@ -42,29 +45,24 @@ fn renew_block(block: &mut [u32])
             hi: 0,
         },
     );
+    block[BOOK_PLACE] = total as u32;
 }
 
-// The blocks of n tracers as a load leaves them; what stood there is not read.
-pub fn renew(ledger: &mut [u32], n: usize)
-    requires { ⌜ (length (now ledger) ≡ n * blockNumbers) × (n ≤ 8) ⌝ }
-    ensures { λ r. ⌜ now (ledger .exit) ≡ joined (tab n (λ t. freshBlock)) ⌝ }
+// The blocks of n tracers as a load leaves them, with their totals; what stood there is not read.
+pub fn renew(ledger: &mut [u32], totals: [u64; MOST_TRACERS], n: usize)
+    requires { ⌜ (length (now ledger) ≡ n * blockNumbers) × (n ≤ 8) × (every n (λ t. leb (at totals t) totalLimit) ≡ true) ⌝ }
+    ensures { λ r. ⌜ now (ledger .exit) ≡ joined (tab n (λ t. freshBlock (at totals t))) ⌝ }
 {
     let mut t = 0;
     while t < n {
         let a = t * LEDGER_BLOCK;
         let e = a + LEDGER_BLOCK;
-        renew_block(&mut ledger[a..e]);
+        renew_block(&mut ledger[a..e], totals[t]);
         t += 1;
     }
 }
 
-// A number of the block, as a number of 64 bits and as a count.
-fn wide(x: u32) -> u64
-    ensures { λ r. ⌜ (r ≡ x) × (r ≤ 4294967295) ⌝ }
-{
-    x as u64
-}
-
+// A number of the block, as a count.
 fn count(x: u32) -> usize
     ensures { λ r. ⌜ r ≡ x ⌝ }
 {

@@ -31,7 +31,7 @@ abbrev pub fromTurn : ℕ → ℕ → List ℤ → List Place
 fromTurn k r fluxes = place 16 (λ w. not (fluxesWithin fluxes (airAbove (rowAir w k r) (w .grid .W)))) ∷ fromAir k r fluxes
 
 pub long-sweeps-row : {w : World} {k r : ℕ} {fluxes : List ℤ} → SweepsRow w k r fluxes (longZonal k r fluxes) (fromTurn k r fluxes)
-long-sweeps-row = record { lent = refl; limiters = refl; places = refl }
+long-sweeps-row = record { lent = refl; limiters = refl; books = refl; places = refl }
 
 module _ {w : World} {fluxes : List ℤ} {first : ℕ} (row : RowIn w fluxes first) where
   -- the row's air is in range

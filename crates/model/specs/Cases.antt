@@ -9,15 +9,17 @@ pub mod Walk
 pub mod Readout
 pub mod Presses
 pub mod Limiters
-use Prim.Native.Nat.{ℕ}
+pub mod Books
+use Prim.Native.Nat.{ℕ, zero, suc, _+_, _-_}
 use Prim.Native.String.{String}
-use mathlib.Core.List.{List, [], _∷_, cons≢nil}
+use mathlib.Core.List.{List, [], _∷_, _++_, cons≢nil}
 use mathlib.Core.Bool.{Bool, true, false, _&&_, and-eq-true-iff, false≢true}
 use mathlib.Core.Path.{_≡_, refl, ap₂}
 use borrow.Author.Tests.{eqb-true}
 use lib.Dec.{eqb}
+use lib.ListN.{take, drop}
 use Rattle.model.specs.Basic.{sum, howMany, every, some, smallest, tabFrom, joined}
-use Rattle.model.specs.World.{Grid, World}
+use Rattle.model.specs.World.{Grid, World, worldCells}
 use Rattle.model.specs.Scheme.{ratio, bounded, mismatch, highPiece}
 use Rattle.model.specs.Limiters.{positiveRule, ruleFor}
 use Rattle.model.specs.Sweep.{ring, layer, leaving, afterFlow, fluxPart, parts, allowed, cellMismatch, pieces, airAfter, gasAfter, serves, substepCount, swept}
@@ -25,7 +27,7 @@ use Rattle.model.specs.Remap.{column, edge, layerMismatch, layers, amoun
 use Rattle.model.specs.Walk.{walkStep, walk}
 use Rattle.model.specs.Long.{carried, departure, longGas, longAir, longAirFits, longSwept}
 use Rattle.model.specs.Emitters.{recordFits, placeOf, ticked}
-use Rattle.model.specs.Step.{Call, Result, firstOf, commonPlaces, limiterPlaces, ownPlaces, accepted, refused, refusal, step}
+use Rattle.model.specs.Step.{Call, Result, firstOf, commonPlaces, limiterPlaces, bookPlaces, ownPlaces, accepted, refused, refusal, step}
 
 pub record Case : Type 0 where
   pub label : String
@@ -36,6 +38,33 @@ pub record Case : Type 0 where
 -- what a case claims
 abbrev pub Gives : Case → Type 0
 Gives c = step (c .world) (c .call) ≡ c .expected
+
+-- ---- the books of a case's ledger, by the amounts that were loaded and those that stand now: what came is emitted, and what went withdrawn
+unfoldable pub summed : List ℕ → ℕ
+summed [] = 0
+summed (x ∷ l) = x + summed l
+
+-- of a ledger whose blocks have `width` numbers each, 56 or, with a book that is written over, 59
+unfoldable pub withBooks : (width cells n : ℕ) → (loaded now ledger : List ℕ) → List ℕ
+withBooks width cells zero loaded now ledger = ledger
+withBooks width cells (suc n) loaded now ledger =
+    let old : ℕ = summed (take cells loaded) in
+    let new : ℕ = summed (take cells now) in
+    take 56 ledger ++ old ∷ (new - old) ∷ (old - new) ∷ withBooks width cells n (drop cells loaded) (drop cells now) (drop width ledger)
+
+-- to the numbers of emitters and limiters the books of a load of these tracers
+abbrev pub onRecord : Grid → (tracers ledger : List ℕ) → List ℕ
+onRecord g tracers ledger = withBooks 56 (worldCells g) (g .N) tracers tracers ledger
+
+-- a world after one emission, withdrawal or tick: other tracers, and the books that say so
+abbrev pub exchanging : World → List ℕ → World
+exchanging w tracers =
+    record {
+      grid = w .grid;
+      air = w .air;
+      tracers = tracers;
+      ledger = withBooks 59 (worldCells (w .grid)) (w .grid .N) (w .tracers) tracers (w .ledger);
+    }
 
 -- equality of lists, grids and results, as tests
 unfoldable pub sameList : List ℕ → List ℕ → Bool
@@ -71,7 +100,7 @@ failing cs = failingOf (λ (c : Case). c .label) asExpected cs
 
 -- Opens every definition that a case computes with
 unfoldable pub computes : ℕ
-unfolding sum howMany every some smallest tabFrom joined ratio bounded mismatch highPiece positiveRule ruleFor ring layer leaving afterFlow fluxPart parts allowed cellMismatch pieces airAfter gasAfter serves substepCount swept column edge layerMismatch layers amountAbove edgesServe shareAir columnCount commonEdges remappedAir remappedGas remapServes remapCount remapped walkStep walk carried departure longGas longAir longAirFits longSwept recordFits placeOf ticked firstOf commonPlaces limiterPlaces ownPlaces accepted refused refusal step sameList sameGrid sameResult asExpected failingOf failing
+unfolding sum howMany every some smallest tabFrom joined ratio bounded mismatch highPiece positiveRule ruleFor ring layer leaving afterFlow fluxPart parts allowed cellMismatch pieces airAfter gasAfter serves substepCount swept column edge layerMismatch layers amountAbove edgesServe shareAir columnCount commonEdges remappedAir remappedGas remapServes remapCount remapped walkStep walk carried departure longGas longAir longAirFits longSwept recordFits placeOf ticked firstOf commonPlaces limiterPlaces bookPlaces ownPlaces accepted refused refusal step sameList sameGrid sameResult asExpected failingOf failing summed withBooks
 computes = 0
 
 -- every case of a table has what is claimed of a case, for any kind of case

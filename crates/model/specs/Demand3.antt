@@ -89,7 +89,7 @@ demand-3 w calls loaded no-loads i =
           (now, λ named. same .1 (names-grid own (point start calls i) start (kept .sameGrid) (meaning (callAt calls i) .names) ∙ named));
     }
 
--- A world that calls reach from an accepted load never meets the refusals 1 to 4 again, nor 21 for what stands, but 2 for the list that a call itself lends: the refusal is that of the call's own places alone
+-- A world that calls reach from an accepted load never meets the refusals 1 to 4 again, nor 22, nor 21 for what stands, but 2 for the list that a call itself lends: the refusal is that of the call's own places alone
 pub reached :
     (w : World) (calls : List Call) → Loaded w → listed calls ≡ true → (i : ℕ) →
     Reached (point (loadedWorld w) calls i) × ((call : Call) → lentFits (loadedWorld w .grid) call ≡ true → refusal (point (loadedWorld w) calls i) call ≡ firstOf (ownPlaces call) (point (loadedWorld w) calls i))

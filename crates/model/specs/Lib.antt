@@ -4,6 +4,7 @@ pub mod World
 pub mod Scheme
 pub mod Emitters
 pub mod Limiters
+pub mod Books
 pub mod Sweep
 pub mod Remap
 pub mod Walk
@@ -21,3 +22,4 @@ pub mod Readout
 pub mod Presses
 pub mod PerGas
 pub mod FixedBounds
+pub mod OnRecord

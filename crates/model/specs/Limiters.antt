@@ -4,8 +4,7 @@ use mathlib.Core.List.{List}
 use mathlib.Core.Bool.{Bool, true, false, _&&_}
 use lib.Dec.{leb, eqb}
 use lib.ListN.{set}
-use Rattle.model.specs.Limits.{blockNumbers}
-use Rattle.model.specs.Basic.{at, zeros}
+use Rattle.model.specs.Basic.{at}
 use Rattle.model.specs.World.{World, block}
 use Rattle.model.specs.Scheme.{Rule, limitedTo, bounded, mismatch}
 use Rattle.model.specs.Emitters.{half}
@@ -54,12 +53,9 @@ abbrev pub withLimiter : List ℕ → Limiter → List ℕ
 withLimiter b l =
     set (set (set (set (set b 51 (l .number)) 52 (l .lo % half)) 53 (l .lo / half)) 54 (l .hi % half)) 55 (l .hi / half)
 
--- "A load gives every tracer the first limiter, with both bounds 0", and leaves no emitter standing: a block as a load leaves it
+-- "A load gives every tracer the first limiter, with both bounds 0"
 abbrev pub firstLimiter : Limiter
 firstLimiter = record { number = presentOne; lo = 0; hi = 0 }
-
-abbrev pub freshBlock : List ℕ
-freshBlock = withLimiter (zeros blockNumbers) firstLimiter
 
 -- tracer t's limiter, and its rule: "Pieces now take the limiter with the cell"
 abbrev pub limiterOf : World → ℕ → Limiter

@@ -62,12 +62,19 @@ mostSubsteps = 16
 abbrev pub mostEmitters : ℕ
 mostEmitters = 16
 
--- the numbers of the ledger for each tracer: of its emitters three, and three for each (Emitters.antt), and behind them five of its limiter (Limiters.antt)
+-- (02) "6 and 7 are also given when a sum would pass 4,294,967,295"
+abbrev pub sumLimit : ℕ
+sumLimit = 4294967295
+
+-- the numbers of the ledger for each tracer: of its emitters three, and three for each (Emitters.antt), behind them five of its limiter (Limiters.antt), and three of its book (Books.antt)
 abbrev pub emitterNumbers : ℕ
 emitterNumbers = 51
 
+abbrev pub numbersBeforeBook : ℕ
+numbersBeforeBook = 56
+
 abbrev pub blockNumbers : ℕ
-blockNumbers = 56
+blockNumbers = 59
 
 -- "K·C above 2,048 or N above 2": the largest world that the runner program takes
 abbrev pub programCells : ℕ

@@ -18,15 +18,15 @@ use Rattle.model.specs.Sweep.{Mesh, ring, layer, airAfter, gasAfter, swe
 use Rattle.model.specs.Remap.{remappedAir, remappedGas, remapCount, remapServes, remapped}
 use Rattle.model.specs.Long.{longAir, longGas, longSwept}
 use Rattle.model.specs.Limiters.{Limiter, ruleFor, limiterFits, limiterIn, firstLimiter, limiterOf, ruleOf}
-use Rattle.model.specs.Step.{Call, load, emission, withdrawal, zonal, longZonal, meridional, remap, total, cell, addEmitter, removeEmitter, tick, unitsATick, countZonal, zonalWithCount, setLimiter, Result, Place, firstOf, brokenLimiter, gridFits, lengthsFit, meaning, lentFits, commonPlaces, limiterPlaces, ownPlaces, accepted, refused, refusal, step, zonalCount}
+use Rattle.model.specs.Step.{Call, load, emission, withdrawal, zonal, longZonal, meridional, remap, total, cell, addEmitter, removeEmitter, tick, unitsATick, countZonal, zonalWithCount, setLimiter, Result, Place, firstOf, brokenLimiter, brokenBook, gridFits, lengthsFit, meaning, lentFits, commonPlaces, placeIf, limiterPlaces, bookPlaces, ownPlaces, accepted, refused, refusal, step, zonalCount}
 use Rattle.model.specs.Lists.{Loaded, loadedWorld, listed, after, point}
 use Rattle.model.specs.Laws.Basic.{tab-ext, every-true}
 use Rattle.model.specs.Laws.Scheme.{ratio-safe, piece-le, pieces-le}
 use Rattle.model.specs.Laws.Limiters.{limiter-limited, rule-first}
 use Rattle.model.specs.Laws.Emitters.{fresh-limiter}
 use Rattle.model.specs.Laws.Lists.{listed-split}
-use Rattle.model.specs.Laws.Step.{Reached, firstOf-same, passes, step-accepted, step-refused, answer-is, own-refusal, lent-refusal, accepted-passed, behind-limiters, loaded-is, loaded-block, loaded-reached}
-use Rattle.model.specs.Laws.Standing.{beside, namesNot, added-limiter, removed-limiter}
+use Rattle.model.specs.Laws.Step.{Reached, firstOf-same, found, passes, step-accepted, step-refused, answer-is, own-refusal, lent-refusal, accepted-passed, behind-limiters, loaded-is, loaded-block, loaded-reached}
+use Rattle.model.specs.Laws.Standing.{beside, namesNot, added-limiter, removed-limiter, booked-limiter}
 use Rattle.model.specs.Demand3.{any-keeps, reached}
 
 -- ---- "no piece above what the cell has", from one end and from both, under each limiter
@@ -42,15 +42,15 @@ module _ (l : Limiter) (qa qb M T : ℕ) (hM : 0 < M) where
       highPiece D M T m₁ + lowPiece D M T m₂ ≤ T
   limited-pieces = pieces-le D M T (ratio-safe D M T (limiter-limited l .atMostTwice qa (ratio M T) qb)) hM
 
--- ---- two worlds that differ only in limiters, of which none is broken: every call that moves air, and the count before a sweep, gives the same answer and count in both, and leaves the same air
+-- ---- two worlds that differ only in limiters, of which none is broken, with books that both balance or both do not: every call that moves air, and the count before a sweep, gives the same answer and count in both, and leaves the same air
 module _ (w : World) (other : List ℕ) (many : length other ≡ length (w .ledger)) (sound : brokenLimiter .applies w ≡ false) where
   abbrev v : World
   v = withLedger w other
 
-  module _ (alright : brokenLimiter .applies v ≡ false) where
+  module _ (alright : brokenLimiter .applies v ≡ false) (sameBooks : brokenBook .applies w ≡ brokenBook .applies v) where
     -- the places before a call's own
     same-refusal : (call : Call) → firstOf (ownPlaces call) w ≡ firstOf (ownPlaces call) v → refusal w call ≡ refusal v call
-    unfolding refusal commonPlaces limiterPlaces
+    unfolding refusal commonPlaces limiterPlaces bookPlaces
     same-refusal call own =
         firstOf-same _ _ w v refl
         (λ grid. firstOf-same _ _ w v (ap fitting (sym many))
@@ -64,9 +64,16 @@ module _ (w : World) (other : List ℕ) (many : length other ≡ length (w .ledg
             (eqb (length (w .air)) (worldCells (w .grid)) && eqb (length (w .tracers)) (w .grid .N * worldCells (w .grid)) &&
             eqb m (w .grid .N * blockNumbers) && lentFits (w .grid) call)
 
-        behind : (tests : Bool) → firstOf ((elim tests [ true ↦ brokenLimiter ∷ [] | false ↦ [] ]) ++ ownPlaces call) w ≡ firstOf ((elim tests [ true ↦ brokenLimiter ∷ [] | false ↦ [] ]) ++ ownPlaces call) v
-        behind true = passes brokenLimiter (ownPlaces call) w sound ∙ own ∙ sym (passes brokenLimiter (ownPlaces call) v alright)
-        behind false = own
+        books : (tests : Bool) → firstOf (placeIf tests brokenBook ++ ownPlaces call) w ≡ firstOf (placeIf tests brokenBook ++ ownPlaces call) v
+        books true = firstOf-same brokenBook (ownPlaces call) w v sameBooks (λ balanced. own)
+        books false = own
+
+        rest : List Place
+        rest = bookPlaces call ++ ownPlaces call
+
+        behind : (tests : Bool) → firstOf (placeIf tests brokenLimiter ++ rest) w ≡ firstOf (placeIf tests brokenLimiter ++ rest) v
+        behind true = passes brokenLimiter rest w sound ∙ books (meaning call .books) ∙ sym (passes brokenLimiter rest v alright)
+        behind false = books (meaning call .books)
 
     record Same (call : Call) : Type 0 where
       places : firstOf (ownPlaces call) w ≡ firstOf (ownPlaces call) v
@@ -129,11 +136,11 @@ sets (countZonal k r fluxes) = false
 sets (zonalWithCount k r n fluxes) = false
 
 -- places of which none has the number n
-unfoldable without : ℕ → List Place → Bool
+unfoldable pub without : ℕ → List Place → Bool
 without n [] = true
 without n (p ∷ ps) = not (eqb (p .number) n) && without n ps
 
-not-given : (n : ℕ) (ps : List Place) (w : World) → 0 < n → without n ps ≡ true → firstOf ps w ≢ n
+pub not-given : (n : ℕ) (ps : List Place) (w : World) → 0 < n → without n ps ≡ true → firstOf ps w ≢ n
 unfolding without firstOf
 not-given n [] w positive none = λ e. omega arith
 not-given n (p ∷ ps) w positive none =
@@ -186,8 +193,8 @@ limiter-kept :
     firstOf (meaning call .places) w ≡ 0 → limiterOf (meaning call .next w) t ≡ limiterOf w t
 unfolding swept longSwept remapped
 limiter-kept t load held other w so h e = absurd (false≢true held)
-limiter-kept t (emission u c amount) held other w so h e = refl
-limiter-kept t (withdrawal u c amount) held other w so h e = refl
+limiter-kept t (emission u c amount) held other w so h e = booked-limiter w so t u (found u (λ g. g .N) _ w e .0) _
+limiter-kept t (withdrawal u c amount) held other w so h e = booked-limiter w so t u (found u (λ g. g .N) _ w e .0) _
 limiter-kept t (zonal k r fluxes) held other w so h e = refl
 limiter-kept t (longZonal k r fluxes) held other w so h e = refl
 limiter-kept t (meridional k fluxes) held other w so h e = refl
@@ -196,7 +203,7 @@ limiter-kept t (total u) held other w so h e = refl
 limiter-kept t (cell u c) held other w so h e = refl
 limiter-kept t (addEmitter u c id units) held other w so h e = added-limiter w so t u c id units e
 limiter-kept t (removeEmitter u id) held other w so h e = removed-limiter w so t u id e
-limiter-kept t (tick u) held other w so h e = refl
+limiter-kept t (tick u) held other w so h e = booked-limiter w so t u (found u (λ g. g .N) _ w e .0) _
 limiter-kept t (unitsATick u) held other w so h e = refl
 limiter-kept t (countZonal k r fluxes) held other w so h e = refl
 limiter-kept t (zonalWithCount k r n fluxes) held other w so h e = refl
@@ -215,8 +222,8 @@ limiter-stays t call held other w so h = go (refusal w call) refl
 
 -- (after an accepted setting call it is what was given: `limiter-given`, Laws/Standing)
 
--- ---- a list without the setting call gives what request 6 gave
--- request 6's world after a sweep, a long sweep and a remap: every tracer by document 01's rule
+-- ---- a list without the setting call gives what it gave without limiters
+-- the world after a sweep, a long sweep and a remap without limiters: every tracer by document 01's rule
 abbrev sweptBefore : World → Mesh → ℕ → List ℤ → ℕ → World
 sweptBefore w mesh a fluxes n =
     let old : List ℕ = part (w .air) a (mesh .cells) in
@@ -250,10 +257,10 @@ nextBefore (unitsATick t) w = meaning (unitsATick t) .next w
 nextBefore (countZonal k r fluxes) w = meaning (countZonal k r fluxes) .next w
 nextBefore (setLimiter t number lo hi) w = w
 
--- request 6's `step`, but for the five numbers more of a tracer's block: no place 21, and document 01's rule
+-- `step` without limiters: no place 21, and document 01's rule
 unfoldable pub stepBefore : World → Call → Result
 stepBefore w call =
-    elim (firstOf (commonPlaces call ++ ownPlaces call) w) [
+    elim (firstOf (commonPlaces call ++ (bookPlaces call ++ ownPlaces call)) w) [
       | zero ↦ record { answer = 0; count = meaning call .count w; next = nextBefore call w }
       | suc n ↦ refused w (suc n)
     ]
@@ -329,7 +336,7 @@ module _ (w : World) (first : AllFirst w) where
   next-before (zonalWithCount k r n fluxes) e = swept-before (ring (w .grid .W)) (rowStart (w .grid) k r) fluxes n
   next-before (setLimiter t number lo hi) e = absurd (true≢false e)
 
-  refusal-before : (call : Call) → refusal w call ≡ firstOf (commonPlaces call ++ ownPlaces call) w
+  refusal-before : (call : Call) → refusal w call ≡ firstOf (commonPlaces call ++ (bookPlaces call ++ ownPlaces call)) w
   unfolding refusal commonPlaces firstOf
   refusal-before call =
       ap
@@ -346,9 +353,9 @@ module _ (w : World) (first : AllFirst w) where
                   ]
             ]
       ])
-      (behind-limiters w call (ownPlaces call) none-broken)
+      (behind-limiters w call (bookPlaces call ++ ownPlaces call) none-broken)
 
-  -- so `step` is request 6's
+  -- so `step` is that one
   pub step-before : (call : Call) → sets call ≡ false → step w call ≡ stepBefore w call
   unfolding stepBefore accepted
   step-before call other = go (refusal w call) refl
@@ -360,7 +367,7 @@ module _ (w : World) (first : AllFirst w) where
 
 -- an accepted load gives every tracer the first limiter, and each call of such a list leaves it
 loaded-first : (w : World) → Loaded w → AllFirst (loadedWorld w)
-loaded-first w start t h = ap limiterIn (loaded-block w start t (rw (loaded-is w start) at h)) ∙ fresh-limiter
+loaded-first w start t h = ap limiterIn (loaded-block w start t (rw (loaded-is w start) at h)) ∙ fresh-limiter (gasTotal w t)
 
 stays-first : (w : World) → Reached w → AllFirst w → (call : Call) → meaning call .listed ≡ true → sets call ≡ false → AllFirst (step w call .next)
 stays-first w so first call held other t h =
@@ -381,7 +388,7 @@ list-before w so first (call ∷ calls) held other =
     let rest = list-before (step w call .next) (one .reached) (stays-first w so first call (p .0) apart) calls (p .1) (q .1) in
     (rest .0 ∙ ap (λ (r : Result). afterBefore (r .next) calls) (step-before w first call apart), rest .1)
 
--- "a list without the setting call gives what request 6 gave": the world after it, and what each call answers in the world after any part of it
+-- so a list without the setting call gives what it gave before Slip 7: the world after it, and what each call answers in the world after any part of it
 pub list-as-before :
     (w : World) (calls : List Call) → Loaded w → listed calls ≡ true → unset calls ≡ true →
     (after (loadedWorld w) calls ≡ afterBefore (loadedWorld w) calls) × ((call : Call) → sets call ≡ false → step (after (loadedWorld w) calls) call ≡ stepBefore (after (loadedWorld w) calls) call)

@@ -14,12 +14,12 @@ use lib.ListN.{take, replicate}
 use Rattle.model.specs.Basic.{part}
 use Rattle.model.specs.World.{Grid, World, rowStart}
 use Rattle.model.specs.Sweep.{ring}
-use Rattle.model.specs.Step.{Call, load, emission, withdrawal, zonal, longZonal, meridional, remap, total, cell, addEmitter, removeEmitter, tick, unitsATick, countZonal, zonalWithCount, setLimiter, Place, firstOf, absent, otherCount, Result, meaning, commonPlaces, limiterPlaces, ownPlaces, accepted, refused, refusal, step, rowAir, zonalCount}
+use Rattle.model.specs.Step.{Call, load, emission, withdrawal, zonal, longZonal, meridional, remap, total, cell, addEmitter, removeEmitter, tick, unitsATick, countZonal, zonalWithCount, setLimiter, Place, firstOf, absent, otherCount, Result, meaning, commonPlaces, limiterPlaces, bookPlaces, ownPlaces, accepted, refused, refusal, step, rowAir, zonalCount}
 use Rattle.model.specs.Lists.{Loaded, loadedWorld, listed, after, point, history, SameReply}
 use Rattle.model.specs.Laws.Basic.{Apart}
 use Rattle.model.specs.Laws.Grid.{layer-apart, rows-apart}
 use Rattle.model.specs.Laws.Chain.{IsCount, count-smallest}
-use Rattle.model.specs.Laws.Step.{passes, stops, found, numbered, behind-passed, behind-stopped, step-accepted, step-refused, answer-is, refused-changes-nothing, accepted-passed, limiters-sound, loaded-reached}
+use Rattle.model.specs.Laws.Step.{passes, stops, found, numbered, behind-passed, behind-stopped, step-accepted, step-refused, answer-is, refused-changes-nothing, accepted-passed, limiters-sound, books-sound, loaded-reached}
 use Rattle.model.specs.Laws.Keeps.{Kept}
 use Rattle.model.specs.Laws.Part.{ChangesOnly, air-apart}
 use Rattle.model.specs.Laws.Zonal.{zonal-sweeps, zonal-changes-only, reply-row}
@@ -51,16 +51,16 @@ module _ (w : World) (k r : ℕ) (fluxes : List ℤ) where
 
   -- ---- their refusals
   count-refusal : refusal w (countZonal k r fluxes) ≡ refusal w (zonal k r fluxes)
-  unfolding refusal commonPlaces limiterPlaces ownPlaces
+  unfolding refusal commonPlaces limiterPlaces bookPlaces ownPlaces
   count-refusal = refl
 
   given-passed : (n : ℕ) → refusal w (zonal k r fluxes) ≡ 0 → refusal w (zonalWithCount k r n fluxes) ≡ firstOf (otherCount k r n fluxes ∷ []) w
-  unfolding refusal commonPlaces limiterPlaces ownPlaces numbered
-  given-passed n e = behind-passed (commonPlaces (zonal k r fluxes) ++ (limiterPlaces (zonal k r fluxes) ++ ownPlaces (zonal k r fluxes))) (otherCount k r n fluxes ∷ []) w refl e
+  unfolding refusal commonPlaces limiterPlaces bookPlaces ownPlaces numbered
+  given-passed n e = behind-passed (commonPlaces (zonal k r fluxes) ++ (limiterPlaces (zonal k r fluxes) ++ (bookPlaces (zonal k r fluxes) ++ ownPlaces (zonal k r fluxes)))) (otherCount k r n fluxes ∷ []) w refl e
 
   given-stopped : (n m : ℕ) → refusal w (zonal k r fluxes) ≡ suc m → refusal w (zonalWithCount k r n fluxes) ≡ suc m
-  unfolding refusal commonPlaces limiterPlaces ownPlaces
-  given-stopped n m e = behind-stopped (commonPlaces (zonal k r fluxes) ++ (limiterPlaces (zonal k r fluxes) ++ ownPlaces (zonal k r fluxes))) (otherCount k r n fluxes ∷ []) w m e
+  unfolding refusal commonPlaces limiterPlaces bookPlaces ownPlaces
+  given-stopped n m e = behind-stopped (commonPlaces (zonal k r fluxes) ++ (limiterPlaces (zonal k r fluxes) ++ (bookPlaces (zonal k r fluxes) ++ ownPlaces (zonal k r fluxes)))) (otherCount k r n fluxes ∷ []) w m e
 
   -- ---- the first press gives the single sweep's answer and count, and writes nothing
   pub first-press : (counted .answer ≡ single .answer) × (counted .count ≡ single .count) × (counted .next ≡ w)
@@ -256,7 +256,7 @@ module _ (w : World) (calls : List Call) (loaded : Loaded w) (no-loads : listed 
       SameReply (at-point i) (at-point j) (countZonal k r fluxes)
       × (pressed (at-point j) k r fluxes (counted (at-point i) k r fluxes .count) ≡ single (at-point j) k r fluxes)
   count-stands fluxes i j sameAir =
-      let same = reply-row k r fluxes (at-point i) (at-point j) (kept i .sameGrid ∙ sym (kept j .sameGrid)) sameAir (limiters-sound (kept i .reached) ∙ sym (limiters-sound (kept j .reached))) (kept i .reached .fits) (kept j .reached .fits) in
+      let same = reply-row k r fluxes (at-point i) (at-point j) (kept i .sameGrid ∙ sym (kept j .sameGrid)) sameAir (limiters-sound (kept i .reached) ∙ sym (limiters-sound (kept j .reached))) (books-sound (kept i .reached) ∙ sym (books-sound (kept j .reached))) (kept i .reached .fits) (kept j .reached .fits) in
       let first = first-press (at-point i) k r fluxes in
       let later = first-press (at-point j) k r fluxes in
       let count = first .1 ∙ same .1 ∙ sym (later .1) in (

@@ -1,4 +1,4 @@
--- Document 01, "Refusals by place of checking" and "Emission, withdrawal, load, readings", and the long sweep, the emitters, the two presses and the limiters of document 02: a call, what it means, and `step`, what it answers and leaves.
+-- Document 01, "Refusals by place of checking" and "Emission, withdrawal, load, readings", and the long sweep, the emitters, the two presses, the limiters and the books of document 02: a call, what it means, and `step`, what it answers and leaves.
 -- Total in any world and any arguments. A place's test is computed only when it is reached.
 use Prim.Native.Nat.{ℕ, zero, suc, _+_, _*_, _-_}
 use mathlib.Core.List.{List, [], _∷_, _++_}
@@ -6,10 +6,11 @@ use mathlib.Core.Bool.{Bool, true, false, not, _&&_, _||_}
 use lib.Dec.{leb, ltb, eqb}
 use lib.ListN.{length, set}
 use lib.IntN.{ℤ, natAbs}
-use Rattle.model.specs.Limits.{mostColumns, mostRows, mostLayers, mostTracers, tableScale, totalLimit, zonalLimit, meridionalLimit, tableLimit, mostEmitters, blockNumbers}
+use Rattle.model.specs.Limits.{mostColumns, mostRows, mostLayers, mostTracers, tableScale, totalLimit, zonalLimit, meridionalLimit, tableLimit, mostEmitters, sumLimit, blockNumbers}
 use Rattle.model.specs.Basic.{at, part, every, tab, joined}
 use Rattle.model.specs.World.{Grid, World, layerCells, worldCells, layerStart, rowStart, tracerStart, withAmounts, withLedger, gas, withGas, block, withBlock, gasTotal, airFits}
-use Rattle.model.specs.Limiters.{Limiter, limiterFits, withLimiter, freshBlock, limiterOf, ruleOf}
+use Rattle.model.specs.Limiters.{Limiter, limiterFits, withLimiter, limiterOf, ruleOf}
+use Rattle.model.specs.Books.{emittedSum, withdrawnSum, balances, entered, freshBlock}
 use Rattle.model.specs.Sweep.{Mesh, ring, layer, flux, airAfter, gasAfter, serves, substepCount, swept}
 use Rattle.model.specs.Remap.{airAbove, remapServes, remapCount, remapped}
 use Rattle.model.specs.Long.{longAirFits, longSwept}
@@ -69,6 +70,10 @@ brokenRecord = place 5 (λ w. not (every (w .grid .N) (λ t. recordFits (worldCe
 abbrev pub brokenLimiter : Place
 brokenLimiter = place 21 (λ w. not (every (w .grid .N) (λ t. limiterFits (limiterOf w t))))
 
+-- 22 (02): "Every call but a load tests for each tracer that loaded + emitted − withdrawn equals the summed cells"; "when that test fails or the left side is negative"
+abbrev pub brokenBook : Place
+brokenBook = place 22 (λ w. not (every (w .grid .N) (λ t. balances (block w t) (gasTotal w t))))
+
 -- no flux's size exceeds a limit
 abbrev pub fluxesWithin : List ℤ → ℕ → Bool
 fluxesWithin fluxes limit = every (length fluxes) (λ f. leb (natAbs (flux fluxes f)) limit)
@@ -108,9 +113,9 @@ pub record Result : Type 0 where
 abbrev pub withAmount : World → ℕ → ℕ → ℕ → World
 withAmount w t c amount = withAmounts w (w .air) (set (w .tracers) (tracerStart (w .grid) t + c) amount)
 
--- (02) "A load leaves none standing", and "gives every tracer the first limiter, with both bounds 0": the world with the ledger that a load leaves
+-- (02) "A load leaves none standing", "gives every tracer the first limiter, with both bounds 0", and writes the books: the world with the ledger that a load leaves
 abbrev pub cleared : World → World
-cleared w = withLedger w (joined (tab (w .grid .N) (λ t. freshBlock)))
+cleared w = withLedger w (joined (tab (w .grid .N) (λ t. freshBlock (gasTotal w t))))
 
 -- The units of one tracer that come in and go out
 pub record Exchange : Type 0 where
@@ -120,16 +125,31 @@ pub record Exchange : Type 0 where
 abbrev pub noExchange : Exchange
 noExchange = record { emitted = 0; withdrawn = 0 }
 
+-- (02) "The world's record gains these three 32-bit sums": the world with what is exchanged of tracer t entered in its book
+abbrev pub booked : World → ℕ → Exchange → World
+booked w t x = withBlock w t (entered (block w t) (x .emitted) (x .withdrawn))
+
+-- 6: "total would pass 268,435,455"; (02) "also .. when a sum would pass 4,294,967,295": of an emission and of a tick of so many units
+abbrev pub noRoom : ℕ → (World → ℕ) → Place
+noRoom t units =
+    place 6 (λ w. ltb totalLimit (gasTotal w t + units w) || ltb sumLimit (emittedSum (block w t) + units w))
+
+-- 7: "cell has less than the amount", and (02) the same of the sum withdrawn
+abbrev pub tooLittle : ℕ → ℕ → ℕ → Place
+tooLittle t c amount =
+    place 7 (λ w. ltb (amountAt w t c) amount || ltb sumLimit (withdrawnSum (block w t) + amount))
+
 -- The tracer that a call names, if it names one
 pub data Named : Type 0 where
   nobody : Named
   tracer : ℕ → Named
 
--- What a call means: whether a list of calls may hold it; whether the list that it lends has the grid's length; whether it tests the limiters; its own places, in the table's order; where it is accepted, its count and the world afterwards; the tracer that it names; what it exchanges of tracer t, and the range that it promises for tracer t from the world before it to the world afterwards, where it is accepted
+-- What a call means: whether a list of calls may hold it; whether the list that it lends has the grid's length; whether it tests the limiters, and the books; its own places, in the table's order; where it is accepted, its count and the world afterwards; the tracer that it names; what it exchanges of tracer t, and the range that it promises for tracer t from the world before it to the world afterwards, where it is accepted
 pub record Meaning : Type 1 where
   pub listed : Bool
   pub lent : Grid → Bool
   pub limiters : Bool
+  pub books : Bool
   pub places : List Place
   pub count : World → ℕ
   pub next : World → World
@@ -144,6 +164,7 @@ reads names places count =
       listed = true;
       lent = λ g. true;
       limiters = false;
+      books = true;
       places = places;
       count = count;
       next = λ w. w;
@@ -152,16 +173,17 @@ reads names places count =
       range = λ w next t. Unit {0};
     }
 
--- one that changes the amount of tracer t in cell c, and exchanges x of that tracer. "Counts not named are 0."
+-- one that changes the amount of tracer t in cell c, and exchanges x of that tracer, which is booked. "Counts not named are 0."
 abbrev pub changes : ℕ → ℕ → Place → (ℕ → ℕ) → Exchange → Meaning
 changes t c refusing new x =
     record {
       listed = true;
       lent = λ g. true;
       limiters = false;
+      books = true;
       places = absent t (λ g. g .N) ∷ absent c worldCells ∷ refusing ∷ [];
       count = λ w. 0;
-      next = λ w. withAmount w t c (new (amountAt w t c));
+      next = λ w. booked (withAmount w t c (new (amountAt w t c))) t x;
       names = tracer t;
       exchange = λ w t'. elim (eqb t t') [ true ↦ x | false ↦ noExchange ];
       range = λ w next t'. Unit {0};
@@ -174,6 +196,7 @@ enters t places new =
       listed = true;
       lent = λ g. true;
       limiters = false;
+      books = true;
       places = places;
       count = λ w. 0;
       next = λ w. withBlock w t (new (block w t));
@@ -190,6 +213,7 @@ sweeps mesh start fluxes count lent places =
       listed = true;
       lent = lent;
       limiters = true;
+      books = true;
       places = places;
       count = count;
       next = λ w. swept w (mesh (w .grid)) (start (w .grid)) fluxes (count w);
@@ -219,6 +243,7 @@ counts m =
       listed = m .listed;
       lent = m .lent;
       limiters = m .limiters;
+      books = m .books;
       places = m .places;
       count = m .count;
       next = λ before. before;
@@ -229,12 +254,13 @@ counts m =
 
 abbrev pub meaning : Call → Meaning
 -- "A load checks lent air and tracers, changes nothing in them, and they are the world from then on."
--- (02) "A load leaves none standing, and doesn't test the old ones."; "A load gives every tracer the first limiter" and tests none either. It begins a list and stands in none.
+-- (02) "A load leaves none standing, and doesn't test the old ones."; "A load gives every tracer the first limiter" and tests none either, nor the books. It begins a list and stands in none.
 meaning load =
     record {
       listed = false;
       lent = λ g. true;
       limiters = false;
+      books = false;
       places = [];
       count = λ w. 0;
       next = cleared;
@@ -242,11 +268,9 @@ meaning load =
       exchange = λ w t. noExchange;
       range = λ w next t. Unit {0};
     }
--- "Emission adds, and withdrawal takes, an amount". 6: "total would pass 268,435,455". 7: "cell has less than the amount"
-meaning (emission t c amount) =
-    changes t c (place 6 (λ w. ltb totalLimit (gasTotal w t + amount))) (λ T. T + amount) (record { emitted = amount; withdrawn = 0 })
-meaning (withdrawal t c amount) =
-    changes t c (place 7 (λ w. ltb (amountAt w t c) amount)) (λ T. T - amount) (record { emitted = 0; withdrawn = amount })
+-- "Emission adds, and withdrawal takes, an amount"
+meaning (emission t c amount) = changes t c (noRoom t (λ w. amount)) (λ T. T + amount) (record { emitted = amount; withdrawn = 0 })
+meaning (withdrawal t c amount) = changes t c (tooLittle t c amount) (λ T. T - amount) (record { emitted = 0; withdrawn = amount })
 -- "the sweep uses the smallest n from 1 to 16, and that n is its count"
 meaning (zonal k r fluxes) = sweepsRow k r fluxes (λ w. zonalCount w k r fluxes) []
 -- 16: "when a flux's size exceeds the row's air", 17: "when air afterwards leaves 1 to 65,535", "in that order after 8, with its zonal limit, in a long sweep"
@@ -255,6 +279,7 @@ meaning (longZonal k r fluxes) =
       listed = true;
       lent = λ g. eqb (length fluxes) (g .W);
       limiters = true;
+      books = true;
       places =
           absent k (λ g. g .K) ∷ absent r (λ g. g .R) ∷ fluxTooLarge fluxes zonalLimit ∷
           place 16 (λ w. not (fluxesWithin fluxes (airAbove (rowAir w k r) (w .grid .W)))) ∷
@@ -274,6 +299,7 @@ meaning (remap table) =
       listed = true;
       lent = λ g. eqb (length table) (2 * (g .K + 1));
       limiters = true;
+      books = true;
       places = place 11 (λ w. not (tableFits (w .grid .K) table)) ∷ place 12 (λ w. not (remapServes w table)) ∷ [];
       count = λ w. remapCount w table;
       next = λ w. remapped w table;
@@ -295,15 +321,17 @@ meaning (removeEmitter t id) =
     (λ b. emitterRemoved b id)
 -- (02) "A tick names one tracer and emits all its emitters, or is refused whole by 6."; "a tick counts there as an emission of that sum"
 meaning (tick t) =
+    let emits : World → Exchange = λ w. record { emitted = keptUnits (block w t); withdrawn = 0 } in
     record {
       listed = true;
       lent = λ g. true;
       limiters = false;
-      places = absent t (λ g. g .N) ∷ brokenRecord ∷ place 6 (λ w. ltb totalLimit (gasTotal w t + keptUnits (block w t))) ∷ [];
+      books = true;
+      places = absent t (λ g. g .N) ∷ brokenRecord ∷ noRoom t (λ w. keptUnits (block w t)) ∷ [];
       count = λ w. 0;
-      next = λ w. withGas w t (ticked (block w t) (standing (block w t)) (gas w t));
+      next = λ w. booked (withGas w t (ticked (block w t) (standing (block w t)) (gas w t))) t (emits w);
       names = tracer t;
-      exchange = λ w t'. elim (eqb t t') [ true ↦ record { emitted = keptUnits (block w t); withdrawn = 0 } | false ↦ noExchange ];
+      exchange = λ w t'. elim (eqb t t') [ true ↦ emits w | false ↦ noExchange ];
       range = λ w next t'. Unit {0};
     }
 -- (02) "A reading gives the tracer's units a tick, kept up to date"
@@ -337,9 +365,17 @@ commonPlaces call =
     place 4 (λ w. not (every (w .grid .N) (λ t. leb (gasTotal w t) totalLimit))) ∷
     []
 
+-- a place that only some calls have
+abbrev pub placeIf : Bool → Place → List Place
+placeIf has p = elim has [ true ↦ p ∷ [] | false ↦ [] ]
+
 -- 21 (02): "after 4 in calls that move air and in Slip 5's count call"
 unfoldable pub limiterPlaces : Call → List Place
-limiterPlaces call = elim (meaning call .limiters) [ true ↦ brokenLimiter ∷ [] | false ↦ [] ]
+limiterPlaces call = placeIf (meaning call .limiters) brokenLimiter
+
+-- 22 (02): "before 5, and after 21 where a call tests 21 there"
+unfoldable pub bookPlaces : Call → List Place
+bookPlaces call = placeIf (meaning call .books) brokenBook
 
 unfoldable pub ownPlaces : Call → List Place
 ownPlaces call = meaning call .places
@@ -354,7 +390,7 @@ refused w number = record { answer = number; count = 0; next = w }
 
 -- The refusal that a call gets, 0 where it is accepted
 unfoldable pub refusal : World → Call → ℕ
-refusal w call = firstOf (commonPlaces call ++ (limiterPlaces call ++ ownPlaces call)) w
+refusal w call = firstOf (commonPlaces call ++ (limiterPlaces call ++ (bookPlaces call ++ ownPlaces call))) w
 
 -- What a call does in a world
 unfoldable pub step : World → Call → Result

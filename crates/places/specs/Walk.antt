@@ -59,17 +59,19 @@ fails e left = ap not (sym e ∙ left)
 pub record Like (w : World) (call other : Call) (rest : List Place) : Type 0 where
   pub lent : lentFits (w .grid) other ≡ lentFits (w .grid) call
   pub limiters : meaning other .limiters ≡ meaning call .limiters
+  pub books : meaning other .books ≡ meaning call .books
   pub places : meaning other .places ≡ meaning call .places ++ rest
 
 module _ {w : World} {call : Call} where
   pub itself : Like w call call []
-  itself = record { lent = refl; limiters = refl; places = sym (append-nil (meaning call .places)) }
+  itself = record { lent = refl; limiters = refl; books = refl; places = sym (append-nil (meaning call .places)) }
 
   onward : {other third : Call} {rest more : List Place} → Like w call other rest → Like w other third more → Like w call third (rest ++ more)
   onward {other} {third} {rest} {more} one two =
       record {
         lent = two .lent ∙ one .lent;
         limiters = two .limiters ∙ one .limiters;
+        books = two .books ∙ one .books;
         places =
             two .places ∙ ap (λ (l : List Place). l ++ more) (one .places) ∙ append-assoc (meaning call .places) rest more;
       }

@@ -1,4 +1,4 @@
-// Places 1 to 4, which every call tests: the grid, the lent lengths, the air, the tracers' totals; 21, the limiters, of the calls that move air; and place 8, of both sweeps.
+// Places 1 to 4, which every call tests: the grid, the lent lengths, the air, the tracers' totals; 21, the limiters, of the calls that move air; 22, the books, of every call but a load; and place 8, of both sweeps.
 // The tests of whole buffers have no early exit, so that the compiler can vectorise them, and each buffer is read once.
 ghost use mathlib.Core.Path.{_≡_};
 ghost use Prim.Native.Nat.{_+_, _*_, _≤_, _<_};
@@ -11,7 +11,8 @@ ghost use Rattle.model.specs.World.{airFits};
 ghost use Rattle.model.specs.Sweep.{flux};
 ghost use Rattle.units.specs.Grid.{gridOf, worldOf, InRange};
 ghost use Rattle.places.specs.Totals.{IsTotal, TracersFit, AreTotals};
-ghost use Rattle.places.specs.Tested.{lentServes, lengthsServe, ledgerServes, IsTested};
+ghost use Rattle.places.specs.Tested.{lentServes, lengthsServe, ledgerServes, IsWorldTested, IsTested};
+use books::books_balance;
 use limiters::limiters_fit;
 use scheme::split;
 use std::num::wrapping_add_u32;
@@ -24,6 +25,7 @@ use units::MOST_TRACERS;
 use units::Refusal;
 use units::TOTAL_LIMIT;
 use units::grid_fits;
+use units::number;
 use units::world_cells;
 
 // Whether a cell's air is 1 to 65,535.
@@ -206,9 +208,9 @@ pub fn limiters_serve(ledger: &[u32], n: usize, lent: Lent) -> bool
     }
 }
 
-// Places 1 to 4 and, where the call tests it, 21, in this order.
-pub fn common_places(g: Grid, air: &[u32], tracers: &[u32], ledger: &[u32], lent: Lent) -> Tested
-    ensures { λ r. ⌜ IsTested (worldOf g (now (air .entry)) (now (tracers .entry)) (now (ledger .entry))) lent r ⌝ }
+// Places 1 to 4, in this order: all that a load tests.
+pub fn world_places(g: Grid, air: &[u32], tracers: &[u32], ledger: &[u32], lent: Lent) -> Tested
+    ensures { λ r. ⌜ IsWorldTested (worldOf g (now (air .entry)) (now (tracers .entry)) (now (ledger .entry))) lent r ⌝ }
 {
     if grid_fits(g) {} else {
         return refused(Refusal::GridRange);
@@ -224,13 +226,30 @@ pub fn common_places(g: Grid, air: &[u32], tracers: &[u32], ledger: &[u32], lent
     if totals_fit(sums, n) {} else {
         return refused(Refusal::Totals);
     }
-    if limiters_serve(ledger, n, lent) {} else {
-        return refused(Refusal::Limiters);
-    }
     Tested {
         answer: Answer::Accepted(0),
         totals: sums,
     }
+}
+
+// Places 1 to 4, where the call tests it 21, and 22, in this order, of every call but a load. The sums of place 4 serve for 22.
+pub fn common_places(g: Grid, air: &[u32], tracers: &[u32], ledger: &[u32], lent: Lent) -> Tested
+    ensures { λ r. ⌜ IsTested (worldOf g (now (air .entry)) (now (tracers .entry)) (now (ledger .entry))) lent r ⌝ }
+{
+    let tested = world_places(g, air, tracers, ledger, lent);
+    let answer = tested.answer;
+    if number(answer) == 0 {} else {
+        return tested;
+    }
+    let n = g.n as usize;
+    if limiters_serve(ledger, n, lent) {} else {
+        return refused(Refusal::Limiters);
+    }
+    let sums = tested.totals;
+    if books_balance(ledger, sums, n) {} else {
+        return refused(Refusal::Books);
+    }
+    tested
 }
 
 // What the places of a call give: their answer; where the cells that the call names start, and a number found on the way, such as a total or a count.

@@ -1,14 +1,16 @@
 -- What follows from the theorems about the program in the buyer's words, each statement from one of them alone, so that a theorem that says less is refused here.
-use Prim.Native.Nat.{ℕ, _+_, _≤_}
+use Prim.Native.Nat.{ℕ, _+_, _≤_, _<_}
 use mathlib.Core.List.{List, _∷_, _++_, append-assoc}
-use mathlib.Core.Path.{_≡_, sym, _∙_, ap}
+use mathlib.Core.Path.{_≡_, refl, sym, _∙_, ap}
 use native.Mathlib.Omega.{arith}
 use lib.ListN.{length}
-use Rattle.model.specs.World.{gasTotal}
+use Rattle.model.specs.World.{block, gasTotal}
+use Rattle.model.specs.Books.{loadedSum, emittedSum, withdrawnSum}
 use Rattle.model.specs.Step.{Call, total, Result, accepted, step}
 use Rattle.model.specs.Lists.{history}
 use Rattle.model.specs.Laws.Step.{step-accepted, answer-is}
 use Rattle.model.specs.Laws.Lists.{history-append}
+use Rattle.model.specs.OnRecord.{accepted-balances}
 use Rattle.program.specs.Records.{start, make, command}
 use Rattle.program.specs.Lines.{Entry, entries, run}
 use Rattle.program.specs.Totals.{Since, nothingYet, since, worldNow}
@@ -35,6 +37,14 @@ module _ (bytes : List ℕ) (before : List Entry) (e : Entry) (t : ℕ) (first :
       let said = printed-calls bytes before rest e split (total t) (first .asked) in
       let go = sym (answer-is (worldNow s) (total t)) ∙ sym (said .0) ∙ first .answered in
       said .1 ∙ ap (λ (r : Result). r .count) (step-accepted (worldNow s) (total t) go)
+
+  -- .. and it agrees with the gas's book there: loaded and emitted are withdrawn and the total
+  pub printed-on-record :
+      (rest : List Entry) → entries bytes ≡ before ++ (e ∷ rest) → t < worldNow s .grid .N →
+      e .printed .count + withdrawnSum (block (worldNow s) t) ≡ loadedSum (block (worldNow s) t) + emittedSum (block (worldNow s) t)
+  printed-on-record rest split there =
+      let said = printed-calls bytes before rest e split (total t) (first .asked) in
+      omega (arith, printed-total-is rest split, accepted-balances (worldNow s) (total t) refl (sym (said .0) ∙ first .answered) .0 t there)
 
   -- the difference of two totals of a gas that are printed, with no accepted load between them, is what the calls `made` between them emitted less what they withdrew
   pub printed-difference :

@@ -3,7 +3,7 @@ use Prim.Native.Nat.{ℕ, zero, suc, _*_}
 use mathlib.Core.List.{List, _++_}
 use mathlib.Core.Path.{_≡_, refl, sym, _∙_, ap, ap₂, subst}
 use native.Mathlib.Nat.{zero-add}
-use lib.ListN.{length, take, drop, take-append-drop}
+use lib.ListN.{length, take, drop}
 use lib.Seq.{take-at}
 use Rattle.model.specs.Limits.{blockNumbers}
 use Rattle.model.specs.Basic.{written}
@@ -112,19 +112,17 @@ module _ {g : declared.Grid} {cells : ℕ} (sized : cells ≡ model.worldCells (
         leftIs = over-joined ∙ ap (over b) e;
       }
 
-  -- a call that was made in the world at the start of the buffers, and left the ledger
+  -- a call that was made in the world at the start of the buffers
   pub call-leaves :
       program.gridRefusal (gridOf g) ≡ 0 → (byte : ℕ) (call : Call) (x : Answer) (l : lines.Line) → IsLine l byte x →
-      new .ledger ≡ parts g cells b .ledger → Agrees (worldIn g (parts g cells b)) call x (worldIn g new) →
-      Leaves (program.carriedOut (program.loaded (held (gridOf g) b)) byte (program.make call)) (Next l (Loaded g)) b (buffers (joined g cells new b .air) (joined g cells new b .tracers) (b .ledger))
+      Agrees (worldIn g (parts g cells b)) call x (worldIn g new) →
+      Leaves (program.carriedOut (program.loaded (held (gridOf g) b)) byte (program.make call)) (Next l (Loaded g)) b (joined g cells new b)
   unfolding program.carriedOut
-  call-leaves taken byte call x l sameLine kept agrees =
+  call-leaves taken byte call x l sameLine agrees =
       let w = worldIn g (parts g cells b) in
-      let ledger = ap (λ (v : List ℕ). v ++ drop (g .n * blockNumbers) (b .ledger)) kept ∙ take-append-drop (g .n * blockNumbers) (b .ledger) in
-      subst (λ (left : Buffers). Leaves (program.carriedOut (program.loaded (held (gridOf g) b)) byte (program.make call)) (Next l (Loaded g)) b left) (ap (buffers _ _) ledger)
-      (subst (λ (v : model.World). Leaves (program.carriedOut (program.loaded v) byte (program.make call)) (Next l (Loaded g)) b (joined g cells new b)) (sym (held-parts b))
+      subst (λ (v : model.World). Leaves (program.carriedOut (program.loaded v) byte (program.make call)) (Next l (Loaded g)) b (joined g cells new b)) (sym (held-parts b))
       (leaves-loaded taken l (program.line byte (step w call .answer) (step w call .count)) (step w call .next)
-      (sameLine ∙ ap₂ (program.line byte) (agrees .number) (agrees .count)) (agrees .left)))
+      (sameLine ∙ ap₂ (program.line byte) (agrees .number) (agrees .count)) (agrees .left))
 
   -- an accepted load
   pub load-leaves :

@@ -143,10 +143,10 @@ fn take_call(
     body: &[u8],
     air: &mut [u32],
     tracers: &mut [u32],
-    ledger: &[u32],
+    ledger: &mut [u32],
 ) -> Outcome
     requires { ⌜ TakeNeed g c (now body) (buffers (now air) (now tracers) (now ledger)) ⌝ }
-    ensures { λ o. ⌜ TakesCall g kind c (now (body .entry)) o (buffers (now (air .entry)) (now (tracers .entry)) (now (ledger .entry))) (buffers (now (air .exit)) (now (tracers .exit)) (now (ledger .entry))) ⌝ }
+    ensures { λ o. ⌜ TakesCall g kind c (now (body .entry)) o (buffers (now (air .entry)) (now (tracers .entry)) (now (ledger .entry))) (buffers (now (air .exit)) (now (tracers .exit)) (now (ledger .exit))) ⌝ }
 {
     let cells = cells_of(g);
     let amounts = (g.n as usize) * cells;
@@ -157,7 +157,7 @@ fn take_call(
         body,
         &mut air[..cells],
         &mut tracers[..amounts],
-        &ledger[..numbers],
+        &mut ledger[..numbers],
     );
     Outcome::Next(line_of(kind, answer), Stage::Loaded(g))
 }

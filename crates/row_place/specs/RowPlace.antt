@@ -37,6 +37,7 @@ rowPlaces k r fluxes = absent k (λ g. g .K) ∷ fromRow r fluxes
 pub record SweepsRow (w : World) (k r : ℕ) (fluxes : List ℤ) (call : Call) (rest : List Place) : Type 0 where
   pub lent : lentFits (w .grid) call ≡ eqb (length fluxes) (w .grid .W)
   pub limiters : meaning call .limiters ≡ true
+  pub books : meaning call .books ≡ true
   pub places : meaning call .places ≡ rowPlaces k r fluxes ++ rest
 
 -- ---- W cells of a world that fits, from cell `first` on, with a flux for each
@@ -82,7 +83,7 @@ module _ {w : World} {k r : ℕ} {fluxes : List ℤ} where
         record {
           is =
               λ call rest sweeps.
-              passed .left .is call (ownPlaces call) (record { fit = sweeps .lent; limiters = sweeps .limiters; own = refl }) ∙
+              passed .left .is call (ownPlaces call) (record { fit = sweeps .lent; limiters = sweeps .limiters; books = sweeps .books; own = refl }) ∙
               ap (λ (l : List Place). firstOf l w) (sweeps .places);
         }
 
@@ -92,7 +93,7 @@ module _ {w : World} {k r : ℕ} {fluxes : List ℤ} where
         record {
           refused =
               λ _ call rest sweeps.
-              rw same (is .refused refused call (ownPlaces call) (record { fit = sweeps .lent; limiters = sweeps .limiters; own = refl }));
+              rw same (is .refused refused call (ownPlaces call) (record { fit = sweeps .lent; limiters = sweeps .limiters; books = sweeps .books; own = refl }));
           found = λ z. absurd (refused (rw same at z));
         }
 
@@ -103,6 +104,7 @@ module _ {w : World} {k r : ℕ} {fluxes : List ℤ} where
         record {
           lent = like .lent ∙ own .lent;
           limiters = like .limiters ∙ own .limiters;
+          books = like .books ∙ own .books;
           places =
               like .places ∙ ap (λ (l : List Place). l ++ more) (own .places) ∙ append-assoc (rowPlaces k r fluxes) rest more;
         }

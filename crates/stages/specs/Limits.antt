@@ -7,7 +7,7 @@ programAmounts = 4096
 
 -- the numbers of the ledger, 56 for each of two tracers
 abbrev pub programLedger : ℕ
-programLedger = 112
+programLedger = 118
 
 -- the faces of a layer: 72 columns and a layer of 2,048 cells
 abbrev pub programFaces : ℕ

@@ -8,7 +8,7 @@ use Rattle.model.specs.Laws.Step.{step-accepted, step-refused, answer-is}
 use Rattle.units.specs.declared.Answer.{Answer}
 use Rattle.units.specs.declared.Answer.the-variants.{Refused}
 use Rattle.units.specs.declared.Refusal.{Refusal}
-use Rattle.units.specs.declared.Refusal.the-variants.{GridRange, Lengths, AirRange, Totals, Index, Emission, Withdrawal, Fluxes, Zonal, Meridional, Table, Remap, LongFlux, LongAir, EmitterAdded, EmitterAbsent, GivenCount, Limiters}
+use Rattle.units.specs.declared.Refusal.the-variants.{GridRange, Lengths, AirRange, Totals, Index, Emission, Withdrawal, Fluxes, Zonal, Meridional, Table, Remap, LongFlux, LongAir, EmitterAdded, EmitterAbsent, GivenCount, Limiters, Books}
 use Rattle.units.specs.Answer.{refusalNumber, numberOf, countOf, Agrees}
 
 -- no refusal has the number of an accepted call
@@ -31,6 +31,7 @@ refusal-nonzero EmitterAdded e = omega arith
 refusal-nonzero EmitterAbsent e = omega arith
 refusal-nonzero GivenCount e = omega arith
 refusal-nonzero Limiters e = omega arith
+refusal-nonzero Books e = omega arith
 
 module _ {w : World} {call : Call} where
   by-number : (r : Refusal) (n : ℕ) → refusal w call ≡ n → refusalNumber r ≡ n → Agrees w call (Refused r) w

@@ -8,7 +8,7 @@ use Rattle.units.specs.declared.Answer.the-variants.{Accepted, Refused}
 use Rattle.units.specs.declared.WideAnswer.{WideAnswer}
 use Rattle.units.specs.declared.WideAnswer.the-variants as wide
 use Rattle.units.specs.declared.Refusal.{Refusal}
-use Rattle.units.specs.declared.Refusal.the-variants.{GridRange, Lengths, AirRange, Totals, Index, Emission, Withdrawal, Fluxes, Zonal, Meridional, Table, Remap, LongFlux, LongAir, EmitterAdded, EmitterAbsent, GivenCount, Limiters}
+use Rattle.units.specs.declared.Refusal.the-variants.{GridRange, Lengths, AirRange, Totals, Index, Emission, Withdrawal, Fluxes, Zonal, Meridional, Table, Remap, LongFlux, LongAir, EmitterAdded, EmitterAbsent, GivenCount, Limiters, Books}
 
 -- "Refusals by place of checking": the number of each place
 abbrev pub refusalNumber : Refusal → ℕ
@@ -30,6 +30,7 @@ refusalNumber EmitterAdded = 18
 refusalNumber EmitterAbsent = 19
 refusalNumber GivenCount = 20
 refusalNumber Limiters = 21
+refusalNumber Books = 22
 
 -- "answer (0 if accepted)", else the refusal's number
 abbrev pub numberOf : Answer → ℕ

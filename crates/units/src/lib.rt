@@ -16,6 +16,8 @@ pub const AIR_LIMIT: u32 = 65535;
 
 pub const TOTAL_LIMIT: u64 = 268435455;
 
+pub const SUM_LIMIT: u64 = 4294967295; // of a tracer's book: emitted, and withdrawn
+
 pub const ZONAL_LIMIT: u32 = 1048560;
 
 pub const MERIDIONAL_LIMIT: u32 = 65535;
@@ -40,9 +42,11 @@ pub const MOST_FACES: usize = 3240; // of a layer
 
 pub const MOST_EMITTERS: usize = 16; // of a tracer
 
-pub const LEDGER_BLOCK: usize = 56; // numbers of the ledger for each tracer
+pub const LEDGER_BLOCK: usize = 59; // numbers of the ledger for each tracer
 
 pub const LIMITER_PLACE: usize = 51; // where its limiter stands in them
+
+pub const BOOK_PLACE: usize = 56; // and its book: loaded, emitted, withdrawn
 
 pub const PRESENT_LIMITER: u32 = 1; // a limiter's number, as set_limiter takes it
 
@@ -56,7 +60,7 @@ pub const PROGRAM_TRACERS: usize = 2;
 
 pub const PROGRAM_AMOUNTS: usize = 4096; // of all tracers in it
 
-pub const PROGRAM_LEDGER: usize = 112; // numbers of its ledger
+pub const PROGRAM_LEDGER: usize = 118; // numbers of its ledger
 
 pub const PROGRAM_FACES: usize = 2118; // of a layer that the program takes
 
@@ -113,6 +117,7 @@ pub enum Refusal {
     EmitterAbsent,
     GivenCount,
     Limiters,
+    Books,
 }
 
 // What a call answers: accepted, with its count, or refused.
@@ -142,6 +147,13 @@ pub fn add_tracer(sum: TracerSum, x: Tracer) -> TracerSum
     TracerSum(sum.0 + (x.0 as u64))
 }
 
+// A number of 32 bits as one of 64.
+pub fn wide(x: u32) -> u64
+    ensures { λ r. ⌜ (r ≡ x) × (r ≤ 4294967295) ⌝ }
+{
+    x as u64
+}
+
 // The refusal's number.
 pub fn refusal_number(r: Refusal) -> u32
     ensures { λ n. ⌜ n ≡ refusalNumber r ⌝ }
@@ -165,6 +177,7 @@ pub fn refusal_number(r: Refusal) -> u32
         Refusal::EmitterAbsent => 19,
         Refusal::GivenCount => 20,
         Refusal::Limiters => 21,
+        Refusal::Books => 22,
     }
 }
 

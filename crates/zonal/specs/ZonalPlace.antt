@@ -22,14 +22,14 @@ abbrev pub fromCount : ℕ → ℕ → List ℤ → List Place
 fromCount k r fluxes = place 9 (λ w. eqb (zonalCount w k r fluxes) 0) ∷ []
 
 pub zonal-sweeps-row : {w : World} {k r : ℕ} {fluxes : List ℤ} → SweepsRow w k r fluxes (zonal k r fluxes) (fromCount k r fluxes)
-zonal-sweeps-row = record { lent = refl; limiters = refl; places = refl }
+zonal-sweeps-row = record { lent = refl; limiters = refl; books = refl; places = refl }
 
 -- the count before the sweep is tested like the sweep; the sweep with a given count has one place more
 pub count-like : {w : World} {k r : ℕ} {fluxes : List ℤ} → Like w (zonal k r fluxes) (countZonal k r fluxes) []
-count-like = record { lent = refl; limiters = refl; places = refl }
+count-like = record { lent = refl; limiters = refl; books = refl; places = refl }
 
 pub given-like : {w : World} {k r n : ℕ} {fluxes : List ℤ} → Like w (zonal k r fluxes) (zonalWithCount k r n fluxes) (otherCount k r n fluxes ∷ [])
-given-like = record { lent = refl; limiters = refl; places = refl }
+given-like = record { lent = refl; limiters = refl; books = refl; places = refl }
 
 module _ {w : World} {fluxes : List ℤ} {first : ℕ} (row : RowIn w fluxes first) where
   pub row-need : RowNeed (lentRow w first) fluxes

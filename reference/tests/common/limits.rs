@@ -40,7 +40,7 @@ impl Limits {
 
 /// What stands in the ledger.
 pub fn limits_of(world: &World, tracer: usize) -> Limits {
-    let numbers = &world.ledger[BLOCK * tracer + 51..BLOCK * (tracer + 1)];
+    let numbers = &world.ledger[BLOCK * tracer + 51..BLOCK * tracer + 56];
     let whole = |i: usize| u64::from(numbers[i]) | u64::from(numbers[i + 1]) << 32;
     limits(numbers[0], whole(1), whole(3))
 }

@@ -1,9 +1,11 @@
 //! Helpers of the tests: a generator of numbers, worlds, calls, table rows and columns.
 #![allow(dead_code)]
 
+pub mod books;
 pub mod limits;
 pub mod range;
 
+pub use books::balance;
 use limits::{random_limits, Limits};
 use reference::{call, Answer, Call, Grid, World};
 
@@ -24,23 +26,21 @@ pub fn cells(grid: &Grid) -> usize {
 }
 
 /// A tracer's numbers in the ledger.
-pub const BLOCK: usize = 56;
+pub const BLOCK: usize = 59;
 
-/// A ledger as a load leaves it: no emitter stands, and each tracer has the first limiter.
-pub fn loaded_ledger(grid: &Grid) -> Vec<u32> {
+/// A world with the ledger of a load: no emitter stands, each tracer has the first limiter, and its
+/// books have its total as loaded.
+pub fn world_of(grid: Grid, air: Vec<u32>, tracers: Vec<u32>) -> World {
     let mut block = [0; BLOCK];
     block[51] = 1;
-    block.repeat(grid.n as usize)
-}
-
-/// A world with the ledger of a load.
-pub fn world_of(grid: Grid, air: Vec<u32>, tracers: Vec<u32>) -> World {
-    World {
+    let mut world = World {
         grid,
         air,
         tracers,
-        ledger: loaded_ledger(&grid),
-    }
+        ledger: block.repeat(grid.n as usize),
+    };
+    balance(&mut world);
+    world
 }
 
 /// A world with the same air in all cells and no tracer.
@@ -289,21 +289,25 @@ pub fn random_tracer(random: &mut Random, air: &[u32]) -> Vec<u32> {
     }
 }
 
-/// A world that a load accepts, with limiters that 21 lets pass: the first for all tracers, or any
-/// for each.
+/// A world that a load accepts, with limiters that 21 lets pass and books that 22 lets pass: the
+/// first limiter for all tracers, or any for each, and books of a load or of any history.
 pub fn random_world(random: &mut Random) -> World {
     let grid = random_grid(random);
     let air = random_air(random, cells(&grid));
     let tracers = (0..grid.n)
         .flat_map(|_| random_tracer(random, &air))
         .collect();
-    with_some_limiters(random, world_of(grid, air, tracers))
+    with_some_ledger(random, world_of(grid, air, tracers))
 }
 
-/// The world, one time in two with a random limiter for each tracer.
-fn with_some_limiters(random: &mut Random, mut world: World) -> World {
+/// The world, one time in two with a random limiter for each tracer, and one time in two with random
+/// books for each.
+fn with_some_ledger(random: &mut Random, mut world: World) -> World {
     if random.one_in(2) {
         limits::put_random_limits(random, &mut world);
+    }
+    if random.one_in(2) {
+        books::put_random_books(random, &mut world);
     }
     world
 }
@@ -369,7 +373,7 @@ pub fn random_thin_world(random: &mut Random) -> World {
             _ => random_thin_tracer(random, &air),
         })
         .collect();
-    with_some_limiters(random, world_of(grid, air, tracers))
+    with_some_ledger(random, world_of(grid, air, tracers))
 }
 
 /// A world of air at its limits and of tracers at theirs.
@@ -390,7 +394,7 @@ pub fn random_extreme_world(random: &mut Random) -> World {
             _ => random_full_tracer(random, air.len()),
         })
         .collect();
-    with_some_limiters(random, world_of(grid, air, tracers))
+    with_some_ledger(random, world_of(grid, air, tracers))
 }
 
 /// An index that is mostly present.

@@ -26,7 +26,7 @@ returns : tie.Need-returns
 returns c =
     let tested : tie.After-common-places = search needs in
     let no : tie.Else1 = search needs in
-    common-placed (tested .common-places .ensures) (λ z. no .if1 .left (no .before .number .ensures ∙ z)) refl refl (c .not-placed .ensures)
+    common-placed (tested .common-places .ensures) (λ z. no .if1 .left (no .before .number .ensures ∙ z)) refl refl refl (c .not-placed .ensures)
 
 -- places 1 to 4 are passed
 passed : (c : tie.Then1) →
@@ -41,13 +41,13 @@ returns-2 : tie.Need-returns-2
 returns-2 c =
     let common : tie.Then1 = search needs in
     let no : tie.Else2 = search needs in
-    stop (own-left (passed common) refl refl) (missing (no .if2 .left)) (c .not-placed2 .ensures) refl
+    stop (own-left (passed common) refl refl refl) (missing (no .if2 .left)) (c .not-placed2 .ensures) refl
 
 -- the tracer is there
 past-tracer : (c : tie.Then2) → let s : tie.Start = search needs in Left (world s) (Like (world s) (call s)) (absent (s .args .cell) worldCells ∷ [])
 past-tracer c =
     let common : tie.Then1 = search needs in
-    next (own-left (passed common) refl refl) (there (c .if2 .taken))
+    next (own-left (passed common) refl refl refl) (there (c .if2 .taken))
 
 world-cells-requires : tie.Need-world-cells-requires
 world-cells-requires c κs =

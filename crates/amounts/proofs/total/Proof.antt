@@ -18,7 +18,7 @@ world s = worldOf (s .args .g) (s .args .air .now) (s .args .tracers .now) (s .a
 returns : tie.Need-returns
 returns c =
     let tested : tie.After-common-places = search needs in
-    common-refused (tested .common-places .ensures) (λ z. c .if1 .left (c .before .number .ensures ∙ z)) refl refl
+    common-refused (tested .common-places .ensures) (λ z. c .if1 .left (c .before .number .ensures ∙ z)) refl refl refl
 
 -- places 1 to 4 are passed
 passed : (c : tie.Then1) →
@@ -32,7 +32,7 @@ passed c =
 returns-2 : tie.Need-returns-2
 returns-2 c =
     let common : tie.Then1 = search needs in
-    refuse (own-left (passed common) refl refl) (missing (c .if2 .left)) refl
+    refuse (own-left (passed common) refl refl refl) (missing (c .if2 .left)) refl
 
 array-read-sum : tie.Need-array-read-sum
 array-read-sum c =
@@ -52,7 +52,7 @@ returns-3 c =
     let start : tie.Start = search needs in
     let common : tie.Then1 = search needs in
     let named : tie.Then2 = search needs in
-    let left = next (own-left (passed common) refl refl) (there (named .if2 .taken)) in
+    let left = next (own-left (passed common) refl refl refl) (there (named .if2 .taken)) in
     accepted-agrees (none left) refl (passed common .total (start .args .tracer) (named .if2 .taken)) refl
 
 pub total-spec : {M : Type 1} → statement M

@@ -16,7 +16,7 @@ world s = worldOf (s .args .g) (s .args .air .now) (s .args .tracers .now) (s .a
 returns : tie.Need-returns
 returns c =
     let tested : tie.After-common-places = search needs in
-    common-refused (tested .common-places .ensures) (λ z. c .if1 .left (c .before .number .ensures ∙ z)) refl refl
+    common-refused (tested .common-places .ensures) (λ z. c .if1 .left (c .before .number .ensures ∙ z)) refl refl refl
 
 passed : (c : tie.Then1) →
     let s : tie.Start = search needs in

@@ -96,22 +96,29 @@ make-spec =
     returns-2
     (λ c. search needs)  -- same-length
     (λ c. search needs)  -- same-length-2
-    returns-3
     (λ c. search needs)  -- same-length-3
+    returns-3
     (λ c. search needs)  -- same-length-4
-    returns-4
     (λ c. search needs)  -- same-length-5
     (λ c. search needs)  -- same-length-6
-    returns-5
+    returns-4
     (λ c. search needs)  -- same-length-7
     (λ c. search needs)  -- same-length-8
-    returns-6
     (λ c. search needs)  -- same-length-9
+    returns-5
     (λ c. search needs)  -- same-length-10
-    returns-7
     (λ c. search needs)  -- same-length-11
     (λ c. search needs)  -- same-length-12
-    returns-8
+    returns-6
     (λ c. search needs)  -- same-length-13
     (λ c. search needs)  -- same-length-14
+    (λ c. search needs)  -- same-length-15
+    returns-7
+    (λ c. search needs)  -- same-length-16
+    (λ c. search needs)  -- same-length-17
+    (λ c. search needs)  -- same-length-18
+    returns-8
+    (λ c. search needs)  -- same-length-19
+    (λ c. search needs)  -- same-length-20
+    (λ c. search needs)  -- same-length-21
     returns-9)

@@ -1,9 +1,13 @@
--- `emitters::tick` meets its contract: place 6 from the total and the kept units, then the emission of all that stand.
-use mathlib.Core.Path.{sym, _∙_}
+-- `emitters::tick` meets its contract: place 6 from the total, the sum emitted and the kept units, then the emission of all that stand, and its entry.
+use Prim.Native.Nat.{ℕ, _+_, _-_, _≤_}
+use mathlib.Core.Path.{refl, sym, _∙_}
 use native.Mathlib.Omega.{arith}
+use Rattle.model.specs.Limits.{totalLimit, sumLimit, blockNumbers}
+use Rattle.model.specs.Basic.{part}
+use Rattle.model.specs.Books.{emittedSum}
 use Rattle.units.specs.Grid.{worldOf, in-range}
 use Rattle.emitters.specs.Place.{EmittersFound, tick-names, place-refuses, block-inside, block-lent, block-long}
-use Rattle.emitters.specs.Tick.{gas-inside, total-fits, tick-refused, emit-need, tick-agrees}
+use Rattle.emitters.specs.Tick.{gas-inside, total-fits, tick-refused, tick-room, emit-need, tick-agrees}
 use borrow.Author.Needs.{needs}
 use Rattle.emitters.proofs.tick.Statement.{statement}
 use Rattle.emitters.proofs.tick.Tie as tie
@@ -41,16 +45,27 @@ kept-units-requires c κs =
     let accepted : tie.Then1 = search needs in
     rw (block-lent (found accepted)) (block-long (found accepted))
 
-sub-if2 : tie.Need-sub-if2
-sub-if2 c =
+mul-emission-fits : tie.Need-mul-emission-fits
+mul-emission-fits c =
     let accepted : tie.Then1 = search needs in
-    omega (arith, total-fits (found accepted))
+    omega (arith, block-inside (found accepted) .1)
+
+part-emission-fits-end : tie.Need-part-emission-fits-end
+part-emission-fits-end c =
+    let accepted : tie.Then1 = search needs in
+    block-inside (found accepted) .0
+
+emission-fits-requires : tie.Need-emission-fits-requires
+emission-fits-requires c κs =
+    let accepted : tie.Then1 = search needs in
+    (rw (block-lent (found accepted)) (block-long (found accepted)), total-fits (found accepted))
 
 returns-2 : tie.Need-returns-2
 returns-2 c =
     let accepted : tie.Then1 = search needs in
     let kept : tie.After-kept-units = search needs in
-    tick-refused (found accepted) (kept .kept-units .ensures) (c .if2 .left)
+    let tested : tie.After-emission-fits = search needs in
+    tick-refused (found accepted) (kept .kept-units .ensures) (tested .emission-fits .ensures) (c .if2 .left)
 
 world-cells-requires : tie.Need-world-cells-requires
 world-cells-requires c κs =
@@ -97,16 +112,61 @@ emit-requires c κs =
     let kept : tie.After-kept-units = search needs in
     let room : tie.Then2 = search needs in
     let cells : tie.After-world-cells = search needs in
-    emit-need (found accepted) (kept .kept-units .ensures) (room .if2 .taken) (cells .world-cells .ensures .0)
+    emit-need (found accepted) (kept .kept-units .ensures) (room .before .emission-fits .ensures) (room .if2 .taken) (cells .world-cells .ensures .0)
+
+mul-enter-emitted : tie.Need-mul-enter-emitted
+mul-enter-emitted c =
+    let accepted : tie.Then1 = search needs in
+    omega (arith, block-inside (found accepted) .1)
+
+part-enter-emitted-end : tie.Need-part-enter-emitted-end
+part-enter-emitted-end c =
+    let accepted : tie.Then1 = search needs in
+    block-inside (found accepted) .0
+
+-- the room that the test leaves
+left : (c : tie.Then2) →
+    let s : tie.Start = search needs in
+    let place : tie.After-emitter-place = search needs in
+    let kept : tie.After-kept-units = search needs in
+    let at : ℕ = place .emitter-place .result .first in
+    (place .emitter-place .result .found + kept .kept-units .result ≤ totalLimit)
+    × (emittedSum (part (s .args .ledger .now) at (at + blockNumbers - at)) + kept .kept-units .result ≤ sumLimit)
+left c =
+    let accepted : tie.Then1 = search needs in
+    let kept : tie.After-kept-units = search needs in
+    tick-room (found accepted) (kept .kept-units .ensures) (c .before .emission-fits .ensures) (c .if2 .taken)
+
+cast-enter-emitted : tie.Need-cast-enter-emitted
+cast-enter-emitted c =
+    let room : tie.Then2 = search needs in
+    omega (arith, left room .0)
+
+enter-emitted-requires : tie.Need-enter-emitted-requires
+enter-emitted-requires c κs =
+    let accepted : tie.Then1 = search needs in
+    let room : tie.Then2 = search needs in
+    (rw (block-lent (found accepted)) (block-long (found accepted)), left room .1)
+
+-- what led to the emission
+abbrev accepted-then : tie.After-emit → tie.Then1
+accepted-then c = search needs
+
+abbrev room-then : tie.After-emit → tie.Then2
+room-then c = search needs
+
+abbrev kept-then : tie.After-emit → tie.After-kept-units
+kept-then c = search needs
+
+abbrev cells-then : tie.After-emit → tie.After-world-cells
+cells-then c = search needs
 
 returns-3 : tie.Need-returns-3
 returns-3 c =
-    let accepted : tie.Then1 = search needs in
-    let kept : tie.After-kept-units = search needs in
-    let room : tie.Then2 = search needs in
-    let cells : tie.After-world-cells = search needs in
     let emitted : tie.After-emit = search needs in
-    tick-agrees (found accepted) (kept .kept-units .ensures) (room .if2 .taken) (cells .world-cells .ensures .0) (emitted .emit .ensures)
+    let booked : tie.After-enter-emitted = search needs in
+    tick-agrees (found (accepted-then emitted)) (kept-then emitted .kept-units .ensures) (room-then emitted .before .emission-fits .ensures) (room-then emitted .if2 .taken)
+    (cells-then emitted .world-cells .ensures .0) (emitted .emit .ensures) refl (booked .enter-emitted .ensures)
 
 pub tick-spec : {M : Type 1} → statement M
 tick-spec =
@@ -115,6 +175,7 @@ tick-spec =
     (λ c κs. search needs)  -- emitter-place-requires
     (λ c κs. search needs)  -- number-requires
     (λ c. search needs)  -- same-length
+    (λ c. search needs)  -- same-length-2
     returns
     add-e
     mul-kept-units
@@ -122,8 +183,13 @@ tick-spec =
     (λ c. search needs)  -- part-kept-units-start
     part-kept-units-end
     kept-units-requires
-    sub-if2
-    (λ c. search needs)  -- same-length-2
+    mul-emission-fits
+    (λ c. search needs)  -- sub-emission-fits
+    (λ c. search needs)  -- part-emission-fits-start
+    part-emission-fits-end
+    emission-fits-requires
+    (λ c. search needs)  -- same-length-3
+    (λ c. search needs)  -- same-length-4
     returns-2
     world-cells-requires
     (λ c. search needs)  -- cast-cells
@@ -138,5 +204,12 @@ tick-spec =
     (λ c. search needs)  -- part-emit-start-2
     part-emit-end-2
     emit-requires
-    (λ c. search needs)  -- same-length-3
+    mul-enter-emitted
+    (λ c. search needs)  -- sub-enter-emitted
+    (λ c. search needs)  -- part-enter-emitted-start
+    part-enter-emitted-end
+    cast-enter-emitted
+    enter-emitted-requires
+    (λ c. search needs)  -- same-length-5
+    (λ c. search needs)  -- same-length-6
     returns-3)

@@ -31,7 +31,7 @@ returns : tie.Need-returns
 returns c =
     let no : tie.Else1 = search in
     let tested : tie.After-common-places = search in
-    common-placed (tested .common-places .ensures) (λ z. no .if1 .left (no .before .number .ensures ∙ z)) refl refl (c .not-placed .ensures)
+    common-placed (tested .common-places .ensures) (λ z. no .if1 .left (no .before .number .ensures ∙ z)) refl refl refl (c .not-placed .ensures)
 
 -- places 1 to 4 and 21 are passed
 passed : (c : tie.Then1) →
@@ -46,13 +46,13 @@ returns-2 : tie.Need-returns-2
 returns-2 c =
     let no : tie.Else2 = search in
     let common : tie.Then1 = search in
-    stop (own-left (passed common) refl refl) (missing (no .if2 .left)) (c .not-placed2 .ensures) refl
+    stop (own-left (passed common) refl refl refl) (missing (no .if2 .left)) (c .not-placed2 .ensures) refl
 
 -- the layer is there
 past-layer : (c : tie.Then2) → let s : tie.Start = search in LeftAt s fromFluxes
 past-layer c =
     let common : tie.Then1 = search in
-    next (own-left (passed common) refl refl) (there (c .if2 .taken))
+    next (own-left (passed common) refl refl refl) (there (c .if2 .taken))
 
 returns-3 : tie.Need-returns-3
 returns-3 c =

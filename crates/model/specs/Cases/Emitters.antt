@@ -9,7 +9,7 @@ use lib.ListN.{length, set}
 use Rattle.model.specs.Basic.{joined, tab, zeros}
 use Rattle.model.specs.World.{World, withAmounts, withLedger}
 use Rattle.model.specs.Step.{Call, load, emission, withdrawal, zonal, longZonal, meridional, remap, total, cell, addEmitter, removeEmitter, tick, unitsATick}
-use Rattle.model.specs.Cases.{Case, Hold, hold, computes}
+use Rattle.model.specs.Cases.{Case, Hold, hold, computes, onRecord, exchanging}
 use Rattle.model.specs.Cases.Marked.{grid, four, six, hundreds, refuses}
 
 -- ---- ledgers
@@ -17,7 +17,7 @@ use Rattle.model.specs.Cases.Marked.{grid, four, six, hundreds, refuses}
 abbrev one : ℕ → ℕ → ℕ → List ℕ
 one id c units = id ∷ c ∷ units ∷ []
 
--- a block of 56 numbers: how many stand, the two halves of their sum, the emitters, and 0; then the first limiter
+-- a block of 56 numbers, without its book: how many stand, the two halves of their sum, the emitters, and 0; then the first limiter
 abbrev holding : ℕ → ℕ → ℕ → List (List ℕ) → List ℕ
 holding n low high emitters =
     let numbers : List ℕ = joined emitters in
@@ -58,7 +58,7 @@ abbrev gases : List ℕ
 gases = six 0 0 100 200 100 0 ++ six 5 7 11 13 17 19
 
 abbrev having : List ℕ → List ℕ → World
-having tracers ledger = record { grid = grid 4 1 1 2; air = hundreds; tracers = tracers; ledger = ledger }
+having tracers ledger = record { grid = grid 4 1 1 2; air = hundreds; tracers = tracers; ledger = onRecord (grid 4 1 1 2) tracers ledger }
 
 abbrev two : List ℕ → List ℕ → World
 two first second = having gases (first ++ second)
@@ -66,7 +66,18 @@ two first second = having gases (first ++ second)
 -- two layers, grid 4, 1, 2, 2, and a block with emitters in the second one
 abbrev deep : List ℕ → World
 deep ledger =
-    record { grid = grid 4 1 2 2; air = hundreds ++ hundreds; tracers = gases ++ six 21 22 23 24 25 26 ++ six 27 28 29 30 31 32; ledger = ledger }
+    let tracers : List ℕ = gases ++ six 21 22 23 24 25 26 ++ six 27 28 29 30 31 32 in
+    record { grid = grid 4 1 2 2; air = hundreds ++ hundreds; tracers = tracers; ledger = onRecord (grid 4 1 2 2) tracers ledger }
+
+-- three tracers
+abbrev thrice : List ℕ → World
+thrice ledger =
+    let tracers : List ℕ = gases ++ six 21 22 23 24 25 26 in
+    record { grid = grid 4 1 1 3; air = hundreds; tracers = tracers; ledger = onRecord (grid 4 1 1 3) tracers ledger }
+
+-- one with a cell without air
+abbrev hollow : List ℕ → List ℕ → World
+hollow tracers ledger = withAmounts (having tracers ledger) (set hundreds 0 0) tracers
 
 abbrev second : List ℕ
 second = holding 2 70 0 (one 1 6 30 ∷ one 2 11 40 ∷ [])
@@ -77,10 +88,10 @@ leaves label w call count next =
     record { label = label; world = w; call = call; expected = record { answer = 0; count = count; next = next } }
 
 abbrev enters : String → World → Call → List ℕ → Case
-enters label w call ledger = leaves label w call 0 (withLedger w ledger)
+enters label w call ledger = leaves label w call 0 (withLedger w (onRecord (w .grid) (w .tracers) ledger))
 
 abbrev emits : String → World → Call → List ℕ → Case
-emits label w call tracers = leaves label w call 0 (withAmounts w (w .air) tracers)
+emits label w call tracers = leaves label w call 0 (exchanging w tracers)
 
 abbrev reads : String → World → Call → ℕ → Case
 reads label w call count = leaves label w call count w
@@ -139,7 +150,7 @@ ticks =
     enters "y2-70 last cell" (deep (none ++ holding 1 30 0 (one 1 6 30 ∷ []))) (addEmitter 1 11 2 40) (none ++ second) ∷
     refuses "y2-70 absent" (deep (none ++ second)) (addEmitter 1 12 3 50) 5 ∷
     emits "y2-70 tick" (deep (none ++ second)) (tick 1) (gases ++ six 21 22 23 24 25 26 ++ six 57 28 29 30 31 72) ∷
-    emits "y2-76" (record { grid = grid 4 1 1 3; air = hundreds; tracers = gases ++ six 21 22 23 24 25 26; ledger = single ++ three ++ holding 2 259 0 (one 7 3 250 ∷ one 50 4 9 ∷ []) }) (tick 2)
+    emits "y2-76" (thrice (single ++ three ++ holding 2 259 0 (one 7 3 250 ∷ one 50 4 9 ∷ []))) (tick 2)
     (gases ++ six 21 22 23 274 34 26) ∷
     []
 
@@ -172,33 +183,33 @@ faults =
     refuses "y2-54" (two sixteen single) (addEmitter 0 6 50 1) 5 ∷
     refuses "y2-55" (two single falseSum) (removeEmitter 0 50) 5 ∷
     refuses "y2-56" (having (six 0 0 268435455 0 0 0 ++ six 5 7 11 13 17 19) (single ++ falseSum)) (tick 0) 5 ∷
-    refuses "y2-62" (record { grid = grid 4 1 1 2; air = set hundreds 0 0; tracers = set gases 0 268435455; ledger = falseSum ++ seventeen }) (tick 2) 3 ∷
+    refuses "y2-62" (hollow (set gases 0 268435455) (falseSum ++ seventeen)) (tick 2) 3 ∷
     refuses "y2-63" (having (set gases 0 268435455) (falseSum ++ seventeen)) (unitsATick 2) 4 ∷
     refuses "y2-77" (record { grid = grid 4 1 33 2; air = hundreds; tracers = gases; ledger = single ++ single }) (addEmitter 0 0 50 1) 1 ∷
-    refuses "y2-75" (record { grid = grid 4 1 1 3; air = hundreds; tracers = gases ++ six 21 22 23 24 25 26; ledger = single ++ single ++ falseSum }) (tick 1) 5 ∷
+    refuses "y2-75" (thrice (single ++ single ++ falseSum)) (tick 1) 5 ∷
     []
 
 -- ---- 2: a ledger of another length than the grid's, in every call
 abbrev lent : ℕ → World
-lent n = having gases (zeros n)
+lent n = withLedger (two none none) (zeros n)
 
 abbrev lengths : List Case
 lengths =
-    refuses "y2-57 load" (lent 111) load 2 ∷
-    refuses "y2-57 emission" (lent 111) (emission 0 3 7) 2 ∷
-    refuses "y2-57 withdrawal" (lent 111) (withdrawal 0 3 7) 2 ∷
-    refuses "y2-57 zonal" (lent 111) (zonal 0 0 (four (pos 0) (pos 50) (pos 0) (pos 0))) 2 ∷
-    refuses "y2-57 long" (lent 111) (longZonal 0 0 (four (pos 0) (pos 0) (pos 50) (pos 0))) 2 ∷
-    refuses "y2-57 meridional" (lent 111) (meridional 0 (four (pos 10) (pos 0) (pos 0) (pos 0) ++ four (pos 0) (pos 0) (pos 0) (negℤ (pos 10)))) 2 ∷
-    refuses "y2-57 remap" (lent 111) (remap (four 0 0 0 65536)) 2 ∷
-    refuses "y2-57 total" (lent 111) (total 0) 2 ∷
-    refuses "y2-57 cell" (lent 111) (cell 0 3) 2 ∷
-    refuses "y2-57 added" (lent 111) (addEmitter 0 0 50 1) 2 ∷
-    refuses "y2-57 removed" (lent 111) (removeEmitter 0 7) 2 ∷
-    refuses "y2-57 tick" (lent 111) (tick 0) 2 ∷
-    refuses "y2-57 reading" (lent 111) (unitsATick 0) 2 ∷
-    refuses "y2-58" (lent 113) (emission 0 3 7) 2 ∷
-    refuses "y2-59" (lent 56) (tick 0) 2 ∷
+    refuses "y2-57 load" (lent 117) load 2 ∷
+    refuses "y2-57 emission" (lent 117) (emission 0 3 7) 2 ∷
+    refuses "y2-57 withdrawal" (lent 117) (withdrawal 0 3 7) 2 ∷
+    refuses "y2-57 zonal" (lent 117) (zonal 0 0 (four (pos 0) (pos 50) (pos 0) (pos 0))) 2 ∷
+    refuses "y2-57 long" (lent 117) (longZonal 0 0 (four (pos 0) (pos 0) (pos 50) (pos 0))) 2 ∷
+    refuses "y2-57 meridional" (lent 117) (meridional 0 (four (pos 10) (pos 0) (pos 0) (pos 0) ++ four (pos 0) (pos 0) (pos 0) (negℤ (pos 10)))) 2 ∷
+    refuses "y2-57 remap" (lent 117) (remap (four 0 0 0 65536)) 2 ∷
+    refuses "y2-57 total" (lent 117) (total 0) 2 ∷
+    refuses "y2-57 cell" (lent 117) (cell 0 3) 2 ∷
+    refuses "y2-57 added" (lent 117) (addEmitter 0 0 50 1) 2 ∷
+    refuses "y2-57 removed" (lent 117) (removeEmitter 0 7) 2 ∷
+    refuses "y2-57 tick" (lent 117) (tick 0) 2 ∷
+    refuses "y2-57 reading" (lent 117) (unitsATick 0) 2 ∷
+    refuses "y2-58" (lent 119) (emission 0 3 7) 2 ∷
+    refuses "y2-59" (lent 59) (tick 0) 2 ∷
     refuses "y2-60" (record { grid = grid 3 1 1 2; air = hundreds; tracers = gases; ledger = [] }) load 1 ∷
     refuses "y2-61" (record { grid = grid 4 1 1 2; air = set hundreds 0 0; tracers = gases; ledger = [] }) load 2 ∷
     []
@@ -211,7 +222,7 @@ abbrev others : List Case
 others =
     enters "y2-64" (two (holding 3 0 0 (one 7 3 250 ∷ one 8 1 20 ∷ one 9 5 30 ∷ remains)) (holding 17 80 0 (tab 16 (λ i. one 5 5 5)))) load (none ++ none) ∷
     enters "y2-65" (two three single) load (none ++ none) ∷
-    refuses "y2-66" (record { grid = grid 4 1 1 2; air = set hundreds 0 0; tracers = gases; ledger = three ++ single }) load 3 ∷
+    refuses "y2-66" (hollow gases (three ++ single)) load 3 ∷
     refuses "y2-67" (having (set gases 0 268435455) (falseSum ++ seventeen)) load 4 ∷
     emits "y2-68 emission" broken (emission 0 3 7) (six 0 0 100 207 100 0 ++ six 5 7 11 13 17 19) ∷
     emits "y2-68 withdrawal" (having (six 0 0 100 207 100 0 ++ six 5 7 11 13 17 19) (falseSum ++ seventeen)) (withdrawal 0 3 7) gases ∷

@@ -11,10 +11,10 @@ use Rattle.model.specs.World.{Grid, World, withAmounts, withLedger}
 use Rattle.model.specs.Emitters.{half}
 use Rattle.model.specs.Limiters.{Limiter}
 use Rattle.model.specs.Step.{Call, load, zonal, longZonal, meridional, remap, countZonal, zonalWithCount, setLimiter}
-use Rattle.model.specs.Cases.{Case, Hold, hold, computes}
+use Rattle.model.specs.Cases.{Case, Hold, hold, computes, onRecord, exchanging}
 use Rattle.model.specs.Cases.Marked.{grid, four, six, refuses, hundreds}
 
--- ---- limiters, and the ledger that they stand in, without emitters
+-- ---- limiters, and the ledger that they stand in, without emitters and before the books
 abbrev pub limiter : ℕ → ℕ → ℕ → Limiter
 limiter number lo hi = record { number = number; lo = lo; hi = hi }
 
@@ -60,7 +60,7 @@ minus n = negℤ (pos n)
 
 -- ---- worlds
 abbrev pub lent : Grid → List ℕ → List ℕ → List ℕ → World
-lent g air tracers ledger = record { grid = g; air = air; tracers = tracers; ledger = ledger }
+lent g air tracers ledger = record { grid = g; air = air; tracers = tracers; ledger = onRecord g tracers ledger }
 
 abbrev pub single : List ℕ → Limiter → World
 single tracers l = lent (grid 4 1 1 1) hundreds tracers (blocks (l ∷ []))
@@ -74,10 +74,10 @@ leaves label w call count next =
     record { label = label; world = w; call = call; expected = record { answer = 0; count = count; next = next } }
 
 abbrev pub moves : String → World → Call → ℕ → List ℕ → List ℕ → Case
-moves label w call count air tracers = leaves label w call count (withAmounts w air tracers)
+moves label w call count air tracers = leaves label w call count (withAmounts (exchanging w tracers) air tracers)
 
 abbrev pub writes : String → World → Call → List ℕ → Case
-writes label w call ledger = leaves label w call 0 (withLedger w ledger)
+writes label w call ledger = leaves label w call 0 (withLedger w (onRecord (w .grid) (w .tracers) ledger))
 
 abbrev pub reads : String → World → Call → ℕ → Case
 reads label w call count = leaves label w call count w

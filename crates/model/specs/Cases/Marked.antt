@@ -7,16 +7,22 @@ use mathlib.Core.Path.{refl}
 use lib.IntN.{ℤ, pos, negℤ}
 use lib.ListN.{replicate}
 use Rattle.model.specs.Basic.{joined, tab, zeros}
-use Rattle.model.specs.World.{Grid, World}
+use Rattle.model.specs.World.{Grid, World, withAmounts}
 use Rattle.model.specs.Step.{Call, emission, zonal, remap}
-use Rattle.model.specs.Cases.{Case, Hold, hold, computes}
+use Rattle.model.specs.Cases.{Case, Hold, hold, computes, onRecord, exchanging}
 
 -- a grid, a world with the ledger that a load leaves, four fluxes, six amounts: south cap, row of four, north cap
 abbrev pub grid : ℕ → ℕ → ℕ → ℕ → Grid
 grid W R K N = record { W = W; R = R; K = K; N = N }
 
 abbrev pub world : Grid → List ℕ → List ℕ → World
-world g air tracers = record { grid = g; air = air; tracers = tracers; ledger = joined (tab (g .N) (λ t. zeros 51 ++ 1 ∷ 0 ∷ 0 ∷ 0 ∷ 0 ∷ [])) }
+world g air tracers =
+    record {
+      grid = g;
+      air = air;
+      tracers = tracers;
+      ledger = onRecord g tracers (joined (tab (g .N) (λ t. zeros 51 ++ 1 ∷ 0 ∷ 0 ∷ 0 ∷ 0 ∷ [])));
+    }
 
 abbrev pub four : {A : Type 0} → A → A → A → A → List A
 four a b c d = a ∷ b ∷ c ∷ d ∷ []
@@ -34,7 +40,7 @@ gives label w call count air tracers =
       label = label;
       world = w;
       call = call;
-      expected = record { answer = 0; count = count; next = world (w .grid) air tracers };
+      expected = record { answer = 0; count = count; next = withAmounts (exchanging w tracers) air tracers };
     }
 
 abbrev pub refuses : String → World → Call → ℕ → Case

@@ -8,7 +8,7 @@ use lib.IntN.{ℤ, pos, negℤ}
 use lib.ListN.{replicate}
 use Rattle.model.specs.World.{World}
 use Rattle.model.specs.Step.{Call, countZonal, zonalWithCount}
-use Rattle.model.specs.Cases.{Case, Hold, hold, computes}
+use Rattle.model.specs.Cases.{Case, Hold, hold, computes, onRecord}
 use Rattle.model.specs.Cases.Marked.{grid, world, four, six, row, gives, refuses, hundreds, peak}
 use Rattle.model.specs.Cases.Further.{keeps, ten}
 
@@ -51,7 +51,8 @@ wind = four (pos 101) (pos 98) (pos 105) (pos 96)
 
 -- a world whose ledger no call on emitters would take
 abbrev broken : List ℕ → List ℕ → World
-broken air tracers = record { grid = grid 4 1 1 1; air = air; tracers = tracers; ledger = 17 ∷ replicate 50 9 ++ 1 ∷ 0 ∷ 0 ∷ 0 ∷ 0 ∷ [] }
+broken air tracers =
+    record { grid = grid 4 1 1 1; air = air; tracers = tracers; ledger = onRecord (grid 4 1 1 1) tracers (17 ∷ replicate 50 9 ++ 1 ∷ 0 ∷ 0 ∷ 0 ∷ 0 ∷ []) }
 
 abbrev peakBroken : World
 peakBroken = broken hundreds (six 0 0 100 200 100 0)
@@ -112,7 +113,7 @@ presses =
     refuses "y5-34 count, more" peak (countZonal 0 0 (four (pos 0) (pos 50) (pos 0) (pos 0) ++ (pos 0 ∷ []))) 2 ∷
     refuses "y5-34" peak (zonalWithCount 0 0 1 (pos 0 ∷ pos 50 ∷ pos 0 ∷ [])) 2 ∷
     refuses "y5-35" (row (six 0 100 100 100 100 100) (six 0 0 100 200 100 0)) (zonalWithCount 1 1 0 (pos 1048561 ∷ pos 0 ∷ pos 0 ∷ [])) 2 ∷
-    refuses "y5-38" (record { grid = grid 4 1 1 1; air = hundreds; tracers = six 0 0 100 200 100 0; ledger = replicate 51 0 ++ four 1 0 0 0 }) (given 0 (pos 0) (pos 50) (pos 0) (pos 0)) 2 ∷
+    refuses "y5-38" (record { grid = grid 4 1 1 1; air = hundreds; tracers = six 0 0 100 200 100 0; ledger = replicate 51 0 ++ four 1 0 0 0 ++ 0 ∷ 400 ∷ 0 ∷ [] }) (given 0 (pos 0) (pos 50) (pos 0) (pos 0)) 2 ∷
     refuses "y5-40" (world (grid 3 1 1 1) (replicate 5 100) (0 ∷ 0 ∷ 100 ∷ 200 ∷ 0 ∷ [])) (zonalWithCount 0 0 0 (pos 0 ∷ pos 50 ∷ pos 0 ∷ [])) 1 ∷
     -- a broken record of emitters is not tested
     record {

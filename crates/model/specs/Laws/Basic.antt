@@ -1,7 +1,7 @@
 -- Laws of the words of Basic.antt: sums, lists of values, every, some, smallest, a part of a list and a part written.
 use Prim.Native.Nat.{ℕ, zero, suc, _+_, _*_, _-_, _≤_, _<_, min}
 use mathlib.Core.List.{List, [], _∷_, _++_, append-assoc}
-use mathlib.Core.Bool.{Bool, true, false, and-eq-true-iff, or-true, or-false, _&&_, _||_, false≢true}
+use mathlib.Core.Bool.{Bool, true, false, and-eq-true-iff, or-true, or-false, _&&_, _||_, false≢true, true≢false}
 use mathlib.Core.Path.{_≡_, refl, sym, _∙_, ap, ap₂}
 use mathlib.Core.Logic.{_⊎_, inl, inr, ⊎-elim, _≢_}
 use native.Mathlib.Nat.{min-le-left, mul-le-mul-right, zero-add, zero-mul, suc-mul, add-zero, add-assoc, mul-zero, le-refl, add-suc, eq-or-lt-of-le}
@@ -172,6 +172,13 @@ tab-ext n f g h = tab-from-ext 0 n f g (λ t p. h t (omega arith))
 -- ---- every and some
 pub both : (a b : Bool) → a && b ≡ true → (a ≡ true) × (b ≡ true)
 both a b e = and-eq-true-iff a b .0 e
+
+pub neither : (a b : Bool) → a || b ≡ false → (a ≡ false) × (b ≡ false)
+neither true b e = absurd (true≢false e)
+neither false b e = (refl, e)
+
+pub both-false : {a b : Bool} → a ≡ false → b ≡ false → a || b ≡ false
+both-false p q = rw (p, q)
 
 pub every-at : (n : ℕ) (p : ℕ → Bool) → every n p ≡ true → (i : ℕ) → i < n → p i ≡ true
 unfolding every

@@ -1,5 +1,5 @@
--- What one call keeps of a world, as a record of facts: an accepted call by its meaning, and from that any call, since a refused one changes nothing.
--- Assumes a world that calls reach; independence speaks of two such worlds that are alike.
+-- What one call keeps of a world, as a record of facts: an accepted call by its meaning, in every world, and from that any call in a world that calls reach, since a refused one changes nothing.
+-- Independence speaks of two such worlds that are alike.
 use Prim.Native.Nat.{ℕ, zero, suc, _+_, _<_}
 use mathlib.Core.List.{List, [], _∷_}
 use mathlib.Core.Bool.{Bool, true, false, not, false≢true}
@@ -9,43 +9,89 @@ use borrow.Author.Tests.{ltb-true, lt-ltb, not-false}
 use lib.Dec.{ltb}
 use Rattle.model.specs.Basic.{at, sum}
 use Rattle.model.specs.World.{Grid, World, worldCells, gas, block, gasTotal, airTotal}
+use Rattle.model.specs.Books.{loadedSum, emittedSum, withdrawnSum}
 use Rattle.model.specs.Step.{Call, Place, firstOf, absent, Exchange, noExchange, Named, nobody, tracer, Meaning, meaning, reads, counts, lentFits, ownPlaces, accepted, refused, refusal, step}
 use Rattle.model.specs.Lists.{exchanged, added, HasRatio, CallInRange, hasFirst, Alike, namesOwn, namesNoOther, SameReply}
-use Rattle.model.specs.Laws.Step.{Reached, firstOf-same, step-accepted, step-refused, answer-is, own-refusal, lent-refusal, accepted-passed}
+use Rattle.model.specs.Laws.Emitters.{Sound}
+use Rattle.model.specs.Laws.Step.{Fits, Balanced, Reached, firstOf-same, step-accepted, step-refused, answer-is, own-refusal, lent-refusal, all-passed}
 
--- ---- what is kept from one world to a later one, where x t of gas t is exchanged
-pub record Kept (w next : World) (x : ℕ → Exchange) : Type 0 where
-  pub reached : Reached next
+-- ---- an entry in a tracer's book: x is added, and what was loaded stays
+pub record Entered (old new : List ℕ) (x : Exchange) : Type 0 where
+  pub loaded : loadedSum new ≡ loadedSum old
+  pub emitted : emittedSum new ≡ emittedSum old + x .emitted
+  pub withdrawn : withdrawnSum new ≡ withdrawnSum old + x .withdrawn
+
+pub entered-none : {b : List ℕ} → Entered b b noExchange
+entered-none = record { loaded = refl; emitted = omega arith; withdrawn = omega arith }
+
+-- ---- what an accepted call keeps from a world that passes places 1 to 4 to the next one, where it exchanges x t of gas t
+pub record Keeps (w next : World) (x : ℕ → Exchange) : Type 0 where
+  pub fits : Fits next
   pub sameGrid : next .grid ≡ w .grid
+  pub sound :
+      ((t : ℕ) → t < w .grid .N → Sound (worldCells (w .grid)) (block w t)) → (t : ℕ) → t < next .grid .N →
+      Sound (worldCells (next .grid)) (block next t)
+  pub booked : (t : ℕ) → t < w .grid .N → Entered (block w t) (block next t) (x t)
   pub gasKept : (t : ℕ) → t < w .grid .N → gasTotal next t + x t .withdrawn ≡ gasTotal w t + x t .emitted
   pub airKept : airTotal next ≡ airTotal w
   pub ratioKept : (t z : ℕ) → t < w .grid .N → x t .emitted ≡ 0 → x t .withdrawn ≡ 0 → HasRatio w t z → HasRatio next t z
 
-pub kept-same : {w : World} {x : ℕ → Exchange} → Reached w → ((t : ℕ) → x t ≡ noExchange) → Kept w w x
-kept-same {w} {x} reached none =
+keeps-same : {w : World} → Fits w → Keeps w w (λ t. noExchange)
+keeps-same fits =
     record {
-      reached = reached;
+      fits = fits;
       sameGrid = refl;
-      gasKept = λ t h. rw (none t);
+      sound = λ all. all;
+      booked = λ t h. entered-none;
+      gasKept = λ t h. refl;
       airKept = refl;
       ratioKept = λ t z h p q r. r;
     }
 
-kept-as : {w next : World} {x y : ℕ → Exchange} → ((t : ℕ) → y t ≡ x t) → Kept w next x → Kept w next y
-kept-as same k =
+-- books that balance go on balancing, since what moves a total is entered
+pub still-balanced : {w next : World} {x : ℕ → Exchange} → Balanced w → Keeps w next x → Balanced next
+still-balanced {w} {next} {x} all keeps t h =
+    let here : t < w .grid .N = rw (keeps .sameGrid) at h in
+    let book = keeps .booked t here in
+    omega (arith, all t here, book .loaded, book .emitted, book .withdrawn, keeps .gasKept t here)
+
+-- ---- what is kept from a world that calls reach to a later one, where x t of gas t is exchanged
+pub record Kept (w next : World) (x : ℕ → Exchange) : Type 0 where
+  pub reached : Reached next
+  pub sameGrid : next .grid ≡ w .grid
+  pub booked : (t : ℕ) → t < w .grid .N → Entered (block w t) (block next t) (x t)
+  pub gasKept : (t : ℕ) → t < w .grid .N → gasTotal next t + x t .withdrawn ≡ gasTotal w t + x t .emitted
+  pub airKept : airTotal next ≡ airTotal w
+  pub ratioKept : (t z : ℕ) → t < w .grid .N → x t .emitted ≡ 0 → x t .withdrawn ≡ 0 → HasRatio w t z → HasRatio next t z
+
+pub kept-from : {w next : World} {x y : ℕ → Exchange} → Reached w → ((t : ℕ) → y t ≡ x t) → Keeps w next x → Kept w next y
+kept-from reached same k =
     record {
-      reached = k .reached;
+      reached = record { fits = k .fits; blocks = k .sound (reached .blocks); balanced = still-balanced (reached .balanced) k };
       sameGrid = k .sameGrid;
+      booked = λ t h. rw (same t) (k .booked t h);
       gasKept = λ t h. rw (same t) (k .gasKept t h);
       airKept = k .airKept;
       ratioKept = λ t z h p q. k .ratioKept t z h (rw (same t) at p) (rw (same t) at q);
     }
+
+pub kept-same : {w : World} {x : ℕ → Exchange} → Reached w → ((t : ℕ) → x t ≡ noExchange) → Kept w w x
+kept-same reached none = kept-from reached none (keeps-same (reached .fits))
 
 pub kept-trans : {w v u : World} {x y : ℕ → Exchange} → Kept w v x → Kept v u y → Kept w u (λ t. added (x t) (y t))
 kept-trans {w} {v} {u} {x} {y} p q =
     record {
       reached = q .reached;
       sameGrid = q .sameGrid ∙ p .sameGrid;
+      booked =
+          λ t h.
+          let one = p .booked t h in
+          let two = q .booked t (still h) in
+          record {
+            loaded = two .loaded ∙ one .loaded;
+            emitted = omega (arith, one .emitted, two .emitted);
+            withdrawn = omega (arith, one .withdrawn, two .withdrawn);
+          };
       gasKept = λ t h. omega (arith, p .gasKept t h, q .gasKept t (still h));
       airKept = q .airKept ∙ p .airKept;
       ratioKept = λ t z h a b r. q .ratioKept t z (still h) (omega arith) (omega arith) (p .ratioKept t z h (omega arith) (omega arith) r);
@@ -124,12 +170,12 @@ module _ (own : ℕ → Bool) (w v : World) (alike : Alike own w v) where
       ap₂ (λ (g : Grid) (a : List ℕ). firstOf ps (record { grid = g; air = a; tracers = []; ledger = [] })) (alike .sameGrid) (alike .sameAir)
 
 -- ---- what a call keeps, by its meaning
--- one whose own places are passed; `alike` is for a call that names no other gas than the own ones, `apart` for one that names another
+-- one whose own places are passed, in a world that passes places 1 to 4; `alike` is for a call that names no other gas than the own ones, `apart` for one that names another
 pub record AcceptedKeeps (w : World) (m : Meaning) : Type 0 where
-  pub kept : Kept w (m .next w) (m .exchange w)
+  pub keeps : Keeps w (m .next w) (m .exchange w)
   pub inRange : (t : ℕ) → t < w .grid .N → hasFirst w t ≡ true → m .range w (m .next w) t
   pub alike :
-      (own : ℕ → Bool) (v : World) → Reached v → Alike own w v → namesOwn own w (m .names) ≡ true →
+      (own : ℕ → Bool) (v : World) → Fits v → Alike own w v → namesOwn own w (m .names) ≡ true →
       Alike own (m .next w) (m .next v) × (m .count w ≡ m .count v)
   pub apart : (own : ℕ → Bool) → namesOwn own w (m .names) ≡ false → Alike own w (m .next w)
 
@@ -138,7 +184,7 @@ pub record MeaningKeeps (m : Meaning) : Type 0 where
   pub samePlaces :
       (own : ℕ → Bool) (w v : World) → Reached w → Reached v → Alike own w v → namesOwn own w (m .names) ≡ true →
       firstOf (m .places) w ≡ firstOf (m .places) v
-  pub accepts : (w : World) → Reached w → firstOf (m .places) w ≡ 0 → AcceptedKeeps w m
+  pub accepts : (w : World) → Fits w → firstOf (m .places) w ≡ 0 → AcceptedKeeps w m
 
 -- a call that reads keeps all, if its places and its count read no other gas than the one that it names
 pub reads-keep :
@@ -150,11 +196,11 @@ reads-keep names ps count places counts =
     record {
       samePlaces = places;
       accepts =
-          λ w reached e.
+          λ w fits e.
           record {
-            kept = kept-same reached (λ t. refl);
+            keeps = keeps-same fits;
             inRange = λ t h first. tt;
-            alike = λ own v rv a named. (a, counts own w v a named e);
+            alike = λ own v fv a named. (a, counts own w v a named e);
             apart = λ own other. alike-same own w;
           };
     }
@@ -165,11 +211,11 @@ counts-keep keeps =
     record {
       samePlaces = keeps .samePlaces;
       accepts =
-          λ w reached e.
+          λ w fits e.
           record {
-            kept = kept-same reached (λ t. refl);
+            keeps = keeps-same fits;
             inRange = λ t h first. tt;
-            alike = λ own v rv a named. (a, keeps .accepts w reached e .alike own v rv a named .1);
+            alike = λ own v fv a named. (a, keeps .accepts w fits e .alike own v fv a named .1);
             apart = λ own other. alike-same own w;
           };
     }
@@ -190,15 +236,15 @@ exchange-refused : (w : World) (call : Call) (n : ℕ) → step w call .answer �
 exchange-refused w call n e t = rw (e, exchanged)
 
 module _ (call : Call) (keeps : MeaningKeeps (meaning call)) where
-  accepts : (w : World) → Reached w → refusal w call ≡ 0 → AcceptedKeeps w (meaning call)
+  pub accepts : (w : World) → refusal w call ≡ 0 → AcceptedKeeps w (meaning call)
   unfolding ownPlaces
-  accepts w reached e = keeps .accepts w reached (accepted-passed w call e .2)
+  accepts w e = let p = all-passed w call e in keeps .accepts w (p .fits) (p .own)
 
   step-kept : (w : World) → Reached w → (n : ℕ) → refusal w call ≡ n → Kept w (step w call .next) (λ t. exchanged w t call)
   unfolding accepted refused
   step-kept w reached zero e =
-      kept-as (exchange-accepted w call (answer-is w call ∙ e))
-      (rw (step-accepted w call e) (accepts w reached e .kept))
+      kept-from reached (exchange-accepted w call (answer-is w call ∙ e))
+      (rw (step-accepted w call e) (accepts w e .keeps))
   step-kept w reached (suc n) e =
       rw (step-refused w call n e) (kept-same reached (exchange-refused w call n (answer-is w call ∙ e)))
 
@@ -220,7 +266,7 @@ module _ (call : Call) (keeps : MeaningKeeps (meaning call)) where
       (own : ℕ → Bool) (w : World) → Reached w → namesNoOther own w call ≡ false → (n : ℕ) → refusal w call ≡ n →
       Alike own w (step w call .next)
   unfolding accepted refused
-  step-apart own w reached other zero e = rw (step-accepted w call e) (accepts w reached e .apart own other)
+  step-apart own w reached other zero e = rw (step-accepted w call e) (accepts w e .apart own other)
   step-apart own w reached other (suc n) e = rw (step-refused w call n e) (alike-same own w)
 
   -- one that names no other does the same in both worlds
@@ -230,7 +276,7 @@ module _ (call : Call) (keeps : MeaningKeeps (meaning call)) where
       Alike own (step w call .next) (step v call .next) × (step w call .count ≡ step v call .count)
   unfolding accepted refused
   step-alike own w v ww vv a named zero e f =
-      rw (step-accepted w call e, step-accepted v call f) (accepts w ww e .alike own v vv a named)
+      rw (step-accepted w call e, step-accepted v call f) (accepts w e .alike own v (vv .fits) a named)
   step-alike own w v ww vv a named (suc n) e f =
       rw (step-refused w call n e, step-refused v call n f) (a, refl)
 
@@ -253,7 +299,7 @@ module _ (call : Call) (keeps : MeaningKeeps (meaning call)) where
   unfolding accepted
   step-in-range w reached t h first e =
       let go = sym (answer-is w call) ∙ e in
-      rw (step-accepted w call go) (accepts w reached go .inRange t h first)
+      rw (step-accepted w call go) (accepts w go .inRange t h first)
 
   pub step-keeps : (w : World) → Reached w → StepKeeps w call
   step-keeps w reached =

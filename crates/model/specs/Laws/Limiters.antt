@@ -10,7 +10,7 @@ use borrow.Author.Tests.{eqb-true, ne-eqb, le-leb}
 use lib.Dec.{leb, eqb}
 use lib.ListN.{length, set, length-set}
 use lib.Seq.{getD-set-same, getD-set-other}
-use Rattle.model.specs.Limits.{emitterNumbers, blockNumbers}
+use Rattle.model.specs.Limits.{emitterNumbers, blockNumbers, numbersBeforeBook}
 use Rattle.model.specs.Basic.{at, distance}
 use Rattle.model.specs.World.{World}
 use Rattle.model.specs.Scheme.{Rule, plain, bounded, mismatch}
@@ -102,7 +102,7 @@ pub third-second : (lo hi qa q qb : ℕ) → fixedRule lo hi qa q qb .size ≤ p
 unfolding bounded positiveRule
 third-second lo hi qa q qb = limit-rises (distance qa qb / 2) (min (2 * (q - lo)) (2 * (hi - q))) (2 * q) (omega arith)
 
--- ---- what stands in a block in which a limiter was set: behind the emitters' numbers the limiter's, and the others as they were
+-- ---- what stands in a block in which a limiter was set: behind the emitters' numbers the limiter's, and the others, before and behind these, as they were
 module _ (b : List ℕ) (l : Limiter) where
   -- the block after each of the numbers that are written, but the last
   abbrev b₁ : List ℕ
@@ -132,6 +132,12 @@ module _ (b : List ℕ) (l : Limiter) where
 
   pub limiter-rest : (k : ℕ) → k < emitterNumbers → at (withLimiter b l) k ≡ at b k
   limiter-rest k h = past-1 k (omega arith) ∙ getD-set-other b 51 k (l .number) 0 (omega arith)
+
+  pub limiter-behind : (k : ℕ) → numbersBeforeBook ≤ k → at (withLimiter b l) k ≡ at b k
+  limiter-behind k h =
+      getD-set-other b₄ 55 k (l .hi / half) 0 (omega arith) ∙ getD-set-other b₃ 54 k (l .hi % half) 0 (omega arith) ∙
+      getD-set-other b₂ 53 k (l .lo / half) 0 (omega arith) ∙ getD-set-other b₁ 52 k (l .lo % half) 0 (omega arith) ∙
+      getD-set-other b 51 k (l .number) 0 (omega arith)
 
   module _ (many : length b ≡ blockNumbers) where
     pub length-limiter : length (withLimiter b l) ≡ blockNumbers

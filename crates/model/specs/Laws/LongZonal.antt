@@ -20,11 +20,11 @@ use Rattle.model.specs.Range.{LongInRange}
 use Rattle.model.specs.Lists.{hasFirst}
 use Rattle.model.specs.Laws.Basic.{le-or-lt, every-at}
 use Rattle.model.specs.Laws.Grid.{in-range, row-inside}
-use Rattle.model.specs.Laws.Step.{Fits, Reached, passed, found, accepted-passed}
+use Rattle.model.specs.Laws.Step.{Fits, passed, found, accepted-passed}
 use Rattle.model.specs.Laws.Substep.{AirIn}
 use Rattle.model.specs.Laws.Limiters.{rule-limited, rule-monotone}
-use Rattle.model.specs.Laws.Keeps.{Kept, air-alike, MeaningKeeps}
-use Rattle.model.specs.Laws.Part.{cells-in, part-kept, ChangesOnly, part-air-is, part-gas-is, part-only, step-changes-only, part-alike}
+use Rattle.model.specs.Laws.Keeps.{Keeps, air-alike, MeaningKeeps}
+use Rattle.model.specs.Laws.Part.{cells-in, part-keeps, ChangesOnly, part-air-is, part-gas-is, part-only, step-changes-only, part-alike}
 use Rattle.model.specs.Laws.Long.{LongServes, length-long-air, length-long-gas, long-air, long-gas, long-in-range}
 
 -- no flux passes a limit that the fluxes keep within; one that is not lent is 0
@@ -87,10 +87,10 @@ module _ (w : World) (fits : Fits w) (a : ℕ) (fluxes : List ℤ) (s : LongSwee
   swept-only =
       part-only w fits a (w .grid .W) (s .inside) new change (length-long-air (w .grid .W) fluxes old) change-many
 
-  swept-kept : Reached w → Kept w (longSwept w a fluxes) (λ t. noExchange)
+  swept-keeps : Keeps w (longSwept w a fluxes) (λ t. noExchange)
   unfolding longSwept
-  swept-kept reached =
-      part-kept w reached a (w .grid .W) (s .inside) new change
+  swept-keeps =
+      part-keeps w fits a (w .grid .W) (s .inside) new change
       (long-air (w .grid .W) fluxes old (s .serves))
       (λ t. long-gas (w .grid .W) fluxes old (s .serves) old-in (rule-limited w t))
 
@@ -108,15 +108,14 @@ long-keeps k r fluxes =
     record {
       samePlaces = λ own w v ww vv a named. air-alike own w v a (ownPlaces (longZonal k r fluxes));
       accepts =
-          λ w reached e.
-          let fits = reached .fits in
+          λ w fits e.
           let s = own-sweeps k r fluxes w fits e in
           record {
-            kept = swept-kept w fits _ fluxes s reached;
+            keeps = swept-keeps w fits _ fluxes s;
             inRange = swept-in-range w fits _ fluxes s;
             alike =
-                λ own v vv a named.
-                (part-alike (λ g. rowStart g k r) (λ g. g .W) (λ g. longAir (g .W) fluxes) (λ rule g. longGas rule (g .W) fluxes) (λ g row e. length-long-air (g .W) fluxes row) (λ rule g row had e. length-long-gas rule (g .W) fluxes row had) own w v fits (vv .fits) a (s .inside), refl);
+                λ own v fv a named.
+                (part-alike (λ g. rowStart g k r) (λ g. g .W) (λ g. longAir (g .W) fluxes) (λ rule g. longGas rule (g .W) fluxes) (λ g row e. length-long-air (g .W) fluxes row) (λ rule g row had e. length-long-gas rule (g .W) fluxes row had) own w v fits fv a (s .inside), refl);
             apart = λ own other. absurd (true≢false other);
           };
     }

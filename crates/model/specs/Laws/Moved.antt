@@ -1,5 +1,5 @@
 -- What a call that moves air keeps, where the new air and the change of each gas keep their own.
--- Assumes a world that calls reach; for two worlds alike, that each gas keeps its number of amounts.
+-- Assumes a world that passes places 1 to 4; for two worlds alike, that each gas keeps its number of amounts.
 use Prim.Native.Nat.{ℕ, _+_, _*_, _≤_, _<_}
 use mathlib.Core.List.{List}
 use mathlib.Core.Bool.{Bool, true, false}
@@ -13,8 +13,8 @@ use Rattle.model.specs.Step.{noExchange}
 use Rattle.model.specs.Lists.{Alike}
 use Rattle.model.specs.Laws.Substep.{AirIn}
 use Rattle.model.specs.Laws.World.{length-gas, gas-absent, length-moved, gas-moved}
-use Rattle.model.specs.Laws.Step.{Fits, Reached}
-use Rattle.model.specs.Laws.Keeps.{Kept}
+use Rattle.model.specs.Laws.Step.{Fits}
+use Rattle.model.specs.Laws.Keeps.{Keeps, entered-none}
 
 -- the amounts of every cell have z units for each unit of air
 abbrev pub Even : ℕ → ℕ → List ℕ → List ℕ → Type 0
@@ -32,32 +32,28 @@ pub record KeepsGas (cells : ℕ) (air new : List ℕ) (change : List ℕ → Li
   pub gasKept : (had : List ℕ) → length had ≡ cells → sum cells (at (change had)) ≡ sum cells (at had)
   pub evenKept : (had : List ℕ) (z : ℕ) → length had ≡ cells → Even cells z air had → Even cells z new (change had)
 
-pub moved-kept :
-    (w : World) → Reached w → (new : List ℕ) (change : ℕ → List ℕ → List ℕ) → KeepsAir (worldCells (w .grid)) (w .air) new →
-    ((t : ℕ) → KeepsGas (worldCells (w .grid)) (w .air) new (change t)) → Kept w (moved w new change) (λ t. noExchange)
-moved-kept w reached new change air gases =
+pub moved-keeps :
+    (w : World) → Fits w → (new : List ℕ) (change : ℕ → List ℕ → List ℕ) → KeepsAir (worldCells (w .grid)) (w .air) new →
+    ((t : ℕ) → KeepsGas (worldCells (w .grid)) (w .air) new (change t)) → Keeps w (moved w new change) (λ t. noExchange)
+moved-keeps w fits new change air gases =
     record {
-      reached =
+      fits =
           record {
-            fits = record {
-              grid = fits .grid;
-              airLength = air .airLength;
-              tracersLength = length-moved w new change as-many;
-              ledgerLength = fits .ledgerLength;
-              air = air .airIn;
-              totals = λ t h. rw (total t h) (fits .totals t h);
-            };
-            blocks = reached .blocks;
+            grid = fits .grid;
+            airLength = air .airLength;
+            tracersLength = length-moved w new change as-many;
+            ledgerLength = fits .ledgerLength;
+            air = air .airIn;
+            totals = λ t h. rw (total t h) (fits .totals t h);
           };
       sameGrid = refl;
+      sound = λ all. all;
+      booked = λ t h. entered-none;
       gasKept = λ t h. ap (λ (x : ℕ). x + 0) (total t h);
       airKept = air .airKept;
       ratioKept = λ t z h no-in no-out r. rw (gas-moved w new change as-many t h) (gases t .evenKept (gas w t) z (had t h) r);
     }
   where
-    fits : Fits w
-    fits = reached .fits
-
     had : (t : ℕ) → t < w .grid .N → length (gas w t) ≡ worldCells (w .grid)
     had t h = length-gas w t (fits .tracersLength) h
 

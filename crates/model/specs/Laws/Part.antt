@@ -16,9 +16,9 @@ use Rattle.model.specs.Lists.{Alike}
 use Rattle.model.specs.Laws.Basic.{length-part, at-part, InPart, Outside, part-or-outside, Apart, part-apart, length-written, at-written-within, at-written-outside, part-written, sum-written}
 use Rattle.model.specs.Laws.Substep.{AirIn}
 use Rattle.model.specs.Laws.World.{length-gas, length-moved, gas-moved}
-use Rattle.model.specs.Laws.Step.{Fits, Reached, step-accepted, step-refused}
-use Rattle.model.specs.Laws.Keeps.{Kept}
-use Rattle.model.specs.Laws.Moved.{Even, KeepsAir, KeepsGas, moved-kept, moved-alike}
+use Rattle.model.specs.Laws.Step.{Fits, step-accepted, step-refused}
+use Rattle.model.specs.Laws.Keeps.{Keeps}
+use Rattle.model.specs.Laws.Moved.{Even, KeepsAir, KeepsGas, moved-keeps, moved-alike}
 
 -- some of the cells have air of 1 to 65,535, where all have
 pub cells-in : (a m cells : ℕ) → a + m ≤ cells → (air : List ℕ) → AirIn cells air → AirIn m (part air a m)
@@ -76,14 +76,13 @@ module _ (a m cells : ℕ) (inside : a + m ≤ cells) (air new : List ℕ) (whol
         }
 
 -- ---- the world after such a call
-pub part-kept :
-    (w : World) → Reached w → (a m : ℕ) → a + m ≤ worldCells (w .grid) → (new : List ℕ) (change : ℕ → List ℕ → List ℕ) →
+pub part-keeps :
+    (w : World) → Fits w → (a m : ℕ) → a + m ≤ worldCells (w .grid) → (new : List ℕ) (change : ℕ → List ℕ → List ℕ) →
     KeepsAir m (part (w .air) a m) new → ((t : ℕ) → KeepsGas m (part (w .air) a m) new (change t)) →
-    Kept w (movedPart w a m new change) (λ t. noExchange)
-part-kept w reached a m inside new change air gases =
+    Keeps w (movedPart w a m new change) (λ t. noExchange)
+part-keeps w fits a m inside new change air gases =
     let cells : ℕ = worldCells (w .grid) in
-    let fits = reached .fits in
-    moved-kept w reached _ _
+    moved-keeps w fits _ _
     (part-air a m cells inside (w .air) new (fits .airLength) air (fits .air))
     (λ t. part-gas a m cells inside (w .air) new (fits .airLength) air (gases t))
 

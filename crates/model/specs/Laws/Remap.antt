@@ -26,7 +26,7 @@ use Rattle.model.specs.Laws.Scheme.{Limited}
 use Rattle.model.specs.Laws.Fractions.{Monotone}
 use Rattle.model.specs.Laws.Limiters.{rule-limited, rule-monotone}
 use Rattle.model.specs.Laws.Keeps.{air-alike, MeaningKeeps}
-use Rattle.model.specs.Laws.Moved.{Even, KeepsAir, KeepsGas, moved-kept, moved-alike}
+use Rattle.model.specs.Laws.Moved.{Even, KeepsAir, KeepsGas, moved-keeps, moved-alike}
 use Rattle.model.specs.Laws.Column.{Edges, edges-serve, new-air-least, new-air-sum, new-tracer-sum, new-tracer-even, new-layer-in-range}
 
 -- ---- cells by layer k and place c
@@ -190,17 +190,17 @@ remap-keeps table =
     record {
       samePlaces = λ own w v ww vv a named. air-alike own w v a (ownPlaces (remap table));
       accepts =
-          λ w reached e.
+          λ w fits e.
           let g = w .grid in
-          let airIn = reached .fits .air in
+          let airIn = fits .air in
           let edges = own-edges table w e in
           record {
-            kept = moved-kept w reached _ _ (remap-air g table (w .air) airIn edges) (λ t. remap-gas g table (w .air) airIn edges (rule-limited w t));
+            keeps = moved-keeps w fits _ _ (remap-air g table (w .air) airIn edges) (λ t. remap-gas g table (w .air) airIn edges (rule-limited w t));
             inRange =
                 λ t h first.
                 rw (gas-moved w (remappedAir g table (w .air)) (λ t. remappedGas (ruleOf w t) g table (w .air)) (λ t h. length-remapped _ _ _ _ _) t h)
                 (remap-in-range g table (w .air) airIn edges (rule-limited w t) (rule-monotone w t first) (gas w t));
-            alike = λ own v vv a named. remap-alike table own w v a;
+            alike = λ own v fv a named. remap-alike table own w v a;
             apart = λ own other. absurd (true≢false other);
           };
     }

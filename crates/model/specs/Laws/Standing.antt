@@ -12,26 +12,24 @@ use borrow.Author.Tests.{ltb-false, lt-ltb, lt-leb, leb-false, not-false, eq-eqb
 use lib.Dec.{ltb, eqb, leb, lit<}
 use lib.ListN.{length}
 use lib.Seq.{ext-getD}
-use Rattle.model.specs.Limits.{totalLimit, mostEmitters, blockNumbers}
+use Rattle.model.specs.Limits.{totalLimit, mostEmitters, sumLimit, emitterNumbers, blockNumbers}
 use Rattle.model.specs.Basic.{at, part, written, sum}
-use Rattle.model.specs.World.{World, worldCells, gas, withGas, block, withBlock, withLedger, gasTotal}
+use Rattle.model.specs.World.{World, worldCells, tracerStart, gas, withGas, block, withBlock, withLedger, gasTotal}
 use Rattle.model.specs.Sweep.{swept}
 use Rattle.model.specs.Remap.{remapped}
 use Rattle.model.specs.Long.{longSwept}
 use Rattle.model.specs.Emitters.{standing, keptUnits, presentUnits, hasId, recordFits, emitterAdded, emitterRemoved, ticked}
-use Rattle.model.specs.Limiters.{limiterFits, limiterIn, withLimiter, limiterOf}
-use Rattle.model.specs.Step.{Call, load, emission, withdrawal, zonal, longZonal, meridional, remap, total, cell, Result, Place, firstOf, absent, brokenRecord, addEmitter, removeEmitter, tick, unitsATick, countZonal, zonalWithCount, setLimiter, Exchange, noExchange, Named, nobody, tracer, meaning, enters, ownPlaces, accepted, refused, refusal, step}
+use Rattle.model.specs.Limiters.{Limiter, limiterFits, limiterIn, withLimiter, limiterOf}
+use Rattle.model.specs.Books.{emittedSum}
+use Rattle.model.specs.Step.{Call, load, emission, withdrawal, zonal, longZonal, meridional, remap, total, cell, Result, Place, firstOf, absent, brokenRecord, addEmitter, removeEmitter, tick, unitsATick, countZonal, zonalWithCount, setLimiter, Exchange, noExchange, booked, Named, nobody, tracer, meaning, enters, ownPlaces, accepted, refused, refusal, step}
 use Rattle.model.specs.Lists.{exchanged, Alike, namesOwn}
-use Rattle.model.specs.Laws.Basic.{every-at, every-true, length-part, at-part, InPart, Outside, part-or-outside, length-written, at-written-within, at-written-outside, length-rewritten, part-rewritten, part-not-rewritten}
-use Rattle.model.specs.Laws.Emitters.{Sound, kept-is, record-fitting, sound-fits, limiter-sound, added-sound, added-keeps-limiter, removed-sound, removed-keeps-limiter, length-added, added-has, add-remove, length-ticked, ticked-sum, ticked-none, unitsIn, ticked-at}
-use Rattle.model.specs.Laws.Limiters.{length-limiter, limiter-read}
-use Rattle.model.specs.Laws.World.{length-gas}
+use Rattle.model.specs.Laws.Basic.{neither, every-at, every-true, length-part, at-part, InPart, Outside, part-or-outside, length-written, at-written-within, at-written-outside, length-rewritten, part-rewritten, part-not-rewritten}
+use Rattle.model.specs.Laws.Emitters.{Sound, record-fitting, sound-fits, limiter-sound, added-behind, added-sound, added-keeps-limiter, removed-behind, removed-sound, removed-keeps-limiter, length-added, length-removed, length-entered, entered-limiter, added-has, add-remove, length-ticked, ticked-sum, ticked-none, unitsIn, ticked-at}
+use Rattle.model.specs.Laws.Limiters.{length-limiter, limiter-behind, limiter-read}
+use Rattle.model.specs.Laws.World.{length-gas, length-block, block-changed, block-unchanged}
 use Rattle.model.specs.Laws.Step.{Fits, Reached, passes, passed, found, step-accepted, step-refused, answer-is, own-refusal, accepted-passed}
-use Rattle.model.specs.Laws.Keeps.{Kept, names-present, named-alike, named-total-alike, named-block-alike, absent-alike, none-alike, last-alike, MeaningKeeps, reads-keep}
-
-neither : (x y : Bool) → x || y ≡ false → (x ≡ false) × (y ≡ false)
-neither true y e = absurd (true≢false e)
-neither false y e = (refl, e)
+use Rattle.model.specs.Laws.OneTracer.{Blocks, block-keeps, block-alike, block-apart, booked-other, exchange-keeps, exchange-alike, exchange-apart}
+use Rattle.model.specs.Laws.Keeps.{Entered, kept-from, names-present, named-alike, named-total-alike, named-block-alike, absent-alike, none-alike, last-alike, MeaningKeeps, reads-keep}
 
 -- ---- the record's place
 -- in a world that calls reach no record is broken
@@ -66,96 +64,44 @@ record-passed t ps w e =
     let q = passed brokenRecord ps w (lit< tt) (p .1) in
     record { there = p .0; fits = every-at _ _ (not-false _ (q .0)) t (p .0); left = q .1 }
 
--- ---- the world with another block of tracer t
-module _ (w : World) (reached : Reached w) (t : ℕ) (there : t < w .grid .N) (new : List ℕ) (many : length new ≡ blockNumbers) where
-  abbrev next : World
-  next = withBlock w t new
+-- ---- a call that changes the block of a tracer
+-- what it leaves of the block b: its length, its book, and a sound one sound
+record Rewrites (cells : ℕ) (b new : List ℕ) : Type 0 where
+  many : length new ≡ blockNumbers
+  book : Entered b new noExchange
+  still : Sound cells b → Sound cells new
 
-  pub block-changed : block next t ≡ new
-  block-changed = part-rewritten (w .ledger) new (w .grid .N) blockNumbers t (reached .fits .ledgerLength) many there
-
-  block-unchanged : (u : ℕ) → u ≢ t → block next u ≡ block w u
-  block-unchanged = part-not-rewritten (w .ledger) new (w .grid .N) blockNumbers t (reached .fits .ledgerLength) many there
-
-  pub block-kept : Sound (worldCells (w .grid)) new → Kept w next (λ u. noExchange)
-  block-kept sound =
-      record {
-        reached =
-            record {
-              fits = record {
-                grid = fits .grid;
-                airLength = fits .airLength;
-                tracersLength = fits .tracersLength;
-                ledgerLength = length-rewritten (w .ledger) new (w .grid .N) blockNumbers t (fits .ledgerLength) many there;
-                air = fits .air;
-                totals = fits .totals;
-              };
-              blocks = λ u h. each u h (ℕ-discrete u t);
-            };
-        sameGrid = refl;
-        gasKept = λ u h. refl;
-        airKept = refl;
-        ratioKept = λ u z h p q r. r;
-      }
-    where
-      fits : Fits w
-      fits = reached .fits
-
-      each : (u : ℕ) → u < w .grid .N → Dec (u ≡ t) → Sound (worldCells (w .grid)) (block next u)
-      each u h (yes e) = rw (e, block-changed) sound
-      each u h (no e) = rw (block-unchanged u e) (reached .blocks u h)
-
-  block-apart : (own : ℕ → Bool) → own t ≡ false → Alike own w next
-  block-apart own other =
-      record {
-        sameGrid = refl;
-        sameAir = refl;
-        sameGas = λ u o. refl;
-        sameBlock = λ u o. sym (block-unchanged u (λ q. true≢false (sym o ∙ ap own q ∙ other)));
-      }
-
--- in two worlds alike
-block-alike :
-    (own : ℕ → Bool) (w v : World) → Reached w → Reached v → Alike own w v → (t : ℕ) → t < w .grid .N → (new : List ℕ) →
-    length new ≡ blockNumbers → Alike own (withBlock w t new) (withBlock v t new)
-block-alike own w v ww vv a t there new many =
-    record {
-      sameGrid = a .sameGrid;
-      sameAir = a .sameAir;
-      sameGas = a .sameGas;
-      sameBlock = λ u o. same u o (ℕ-discrete u t);
-    }
-  where
-    there-v : t < v .grid .N
-    there-v = rw (← (a .sameGrid)) there
-
-    same : (u : ℕ) → own u ≡ true → Dec (u ≡ t) → block (withBlock w t new) u ≡ block (withBlock v t new) u
-    same u o (yes e) = rw (e, block-changed w ww t there new many, block-changed v vv t there-v new many)
-    same u o (no e) =
-        block-unchanged w ww t there new many u e ∙ a .sameBlock u o ∙ sym (block-unchanged v vv t there-v new many u e)
-
--- a call that changes the block of a tracer, where its places read no other gas's, and leave a sound block
+-- where its places read no other gas's
 enters-keep :
     (t : ℕ) (ps : List Place) (new : List ℕ → List ℕ) →
     ((own : ℕ → Bool) (w v : World) → Reached w → Reached v → Alike own w v → namesOwn own w (tracer t) ≡ true → firstOf ps w ≡ firstOf ps v) →
-    ((w : World) → Reached w → firstOf ps w ≡ 0 → (t < w .grid .N) × Sound (worldCells (w .grid)) (new (block w t))) →
+    ((w : World) → Fits w → firstOf ps w ≡ 0 → (t < w .grid .N) × Rewrites (worldCells (w .grid)) (block w t) (new (block w t))) →
     MeaningKeeps (enters t ps new)
-enters-keep t ps new places sound =
+enters-keep t ps new places rewrites =
     record {
       samePlaces = places;
       accepts =
-          λ w reached e.
-          let there = sound w reached e .0 in
-          let so = sound w reached e .1 in
+          λ w fits e.
+          let there = rewrites w fits e .0 in
+          let so = rewrites w fits e .1 in
           record {
-            kept = block-kept w reached t there (new (block w t)) (so .many) so;
+            keeps = block-keeps w fits t there (new (block w t)) (so .many) (so .book) (so .still);
             inRange = λ u h first. tt;
             alike =
-                λ own v vv a named.
+                λ own v fv a named.
                 let same : new (block w t) ≡ new (block v t) = ap new (named-block-alike own w v a t named there) in
-                (rw (← same) (block-alike own w v reached vv a t there (new (block w t)) (so .many)), refl);
-            apart = λ own other. block-apart w reached t there (new (block w t)) (so .many) own (names-present own w t there ∙ other);
+                (rw (← same) (block-alike own w v (fits .ledgerLength) (fv .ledgerLength) a t there (new (block w t)) (so .many)), refl);
+            apart = λ own other. block-apart w (fits .ledgerLength) t there (new (block w t)) (so .many) own (names-present own w t there ∙ other);
           };
+    }
+
+-- a call on emitters leaves the book, which stands behind them
+same-book : (b new : List ℕ) → ((k : ℕ) → emitterNumbers ≤ k → at new k ≡ at b k) → Entered b new noExchange
+same-book b new same =
+    record {
+      loaded = same 56 (omega arith);
+      emitted = omega (arith, same 57 (omega arith));
+      withdrawn = omega (arith, same 58 (omega arith));
     }
 
 -- what its places tell of an emitter that can be added
@@ -181,9 +127,16 @@ add-keeps t c id units =
     (λ there. absent-alike own w v a c worldCells _
     (λ inside. record-alike w v ww vv _
     (last-alike own w v a _ (ap (λ (b : List ℕ). leb mostEmitters (standing b) || hasId b id) (named-block-alike own w v a t named there))))))
-    (λ w reached e.
+    (λ w fits e.
     let can = can-add w t c id units e in
-    (can .there, added-sound (reached .blocks t (can .there)) id c units (can .room) (can .inside) (can .new)))
+    let many = length-block w t (fits .ledgerLength) (can .there) in (
+      can .there,
+      record {
+        many = length-added (block w t) many id c units;
+        book = same-book _ _ (added-behind (block w t) many id c units (can .room));
+        still = λ sound. added-sound (block w t) many id c units (can .room) sound (can .inside) (can .new);
+      },
+    ))
 
 pub remove-keeps : (t id : ℕ) → MeaningKeeps (meaning (removeEmitter t id))
 remove-keeps t id =
@@ -192,9 +145,18 @@ remove-keeps t id =
     absent-alike own w v a t (λ g. g .N) _
     (λ there. record-alike w v ww vv _
     (last-alike own w v a _ (ap (λ (b : List ℕ). not (hasId b id)) (named-block-alike own w v a t named there)))))
-    (λ w reached e.
+    (λ w fits e.
     let p = record-passed t _ w e in
-    (p .there, removed-sound (reached .blocks t (p .there)) id (not-false _ (passed _ [] w (lit< tt) (p .left) .0))))
+    let has = not-false _ (passed _ [] w (lit< tt) (p .left) .0) in
+    let many = length-block w t (fits .ledgerLength) (p .there) in
+    let few = record-fitting _ (block w t) (p .fits) .few in (
+      p .there,
+      record {
+        many = length-removed (block w t) many few id has;
+        book = same-book _ _ (removed-behind (block w t) many few id has);
+        still = removed-sound (block w t) many few id has;
+      },
+    ))
 
 -- what its places tell of a limiter that can be set
 limiter-set :
@@ -208,9 +170,22 @@ pub limiter-keeps : (t number lo hi : ℕ) → MeaningKeeps (meaning (setLimiter
 limiter-keeps t number lo hi =
     enters-keep t _ (λ b. withLimiter b (record { number = number; lo = lo; hi = hi }))
     (λ own w v ww vv a named. absent-alike own w v a t (λ g. g .N) _ (λ there. last-alike own w v a _ refl))
-    (λ w reached e.
+    (λ w fits e.
     let p = limiter-set t number lo hi w e in
-    (p .0, limiter-sound (reached .blocks t (p .0)) _ (p .1)))
+    let l : Limiter = record { number = number; lo = lo; hi = hi } in
+    let many = length-block w t (fits .ledgerLength) (p .0) in (
+      p .0,
+      record {
+        many = length-limiter (block w t) l many;
+        book =
+            record {
+              loaded = limiter-behind (block w t) l 56 (omega arith);
+              emitted = omega (arith, limiter-behind (block w t) l 57 (omega arith));
+              withdrawn = omega (arith, limiter-behind (block w t) l 58 (omega arith));
+            };
+        still = λ sound. limiter-sound sound l (p .1);
+      },
+    ))
 
 pub units-keeps : (t : ℕ) → MeaningKeeps (meaning (unitsATick t))
 units-keeps t =
@@ -219,64 +194,16 @@ units-keeps t =
     absent-alike own w v a t (λ g. g .N) _ (λ there. record-alike w v ww vv [] (none-alike own w v a)))
     (λ own w v a named e. ap keptUnits (named-block-alike own w v a t named (found t (λ g. g .N) _ w e .0)))
 
--- ---- the world with other amounts of tracer t, of which x is exchanged
-module _ (w : World) (reached : Reached w) (t : ℕ) (there : t < w .grid .N) (new : List ℕ) (many : length new ≡ worldCells (w .grid)) where
+-- ---- the world with other amounts of tracer t
+module _ (w : World) (long : length (w .tracers) ≡ w .grid .N * worldCells (w .grid)) (t : ℕ) (there : t < w .grid .N) (new : List ℕ) (many : length new ≡ worldCells (w .grid)) where
   abbrev after : World
   after = withGas w t new
 
   gas-changed : gas after t ≡ new
-  gas-changed = part-rewritten (w .tracers) new (w .grid .N) (worldCells (w .grid)) t (reached .fits .tracersLength) many there
+  gas-changed = part-rewritten (w .tracers) new (w .grid .N) (worldCells (w .grid)) t long many there
 
   gas-unchanged : (u : ℕ) → u ≢ t → gas after u ≡ gas w u
-  gas-unchanged = part-not-rewritten (w .tracers) new (w .grid .N) (worldCells (w .grid)) t (reached .fits .tracersLength) many there
-
-  gas-kept :
-      (x : Exchange) → sum (worldCells (w .grid)) (at new) + x .withdrawn ≡ gasTotal w t + x .emitted →
-      sum (worldCells (w .grid)) (at new) ≤ totalLimit → (x .emitted ≡ 0 → x .withdrawn ≡ 0 → new ≡ gas w t) →
-      Kept w after (λ u. elim (eqb t u) [ true ↦ x | false ↦ noExchange ])
-  gas-kept x balance most still =
-      record {
-        reached =
-            record {
-              fits = record {
-                grid = fits .grid;
-                airLength = fits .airLength;
-                tracersLength = length-rewritten (w .tracers) new (w .grid .N) (worldCells (w .grid)) t (fits .tracersLength) many there;
-                ledgerLength = fits .ledgerLength;
-                air = fits .air;
-                totals = λ u h. totals u h (ℕ-discrete u t);
-              };
-              blocks = reached .blocks;
-            };
-        sameGrid = refl;
-        gasKept = λ u h. kept u h (ℕ-discrete u t);
-        airKept = refl;
-        ratioKept = λ u z h no-in no-out r. rw (same u no-in no-out (ℕ-discrete u t)) r;
-      }
-    where
-      fits : Fits w
-      fits = reached .fits
-
-      of : ℕ → Exchange
-      of u = elim (eqb t u) [ true ↦ x | false ↦ noExchange ]
-
-      own : of t ≡ x
-      own = rw (of, eq-eqb t t refl)
-
-      other : (u : ℕ) → u ≢ t → of u ≡ noExchange
-      other u h = rw (of, ne-eqb t u (λ q. h (sym q)))
-
-      totals : (u : ℕ) → u < w .grid .N → Dec (u ≡ t) → gasTotal after u ≤ totalLimit
-      totals u h (yes q) = rw (q, gas-changed) most
-      totals u h (no q) = rw (gas-unchanged u q) (fits .totals u h)
-
-      kept : (u : ℕ) → u < w .grid .N → Dec (u ≡ t) → gasTotal after u + of u .withdrawn ≡ gasTotal w u + of u .emitted
-      kept u h (yes q) = rw (q, own, gas-changed) balance
-      kept u h (no q) = rw (gas-unchanged u q, other u q)
-
-      same : (u : ℕ) → of u .emitted ≡ 0 → of u .withdrawn ≡ 0 → Dec (u ≡ t) → gas after u ≡ gas w u
-      same u no-in no-out (yes q) = rw (q, gas-changed) (still (rw (q, own) at no-in) (rw (q, own) at no-out))
-      same u no-in no-out (no q) = gas-unchanged u q
+  gas-unchanged = part-not-rewritten (w .tracers) new (w .grid .N) (worldCells (w .grid)) t long many there
 
   gas-apart : (own : ℕ → Bool) → own t ≡ false → Alike own w after
   gas-apart own other =
@@ -288,7 +215,8 @@ module _ (w : World) (reached : Reached w) (t : ℕ) (there : t < w .grid .N) (n
       }
 
 gas-alike :
-    (own : ℕ → Bool) (w v : World) → Reached w → Reached v → Alike own w v → (t : ℕ) → t < w .grid .N → (new : List ℕ) →
+    (own : ℕ → Bool) (w v : World) → length (w .tracers) ≡ w .grid .N * worldCells (w .grid) →
+    length (v .tracers) ≡ v .grid .N * worldCells (v .grid) → Alike own w v → (t : ℕ) → t < w .grid .N → (new : List ℕ) →
     length new ≡ worldCells (w .grid) → Alike own (withGas w t new) (withGas v t new)
 gas-alike own w v ww vv a t there new many =
     record {
@@ -314,20 +242,24 @@ gas-alike own w v ww vv a t there new many =
 abbrev tickedAll : List ℕ → List ℕ → List ℕ
 tickedAll b had = ticked b (standing b) had
 
-module _ (w : World) (reached : Reached w) (t : ℕ) (there : t < w .grid .N) where
+module _ (w : World) (fits : Fits w) (t : ℕ) (there : t < w .grid .N) (so : recordFits (worldCells (w .grid)) (block w t) ≡ true) where
   abbrev b : List ℕ
   b = block w t
 
   gas-many : length (gas w t) ≡ worldCells (w .grid)
-  gas-many = length-gas w t (reached .fits .tracersLength) there
+  gas-many = length-gas w t (fits .tracersLength) there
 
   ticked-many : length (tickedAll b (gas w t)) ≡ worldCells (w .grid)
   ticked-many = length-ticked b (standing b) (gas w t) ∙ gas-many
 
   ticked-total : sum (worldCells (w .grid)) (at (tickedAll b (gas w t))) ≡ gasTotal w t + keptUnits b
   ticked-total =
-      ticked-sum b (worldCells (w .grid)) (gas w t) gas-many (standing b) (reached .blocks t there .there) ∙
-      ap (λ (x : ℕ). gasTotal w t + x) (sym (kept-is (reached .blocks t there)))
+      ticked-sum b (worldCells (w .grid)) (gas w t) gas-many (standing b) (record-fitting _ b so .there) ∙
+      ap (λ (x : ℕ). gasTotal w t + x) (sym (record-fitting _ b so .sum))
+
+-- what a tick exchanges, by the block of its tracer
+abbrev emitsOf : List ℕ → Exchange
+emitsOf b = record { emitted = keptUnits b; withdrawn = 0 }
 
 pub tick-keeps : (t : ℕ) → MeaningKeeps (meaning (tick t))
 tick-keeps t =
@@ -337,25 +269,37 @@ tick-keeps t =
           absent-alike own w v a t (λ g. g .N) _
           (λ there. record-alike w v ww vv _
           (last-alike own w v a _
-          (ap₂ (λ (x : ℕ) (b : List ℕ). ltb totalLimit (x + keptUnits b)) (named-total-alike own w v a t named there) (named-block-alike own w v a t named there))));
+          (ap₂ (λ (x : ℕ) (b : List ℕ). ltb totalLimit (x + keptUnits b) || ltb sumLimit (emittedSum b + keptUnits b)) (named-total-alike own w v a t named there) (named-block-alike own w v a t named there))));
       accepts =
-          λ w reached e.
+          λ w fits e.
           let p = record-passed t _ w e in
           let b = block w t in
           let new = tickedAll b (gas w t) in
-          let many = ticked-many w reached t (p .there) in
-          let total = ticked-total w reached t (p .there) in
-          let room = ltb-false totalLimit (gasTotal w t + keptUnits b) (passed _ [] w (lit< tt) (p .left) .0) in
+          let list = written (w .tracers) (tracerStart (w .grid) t) new in
+          let many = ticked-many w fits t (p .there) (p .fits) in
+          let is = gas-changed w (fits .tracersLength) t (p .there) new many in
+          let total : gasTotal (withGas w t new) t ≡ gasTotal w t + keptUnits b = rw is (ticked-total w fits t (p .there) (p .fits)) in
+          let room = ltb-false totalLimit (gasTotal w t + keptUnits b) (neither _ _ (passed _ [] w (lit< tt) (p .left) .0) .0) in
           record {
-            kept =
-                gas-kept w reached t (p .there) new many (record { emitted = keptUnits b; withdrawn = 0 }) (omega (arith, total)) (omega (arith, total, room))
-                (λ no-in no-out. ticked-none b (gas w t) (standing b) (sym (kept-is (reached .blocks t (p .there))) ∙ no-in));
+            keeps =
+                exchange-keeps w fits t (p .there) list (emitsOf b)
+                (length-rewritten (w .tracers) new (w .grid .N) (worldCells (w .grid)) t (fits .tracersLength) many (p .there))
+                (gas-unchanged w (fits .tracersLength) t (p .there) new many) (omega (arith, total)) (omega (arith, total, room))
+                (λ no-in no-out. is ∙ ticked-none b (gas w t) (standing b) (sym (record-fitting _ b (p .fits) .sum) ∙ no-in));
             inRange = λ u h first. tt;
             alike =
-                λ own v vv a named.
-                let same : new ≡ tickedAll (block v t) (gas v t) = ap₂ tickedAll (named-block-alike own w v a t named (p .there)) (named-alike own w v a t named (p .there)) in
-                (rw (← same) (gas-alike own w v reached vv a t (p .there) new many), refl);
-            apart = λ own other. gas-apart w reached t (p .there) new many own (names-present own w t (p .there) ∙ other);
+                λ own v fv a named.
+                let blocks = named-block-alike own w v a t named (p .there) in
+                let same : new ≡ tickedAll (block v t) (gas v t) = ap₂ tickedAll blocks (named-alike own w v a t named (p .there)) in (
+                  exchange-alike w fits t (p .there) list (emitsOf b) own _ (fv .ledgerLength)
+                      (rw (← same) (gas-alike own w v (fits .tracersLength) (fv .tracersLength) a t (p .there) new many)) blocks (emitsOf (block v t))
+                      (ap emitsOf blocks),
+                  refl,
+                );
+            apart =
+                λ own other.
+                let else = names-present own w t (p .there) ∙ other in
+                exchange-apart w fits t (p .there) list (emitsOf b) own else (gas-apart w (fits .tracersLength) t (p .there) new many own else);
           };
     }
 
@@ -377,11 +321,11 @@ reading-is-sum w t e =
     let p = record-passed t [] w (own-passed w (unitsATick t) e .1) in
     step-next w (unitsATick t) e .1 ∙ record-fitting (worldCells (w .grid)) (block w t) (p .fits) .sum
 
--- A tick adds to each cell the units of the emitters that name it and to no other cell, of no other gas, and changes nothing else
+-- A tick adds to each cell the units of the emitters that name it and to no other cell, of no other gas, enters their sum in the gas's book, and changes nothing else
 pub record Ticks (w next : World) (t : ℕ) : Type 0 where
   pub sameGrid : next .grid ≡ w .grid
   pub sameAir : next .air ≡ w .air
-  pub sameLedger : next .ledger ≡ w .ledger
+  pub entersAll : next .ledger ≡ booked w t (record { emitted = keptUnits (block w t); withdrawn = 0 }) .ledger
   pub adds : (c : ℕ) → at (gas next t) c ≡ at (gas w t) c + unitsIn (block w t) (standing (block w t)) c
   pub others : (u : ℕ) → u ≢ t → gas next u ≡ gas w u
 
@@ -399,7 +343,7 @@ tick-adds w t e =
     (record {
       sameGrid = refl;
       sameAir = refl;
-      sameLedger = refl;
+      entersAll = refl;
       adds =
           λ c.
           ap (λ (l : List ℕ). at l c) (part-rewritten (w .tracers) (tickedAll b had) (w .grid .N) cells t (q .0 .tracersLength) many (p .there)) ∙
@@ -470,15 +414,18 @@ added-then-removed w reached t c id units e =
     sound = reached .blocks t (can .there)
 
     still : Sound (worldCells (w .grid)) new
-    still = added-sound sound id c units (can .room) (can .inside) (can .new)
+    still = added-sound b (sound .many) id c units (can .room) sound (can .inside) (can .new)
 
     is-new : block v t ≡ new
-    is-new = block-changed w reached t (can .there) new (still .many)
+    is-new = block-changed w (reached .fits .ledgerLength) t (can .there) new (still .many)
+
+    reached-v : Reached v
+    reached-v = kept-from reached (λ u. refl) (add-keeps t c id units .accepts w (reached .fits) (own-passed w (addEmitter t c id units) e .1) .keeps) .reached
 
     gone : step v (removeEmitter t id) .answer ≡ 0
     gone =
         answer-is v (removeEmitter t id) ∙
-        can-remove v (block-kept w reached t (can .there) new (still .many) still .reached) t id (can .there) (rw is-new (added-has sound id c units (can .room) (can .inside) (can .new)))
+        can-remove v reached-v t id (can .there) (rw is-new (added-has sound id c units (can .room) (can .inside) (can .new)))
 
     back : withBlock v t (emitterRemoved (block v t) id) ≡ w
     back =
@@ -487,7 +434,7 @@ added-then-removed w reached t c id units e =
         ap (withLedger w)
         (written-back (w .ledger) new (t * blockNumbers) blockNumbers (omega (arith, reached .fits .ledgerLength, mul-le-mul-right blockNumbers (can .there))) (still .many))
 
--- ---- a call that names another tracer, or none, leaves a tracer's emitters alone, and exchanges nothing of it
+-- ---- a call that names another tracer, or none, leaves a tracer's block alone, and exchanges nothing of it
 abbrev pub namesNot : ℕ → Named → Bool
 namesNot t nobody = true
 namesNot t (tracer u) = not (eqb u t)
@@ -502,13 +449,16 @@ not-exchanged u t x other = go (eqb u t) other
 differs : (u t : ℕ) → not (eqb u t) ≡ true → t ≢ u
 differs u t other e = false≢true (ap not (sym (eq-eqb u t (sym e))) ∙ other)
 
+beside-booked : (w : World) → Reached w → (t u : ℕ) → u < w .grid .N → (x : Exchange) → not (eqb u t) ≡ true → block (booked w u x) t ≡ block w t
+beside-booked w reached t u there x other = booked-other w (reached .fits .ledgerLength) u there x t (differs u t other)
+
 pub beside :
     (t : ℕ) (call : Call) → meaning call .listed ≡ true → namesNot t (meaning call .names) ≡ true → (w : World) → Reached w →
     firstOf (meaning call .places) w ≡ 0 → (block (meaning call .next w) t ≡ block w t) × (meaning call .exchange w t ≡ noExchange)
 unfolding swept longSwept remapped
 beside t load held other w reached e = absurd (false≢true held)
-beside t (emission u c amount) held other w reached e = (refl, not-exchanged u t _ other)
-beside t (withdrawal u c amount) held other w reached e = (refl, not-exchanged u t _ other)
+beside t (emission u c amount) held other w reached e = (beside-booked w reached t u (found u (λ g. g .N) _ w e .0) _ other, not-exchanged u t _ other)
+beside t (withdrawal u c amount) held other w reached e = (beside-booked w reached t u (found u (λ g. g .N) _ w e .0) _ other, not-exchanged u t _ other)
 beside t (zonal k r fluxes) held other w reached e = (refl, refl)
 beside t (longZonal k r fluxes) held other w reached e = (refl, refl)
 beside t (meridional k fluxes) held other w reached e = (refl, refl)
@@ -517,18 +467,18 @@ beside t (total u) held other w reached e = (refl, refl)
 beside t (cell u c) held other w reached e = (refl, refl)
 beside t (addEmitter u c id units) held other w reached e =
     let can = can-add w u c id units e in
-    (block-unchanged w reached u (can .there) _ (length-added (reached .blocks u (can .there)) id c units) t (differs u t other), refl)
+    (block-unchanged w (reached .fits .ledgerLength) u (can .there) _ (length-added (block w u) (reached .blocks u (can .there) .many) id c units) t (differs u t other), refl)
 beside t (removeEmitter u id) held other w reached e =
     let p = record-passed u _ w e in
     let has = not-false _ (passed _ [] w (lit< tt) (p .left) .0) in
-    (block-unchanged w reached u (p .there) _ (removed-sound (reached .blocks u (p .there)) id has .many) t (differs u t other), refl)
-beside t (tick u) held other w reached e = (refl, not-exchanged u t _ other)
+    (block-unchanged w (reached .fits .ledgerLength) u (p .there) _ (length-removed (block w u) (reached .blocks u (p .there) .many) (reached .blocks u (p .there) .few) id has) t (differs u t other), refl)
+beside t (tick u) held other w reached e = (beside-booked w reached t u (record-passed u _ w e .there) _ other, not-exchanged u t _ other)
 beside t (unitsATick u) held other w reached e = (refl, refl)
 beside t (countZonal k r fluxes) held other w reached e = (refl, refl)
 beside t (zonalWithCount k r n fluxes) held other w reached e = (refl, refl)
 beside t (setLimiter u number lo hi) held other w reached e =
     let p = limiter-set u number lo hi w e in
-    (block-unchanged w reached u (p .0) _ (limiter-sound (reached .blocks u (p .0)) _ (p .1) .many) t (differs u t other), refl)
+    (block-unchanged w (reached .fits .ledgerLength) u (p .0) _ (limiter-sound (reached .blocks u (p .0)) _ (p .1) .many) t (differs u t other), refl)
 
 -- .. whether it is accepted or not
 pub step-beside :
@@ -545,14 +495,14 @@ step-beside t call held other w reached = go (refusal w call) refl
     go (suc n) e =
         (ap (λ (r : Result). block (r .next) t) (step-refused w call n e), rw (answer-is w call ∙ e, exchanged))
 
--- ---- limiters: adding and removing an emitter leave every tracer's, and the setting call gives its tracer's
-module _ (w : World) (reached : Reached w) (u : ℕ) (there : u < w .grid .N) (new : List ℕ) (many : length new ≡ blockNumbers) where
-  block-limiter : (t : ℕ) → limiterIn new ≡ limiterOf w u → limiterOf (withBlock w u new) t ≡ limiterOf w t
+-- ---- limiters: adding and removing an emitter and an entry in a book leave every tracer's, and the setting call gives its tracer's
+module _ (w : World) (long : Blocks w) (u : ℕ) (there : u < w .grid .N) (new : List ℕ) (many : length new ≡ blockNumbers) where
+  pub block-limiter : (t : ℕ) → limiterIn new ≡ limiterOf w u → limiterOf (withBlock w u new) t ≡ limiterOf w t
   block-limiter t same = go (ℕ-discrete t u)
     where
       go : Dec (t ≡ u) → limiterOf (withBlock w u new) t ≡ limiterOf w t
-      go (yes e) = rw e (ap limiterIn (block-changed w reached u there new many) ∙ same)
-      go (no e) = ap limiterIn (block-unchanged w reached u there new many t e)
+      go (yes e) = rw e (ap limiterIn (block-changed w long u there new many) ∙ same)
+      go (no e) = ap limiterIn (block-unchanged w long u there new many t e)
 
 pub added-limiter :
     (w : World) → Reached w → (t u c id units : ℕ) → firstOf (meaning (addEmitter u c id units) .places) w ≡ 0 →
@@ -560,7 +510,7 @@ pub added-limiter :
 added-limiter w reached t u c id units e =
     let can = can-add w u c id units e in
     let sound = reached .blocks u (can .there) in
-    block-limiter w reached u (can .there) _ (length-added sound id c units) t (added-keeps-limiter sound id c units (can .room))
+    block-limiter w (reached .fits .ledgerLength) u (can .there) _ (length-added (block w u) (sound .many) id c units) t (added-keeps-limiter (block w u) (sound .many) id c units (can .room))
 
 pub removed-limiter :
     (w : World) → Reached w → (t u id : ℕ) → firstOf (meaning (removeEmitter u id) .places) w ≡ 0 →
@@ -569,7 +519,12 @@ removed-limiter w reached t u id e =
     let p = record-passed u _ w e in
     let has = not-false _ (passed _ [] w (lit< tt) (p .left) .0) in
     let sound = reached .blocks u (p .there) in
-    block-limiter w reached u (p .there) _ (removed-sound sound id has .many) t (removed-keeps-limiter sound id has)
+    block-limiter w (reached .fits .ledgerLength) u (p .there) _ (length-removed (block w u) (sound .many) (sound .few) id has) t (removed-keeps-limiter (block w u) (sound .many) (sound .few) id has)
+
+pub booked-limiter : (w : World) → Reached w → (t u : ℕ) → u < w .grid .N → (x : Exchange) → limiterOf (booked w u x) t ≡ limiterOf w t
+booked-limiter w reached t u there x =
+    let long = reached .fits .ledgerLength in
+    block-limiter w long u there _ (length-entered (block w u) _ _ ∙ length-block w u long there) t (entered-limiter (block w u) _ _)
 
 -- in every world, also in one whose limiters were broken
 pub limiter-given :
@@ -580,8 +535,7 @@ limiter-given w t number lo hi e =
     let q = own-passed w (setLimiter t number lo hi) e in
     let p = limiter-set t number lo hi w (q .1) in
     let long = q .0 .ledgerLength in
-    let many : length (block w t) ≡ blockNumbers =
-    length-part (w .ledger) (t * blockNumbers) blockNumbers (omega (arith, mul-le-mul-right blockNumbers (p .0))) in
+    let many = length-block w t long (p .0) in
     ap (λ (v : World). limiterOf v t) (step-next w (setLimiter t number lo hi) e .0) ∙
     ap limiterIn (part-rewritten (w .ledger) _ (w .grid .N) blockNumbers t long (length-limiter (block w t) _ many) (p .0)) ∙
     limiter-read (block w t) _ many

@@ -1,22 +1,22 @@
--- Laws of `step`: the first place that applies, an accepted and a refused call, and what an accepted load tells of a world: none of the refusals 1 to 4, nor 21 for what stands, is met there but for a call's own lent list.
-use Prim.Native.Nat.{ℕ, zero, suc, _*_, _≤_, _<_}
+-- Laws of `step`: the first place that applies, an accepted and a refused call, and what an accepted load tells of a world: none of the refusals 1 to 4, nor 22, nor 21 for what stands, is met there but for a call's own lent list.
+use Prim.Native.Nat.{ℕ, zero, suc, _+_, _*_, _≤_, _<_}
 use mathlib.Core.List.{List, [], _∷_, _++_}
 use mathlib.Core.Bool.{Bool, true, false, not, _&&_, and-eq-true-iff, false≢true}
-use mathlib.Core.Path.{_≡_, refl, sym, _∙_, ap}
+use mathlib.Core.Path.{_≡_, refl, sym, _∙_, ap, ap₂}
 use mathlib.Core.Logic.{_≢_}
 use native.Mathlib.Omega.{arith}
-use borrow.Author.Tests.{ltb-true, leb-true, le-leb, eqb-true, eq-eqb, not-false}
+use borrow.Author.Tests.{ltb-true, ltb-false, leb-true, le-leb, eqb-true, eq-eqb, not-false}
 use lib.Dec.{ltb, lit<}
 use lib.ListN.{length}
 use Rattle.model.specs.Limits.{totalLimit, blockNumbers}
-use Rattle.model.specs.Basic.{at, part, tab, joined}
-use Rattle.model.specs.World.{Grid, World, worldCells, block, gasTotal, airFits}
-use Rattle.model.specs.Limiters.{freshBlock}
-use Rattle.model.specs.Step.{Call, load, Result, cleared, Place, firstOf, absent, brokenLimiter, gridFits, meaning, lentFits, lengthsFit, commonPlaces, limiterPlaces, ownPlaces, accepted, refused, refusal, step}
+use Rattle.model.specs.Basic.{at, sum}
+use Rattle.model.specs.World.{Grid, World, worldCells, block, gas, gasTotal, airFits}
+use Rattle.model.specs.Books.{loadedSum, emittedSum, withdrawnSum, freshBlock}
+use Rattle.model.specs.Step.{Call, load, Result, cleared, Place, firstOf, absent, brokenLimiter, brokenBook, gridFits, meaning, lentFits, lengthsFit, commonPlaces, placeIf, limiterPlaces, bookPlaces, ownPlaces, accepted, refused, refusal, step}
 use Rattle.model.specs.Lists.{Loaded, loadedWorld, LoadedAlike, Alike}
 use Rattle.model.specs.Laws.Basic.{every-at, every-true}
-use Rattle.model.specs.Laws.World.{length-blocks, part-blocks}
-use Rattle.model.specs.Laws.Emitters.{Sound, none-sound}
+use Rattle.model.specs.Laws.World.{block-absent, length-blocks, part-blocks}
+use Rattle.model.specs.Laws.Emitters.{Sound, none-sound, fresh-loaded, fresh-emitted, fresh-withdrawn}
 
 -- ---- the first place that applies
 pub passes : (p : Place) (ps : List Place) (w : World) → p .applies w ≡ false → firstOf (p ∷ ps) w ≡ firstOf ps w
@@ -118,7 +118,7 @@ fitting-lengths w call fits =
 
 -- in such a world a call's refusal is that of its places behind these alone, if the list that it lends fits
 pub behind-common :
-    (w : World) (call : Call) → Fits w → lentFits (w .grid) call ≡ true → refusal w call ≡ firstOf (limiterPlaces call ++ ownPlaces call) w
+    (w : World) (call : Call) → Fits w → lentFits (w .grid) call ≡ true → refusal w call ≡ firstOf (limiterPlaces call ++ (bookPlaces call ++ ownPlaces call)) w
 unfolding refusal commonPlaces
 behind-common w call fits lent =
     passes _ _ w (ap not (fits .grid)) ∙
@@ -126,14 +126,18 @@ behind-common w call fits lent =
     passes _ _ w (ap not (every-true _ _ (λ c h. fits .air c (rw (fits .airLength) at h)))) ∙
     passes _ _ w (ap not (every-true _ _ (λ t h. le-leb _ _ (fits .totals t h))))
 
--- where no limiter is broken, or the call tests none, its own places are left
+-- a place that only some calls have: where it does not apply, or the call has it not, those behind it are left
+behind-if : (has : Bool) (p : Place) (ps : List Place) (w : World) → p .applies w ≡ false → firstOf (placeIf has p ++ ps) w ≡ firstOf ps w
+behind-if true p ps w sound = passes p ps w sound
+behind-if false p ps w sound = refl
+
 pub behind-limiters : (w : World) (call : Call) (ps : List Place) → brokenLimiter .applies w ≡ false → firstOf (limiterPlaces call ++ ps) w ≡ firstOf ps w
 unfolding limiterPlaces
-behind-limiters w call ps sound = go (meaning call .limiters)
-  where
-    go : (tests : Bool) → firstOf ((elim tests [ true ↦ brokenLimiter ∷ [] | false ↦ [] ]) ++ ps) w ≡ firstOf ps w
-    go true = passes brokenLimiter ps w sound
-    go false = refl
+behind-limiters w call ps = behind-if (meaning call .limiters) brokenLimiter ps w
+
+pub behind-books : (w : World) (call : Call) (ps : List Place) → brokenBook .applies w ≡ false → firstOf (bookPlaces call ++ ps) w ≡ firstOf ps w
+unfolding bookPlaces
+behind-books w call ps = behind-if (meaning call .books) brokenBook ps w
 
 pub lent-refusal : (w : World) (call : Call) → Fits w → lentFits (w .grid) call ≡ false → refusal w call ≡ 2
 unfolding refusal commonPlaces
@@ -166,84 +170,126 @@ common-passed w call ps e =
       s .1,
     )
 
--- and where the limiters' place does not apply either, the limiters that a call tests are sound
-limiters-passed :
-    (w : World) (call : Call) (ps : List Place) → firstOf (limiterPlaces call ++ ps) w ≡ 0 →
-    (meaning call .limiters ≡ true → brokenLimiter .applies w ≡ false) × (firstOf ps w ≡ 0)
-unfolding limiterPlaces
-limiters-passed w call ps = go (meaning call .limiters)
-  where
-    go : (tests : Bool) → firstOf ((elim tests [ true ↦ brokenLimiter ∷ [] | false ↦ [] ]) ++ ps) w ≡ 0 → (tests ≡ true → brokenLimiter .applies w ≡ false) × (firstOf ps w ≡ 0)
-    go true e = let p = passed brokenLimiter ps w (lit< tt) e in (λ tests. p .0, p .1)
-    go false e = (λ tests. absurd (false≢true tests), e)
+-- .. and where such a place does not apply to a call that has it, what it tests is sound
+if-passed :
+    (has : Bool) (p : Place) (ps : List Place) (w : World) → 0 < p .number → firstOf (placeIf has p ++ ps) w ≡ 0 →
+    (has ≡ true → p .applies w ≡ false) × (firstOf ps w ≡ 0)
+if-passed true p ps w positive e = let q = passed p ps w positive e in (λ has. q .0, q .1)
+if-passed false p ps w positive e = (λ has. absurd (false≢true has), e)
+
+-- all that an accepted call tells of the world: its limiters and books are sound, if the call tests them
+pub record Accepted (w : World) (call : Call) : Type 0 where
+  pub fits : Fits w
+  pub lent : lentFits (w .grid) call ≡ true
+  pub limiters : meaning call .limiters ≡ true → brokenLimiter .applies w ≡ false
+  pub books : meaning call .books ≡ true → brokenBook .applies w ≡ false
+  pub own : firstOf (ownPlaces call) w ≡ 0
+
+pub all-passed : (w : World) (call : Call) → refusal w call ≡ 0 → Accepted w call
+unfolding refusal limiterPlaces bookPlaces
+all-passed w call e =
+    let p = common-passed w call (limiterPlaces call ++ (bookPlaces call ++ ownPlaces call)) e in
+    let q = if-passed (meaning call .limiters) brokenLimiter (bookPlaces call ++ ownPlaces call) w (lit< tt) (p .2) in
+    let r = if-passed (meaning call .books) brokenBook (ownPlaces call) w (lit< tt) (q .1) in
+    record { fits = p .0; lent = p .1; limiters = q .0; books = r .0; own = r .1 }
 
 pub accepted-passed : (w : World) (call : Call) → refusal w call ≡ 0 → Fits w × (lentFits (w .grid) call ≡ true) × (firstOf (ownPlaces call) w ≡ 0)
-unfolding refusal
-accepted-passed w call e =
-    let p = common-passed w call (limiterPlaces call ++ ownPlaces call) e in
-    (p .0, p .1, limiters-passed w call (ownPlaces call) (p .2) .1)
+accepted-passed w call e = let p = all-passed w call e in (p .fits, p .lent, p .own)
 
 pub accepted-limiters : (w : World) (call : Call) → meaning call .limiters ≡ true → refusal w call ≡ 0 → brokenLimiter .applies w ≡ false
-unfolding refusal
-accepted-limiters w call tests e =
-    limiters-passed w call (ownPlaces call) (common-passed w call (limiterPlaces call ++ ownPlaces call) e .2) .0 tests
+accepted-limiters w call tests e = all-passed w call e .limiters tests
 
 pub loaded-fits : (w : World) → Loaded w → Fits w
 loaded-fits w start = accepted-passed w load (sym (answer-is w load) ∙ start) .0
+
+-- ---- the books of a world balance: of every tracer
+abbrev pub Balanced : World → Type 0
+Balanced w = (t : ℕ) → t < w .grid .N → loadedSum (block w t) + emittedSum (block w t) ≡ withdrawnSum (block w t) + gasTotal w t
+
+pub balanced-sound : (w : World) → Balanced w → brokenBook .applies w ≡ false
+balanced-sound w all = ap not (every-true _ _ (λ t h. eq-eqb _ _ (all t h)))
+
+pub sound-balanced : (w : World) → brokenBook .applies w ≡ false → Balanced w
+sound-balanced w sound t h = eqb-true _ _ (every-at _ _ (not-false _ sound) t h)
 
 -- ---- what holds of every world that calls reach from an accepted load
 pub record Reached (w : World) : Type 0 where
   pub fits : Fits w
   pub blocks : (t : ℕ) → t < w .grid .N → Sound (worldCells (w .grid)) (block w t)
+  pub balanced : Balanced w
 
--- no limiter is broken there, so that a call's refusal is that of its own places alone, if the list that it lends fits
+-- no limiter and no book is broken there, so that a call's refusal is that of its own places alone, if the list that it lends fits
 pub limiters-sound : {w : World} → Reached w → brokenLimiter .applies w ≡ false
 limiters-sound reached = ap not (every-true _ _ (λ t h. reached .blocks t h .limiter))
 
-pub own-refusal : (w : World) (call : Call) → Reached w → lentFits (w .grid) call ≡ true → refusal w call ≡ firstOf (ownPlaces call) w
-own-refusal w call reached lent = behind-common w call (reached .fits) lent ∙ behind-limiters w call (ownPlaces call) (limiters-sound reached)
+pub books-sound : {w : World} → Reached w → brokenBook .applies w ≡ false
+books-sound {w} reached = balanced-sound w (reached .balanced)
 
--- an accepted load leaves the world as it was lent, but for its ledger, in which no emitter stands and every tracer has the first limiter
+pub own-refusal : (w : World) (call : Call) → Reached w → lentFits (w .grid) call ≡ true → refusal w call ≡ firstOf (ownPlaces call) w
+own-refusal w call reached lent =
+    behind-common w call (reached .fits) lent ∙ behind-limiters w call (bookPlaces call ++ ownPlaces call) (limiters-sound reached) ∙
+    behind-books w call (ownPlaces call) (books-sound reached)
+
+-- an accepted load leaves the world as it was lent, but for its ledger, in which no emitter stands, every tracer has the first limiter, and its book has its total as loaded
 pub loaded-is : (w : World) → Loaded w → loadedWorld w ≡ cleared w
 unfolding accepted
 loaded-is w start = ap (λ (r : Result). r .next) (step-accepted w load (sym (answer-is w load) ∙ start))
 
 -- its ledger is made of blocks of one length
-length-cleared : (n : ℕ) → length (joined (tab n (λ t. freshBlock))) ≡ n * blockNumbers
-length-cleared n = length-blocks n blockNumbers (λ t. freshBlock) (λ t h. none-sound 0 .many)
+module _ (w : World) where
+  length-cleared : length (cleared w .ledger) ≡ w .grid .N * blockNumbers
+  length-cleared = length-blocks (w .grid .N) blockNumbers (λ t. freshBlock (gasTotal w t)) (λ t h. none-sound (gasTotal w t) 0 .many)
 
-pub loaded-block : (w : World) → Loaded w → (t : ℕ) → t < w .grid .N → block (loadedWorld w) t ≡ freshBlock
-loaded-block w start t h =
-    rw (loaded-is w start) (part-blocks (w .grid .N) blockNumbers (λ t. freshBlock) (λ t h. none-sound 0 .many) t h)
+  cleared-block : (t : ℕ) → t < w .grid .N → block (cleared w) t ≡ freshBlock (gasTotal w t)
+  cleared-block = part-blocks (w .grid .N) blockNumbers (λ t. freshBlock (gasTotal w t)) (λ t h. none-sound (gasTotal w t) 0 .many)
 
--- so two loads leave the same block of each tracer
+  -- .. and its books balance
+  cleared-balanced : Balanced (cleared w)
+  cleared-balanced t h =
+      let n = gasTotal w t in
+      rw (cleared-block t h) (omega (arith, fresh-loaded n, fresh-emitted n, fresh-withdrawn n))
+
+pub loaded-block : (w : World) → Loaded w → (t : ℕ) → t < w .grid .N → block (loadedWorld w) t ≡ freshBlock (gasTotal w t)
+loaded-block w start t h = rw (loaded-is w start) (cleared-block w t h)
+
+-- so two loads leave the same block of each tracer of which they have the same amounts
 pub loaded-alike : (w v : World) → Loaded w → Loaded v → (own : ℕ → Bool) → LoadedAlike own (loadedWorld w) (loadedWorld v) → Alike own (loadedWorld w) (loadedWorld v)
 loaded-alike w v lw lv own a =
     record {
       sameGrid = a .sameGrid;
       sameAir = a .sameAir;
       sameGas = a .sameGas;
-      sameBlock = λ t o. ap (λ (l : List ℕ). part l (t * blockNumbers) blockNumbers) same-ledger;
+      sameBlock = λ t o. rw (loaded-is w lw, loaded-is v lv) (same t o (ltb t (w .grid .N)) refl);
     }
   where
-    ledger-is : (u : World) → Loaded u → loadedWorld u .ledger ≡ joined (tab (loadedWorld u .grid .N) (λ t. freshBlock))
-    ledger-is u l = rw (loaded-is u l)
+    grids : w .grid ≡ v .grid
+    grids = rw (loaded-is w lw, loaded-is v lv) at (a .sameGrid)
 
-    same-ledger : loadedWorld w .ledger ≡ loadedWorld v .ledger
-    same-ledger =
-        ledger-is w lw ∙ ap (λ (g : Grid). joined (tab (g .N) (λ t. freshBlock))) (a .sameGrid) ∙ sym (ledger-is v lv)
+    totals : (t : ℕ) → own t ≡ true → gasTotal w t ≡ gasTotal v t
+    totals t o =
+        ap₂ (λ (g : Grid) (l : List ℕ). sum (worldCells g) (at l)) grids (rw (loaded-is w lw, loaded-is v lv) at (a .sameGas t o))
+
+    same : (t : ℕ) → own t ≡ true → (b : Bool) → ltb t (w .grid .N) ≡ b → block (cleared w) t ≡ block (cleared v) t
+    same t o true e =
+        let h = ltb-true t (w .grid .N) e in
+        cleared-block w t h ∙ ap freshBlock (totals t o) ∙ sym (cleared-block v t (rw (← grids) h))
+    same t o false e =
+        let h = ltb-false t (w .grid .N) e in
+        block-absent (cleared w) t (length-cleared w) h ∙ sym (block-absent (cleared v) t (length-cleared v) (rw (← grids) h))
 
 pub loaded-reached : (w : World) → Loaded w → Reached (loadedWorld w)
 loaded-reached w start =
     let fits = loaded-fits w start in
-    record {
-      fits = rw (loaded-is w start) (record {
+    rw (loaded-is w start)
+    (record {
+      fits = record {
         grid = fits .grid;
         airLength = fits .airLength;
         tracersLength = fits .tracersLength;
-        ledgerLength = length-cleared (w .grid .N);
+        ledgerLength = length-cleared w;
         air = fits .air;
         totals = fits .totals;
-      });
-      blocks = λ t h. rw (loaded-block w start t (rw (loaded-is w start) at h)) (none-sound _);
-    }
+      };
+      blocks = λ t h. rw (cleared-block w t h) (none-sound (gasTotal w t) _);
+      balanced = cleared-balanced w;
+    })

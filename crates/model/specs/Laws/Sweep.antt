@@ -22,12 +22,12 @@ use Rattle.model.specs.Laws.Scheme.{Limited}
 use Rattle.model.specs.Laws.Mesh.{Regular}
 use Rattle.model.specs.Laws.Substep.{AirIn, air-bounds}
 use Rattle.model.specs.Laws.Chain.{length-air-after, length-gas-after, air-after-in, air-after-total, gas-after-total, even-chain}
-use Rattle.model.specs.Laws.Step.{Fits, Reached}
+use Rattle.model.specs.Laws.Step.{Fits}
 use Rattle.model.specs.Laws.Limiters.{rule-limited, rule-monotone}
 use Rattle.model.specs.Laws.Range.{sweep-in-range}
-use Rattle.model.specs.Laws.Keeps.{Kept, MeaningKeeps}
+use Rattle.model.specs.Laws.Keeps.{Keeps, MeaningKeeps}
 use Rattle.model.specs.Laws.Moved.{KeepsAir, KeepsGas}
-use Rattle.model.specs.Laws.Part.{cells-in, part-kept, ChangesOnly, part-air-is, part-gas-is, part-only, SameCells, part-alike, part-same}
+use Rattle.model.specs.Laws.Part.{cells-in, part-keeps, ChangesOnly, part-air-is, part-gas-is, part-only, SameCells, part-alike, part-same}
 
 -- ---- what is known of a sweep that is accepted: its mesh, where its cells lie, and its count
 pub record Sweeps (w : World) (mesh : Mesh) (a : ℕ) (fluxes : List ℤ) (n : ℕ) : Type 0 where
@@ -96,10 +96,10 @@ module _ (w : World) (fits : Fits w) (mesh : Mesh) (a : ℕ) (fluxes : List ℤ)
       (length-air-after mesh fluxes n old old-many n)
       (λ t had e. length-gas-after mesh fluxes n old (ruleOf w t) had e n)
 
-  pub swept-kept : Reached w → Kept w (swept w mesh a fluxes n) (λ t. noExchange)
+  pub swept-keeps : Keeps w (swept w mesh a fluxes n) (λ t. noExchange)
   unfolding swept
-  swept-kept reached =
-      part-kept w reached a (mesh .cells) (s .inside) _ _
+  swept-keeps =
+      part-keeps w fits a (mesh .cells) (s .inside) _ _
       (chain-air mesh (s .regular) fluxes n old old-many old-in (s .serving))
       (λ t. chain-gas mesh (s .regular) fluxes n old old-many old-in (s .serving) (rule-limited w t))
 
@@ -171,12 +171,12 @@ module _ (meshOf : Grid → Mesh) (startOf : Grid → ℕ) (countOf : Grid → L
       record {
         samePlaces = λ own w v ww vv a named. places own w v a;
         accepts =
-            λ w reached e.
+            λ w fits e.
             let s = passed w e in
             record {
-              kept = swept-kept w (reached .fits) _ _ fluxes _ s reached;
-              inRange = swept-in-range w (reached .fits) _ _ fluxes _ s;
-              alike = λ own v vv a named. swept-alike meshOf startOf countOf fluxes own w v (reached .fits) (vv .fits) a (s .inside);
+              keeps = swept-keeps w fits _ _ fluxes _ s;
+              inRange = swept-in-range w fits _ _ fluxes _ s;
+              alike = λ own v fv a named. swept-alike meshOf startOf countOf fluxes own w v fits fv a (s .inside);
               apart = λ own other. absurd (true≢false other);
             };
       }

@@ -11,10 +11,11 @@ use borrow.Author.Tests.{ltb-true, ltb-false}
 use lib.Dec.{ltb}
 use lib.ListN.{length, set, getD, take, drop-of-length-le}
 use lib.Seq.{take-nil}
+use Rattle.model.specs.Limits.{blockNumbers}
 use Rattle.model.specs.Basic.{part, tab, joined}
-use Rattle.model.specs.World.{World, worldCells, tracerStart, gas, gasTotal, moved}
+use Rattle.model.specs.World.{World, worldCells, tracerStart, gas, gasTotal, block, withBlock, moved}
 use Rattle.model.specs.Step.{withAmount, amountAt}
-use Rattle.model.specs.Laws.Basic.{sum-set, length-tab, getD-tab, Each, length-joined, part-joined, length-part, part-set-within, part-set-behind, part-set-before}
+use Rattle.model.specs.Laws.Basic.{sum-set, length-tab, getD-tab, Each, length-joined, part-joined, length-part, length-rewritten, part-rewritten, part-not-rewritten, part-set-within, part-set-behind, part-set-before}
 
 -- a list of parts of n entries each, with one entry of part t set: part t' is as it was
 part-set-elsewhere : (l : List ℕ) (n t t' c x : ℕ) → c < n → t' ≢ t → part (set l (t * n + c) x) (t' * n) n ≡ part l (t' * n) n
@@ -49,6 +50,29 @@ pub gas-absent : (w : World) (t : ℕ) → length (w .tracers) ≡ w .grid .N * 
 gas-absent w t fits h =
     ap (take (worldCells (w .grid))) (drop-of-length-le (w .tracers) {i = tracerStart (w .grid) t} (omega (arith, mul-le-mul-right (worldCells (w .grid)) h))) ∙
     take-nil (worldCells (w .grid))
+
+-- nor has it a block of the ledger
+pub block-absent : (w : World) (t : ℕ) → length (w .ledger) ≡ w .grid .N * blockNumbers → w .grid .N ≤ t → block w t ≡ []
+block-absent w t fits h =
+    ap (take blockNumbers) (drop-of-length-le (w .ledger) {i = t * blockNumbers} (omega (arith, mul-le-mul-right blockNumbers h))) ∙
+    take-nil blockNumbers
+
+-- a tracer of the grid has a block, and the world with another block of tracer t
+pub length-block : (w : World) (t : ℕ) → length (w .ledger) ≡ w .grid .N * blockNumbers → t < w .grid .N → length (block w t) ≡ blockNumbers
+length-block w t long there =
+    length-part (w .ledger) (t * blockNumbers) blockNumbers (omega (arith, mul-le-mul-right blockNumbers there))
+
+module _
+    (w : World) (long : length (w .ledger) ≡ w .grid .N * blockNumbers) (t : ℕ) (there : t < w .grid .N) (new : List ℕ)
+    (many : length new ≡ blockNumbers) where
+  pub length-with-block : length (withBlock w t new .ledger) ≡ w .grid .N * blockNumbers
+  length-with-block = length-rewritten (w .ledger) new (w .grid .N) blockNumbers t long many there
+
+  pub block-changed : block (withBlock w t new) t ≡ new
+  block-changed = part-rewritten (w .ledger) new (w .grid .N) blockNumbers t long many there
+
+  pub block-unchanged : (u : ℕ) → u ≢ t → block (withBlock w t new) u ≡ block w u
+  block-unchanged = part-not-rewritten (w .ledger) new (w .grid .N) blockNumbers t long many there
 
 -- blocks of n numbers, one after the other
 module _ (count n : ℕ) (f : ℕ → List ℕ) (as-many : (t : ℕ) → t < count → length (f t) ≡ n) where

@@ -12,7 +12,7 @@ use Rattle.model.specs.Basic.{every}
 use Rattle.model.specs.World.{Grid, World, rowStart}
 use Rattle.model.specs.Sweep.{ring, substepCount}
 use Rattle.model.specs.Limiters.{limiterFits, limiterOf}
-use Rattle.model.specs.Step.{zonal, countZonal, zonalWithCount, Place, firstOf, brokenLimiter, fluxTooLarge, sweepsRow, meaning, lentFits, commonPlaces, limiterPlaces, ownPlaces, accepted, refused, refusal, step, rowAir, zonalCount}
+use Rattle.model.specs.Step.{zonal, countZonal, zonalWithCount, Place, firstOf, brokenLimiter, brokenBook, fluxTooLarge, sweepsRow, meaning, lentFits, commonPlaces, limiterPlaces, bookPlaces, ownPlaces, accepted, refused, refusal, step, rowAir, zonalCount}
 use Rattle.model.specs.Lists.{SameReply}
 use Rattle.model.specs.Laws.Basic.{every-ext}
 use Rattle.model.specs.Laws.Grid.{row-inside}
@@ -95,10 +95,10 @@ zonal-changes-only k r fluxes w =
 abbrev pub SameRow : ℕ → ℕ → World → World → Type 0
 SameRow k r w v = SameCells (λ g. rowStart g k r) (λ g. g .W) w v
 
--- once places 1 to 4 are passed, answer and count depend on that row's air, and on whether a limiter is broken, alone
+-- once places 1 to 4 are passed, answer and count depend on that row's air, and on whether a limiter or a book is broken, alone
 module _
     (k r : ℕ) (fluxes : List ℤ) (w v : World) (sameGrid : w .grid ≡ v .grid) (sameAir : rowAir w k r ≡ rowAir v k r)
-    (sameLimiters : brokenLimiter .applies w ≡ brokenLimiter .applies v) where
+    (sameLimiters : brokenLimiter .applies w ≡ brokenLimiter .applies v) (sameBooks : brokenBook .applies w ≡ brokenBook .applies v) where
   pub count-row : zonalCount w k r fluxes ≡ zonalCount v k r fluxes
   count-row = ap₂ (λ (g : Grid) (air : List ℕ). substepCount (ring (g .W)) fluxes air) sameGrid sameAir
 
@@ -111,9 +111,12 @@ module _
       (λ small. firstOf-same _ [] w v (ap (λ (n : ℕ). eqb n 0) count-row)
       (λ some. unfold firstOf in refl))))
 
-  places-row : firstOf (limiterPlaces (zonal k r fluxes) ++ ownPlaces (zonal k r fluxes)) w ≡ firstOf (limiterPlaces (zonal k r fluxes) ++ ownPlaces (zonal k r fluxes)) v
-  unfolding limiterPlaces
-  places-row = firstOf-same brokenLimiter _ w v sameLimiters (λ sound. own-places-row)
+  abbrev places : List Place
+  places = limiterPlaces (zonal k r fluxes) ++ (bookPlaces (zonal k r fluxes) ++ ownPlaces (zonal k r fluxes))
+
+  places-row : firstOf places w ≡ firstOf places v
+  unfolding limiterPlaces bookPlaces
+  places-row = firstOf-same brokenLimiter _ w v sameLimiters (λ sound. firstOf-same brokenBook _ w v sameBooks (λ balanced. own-places-row))
 
   pub refusal-row : Fits w → Fits v → refusal w (zonal k r fluxes) ≡ refusal v (zonal k r fluxes)
   refusal-row fw fv = go (lentFits (w .grid) (zonal k r fluxes)) refl
@@ -133,8 +136,8 @@ module _
       go zero e f = rw (step-accepted w (zonal k r fluxes) e, step-accepted v (zonal k r fluxes) f) count-row
       go (suc n) e f = rw (step-refused w (zonal k r fluxes) n e, step-refused v (zonal k r fluxes) n f)
 
--- once places 1 to 4 are passed, answer, count and new row depend on that row and the limiters alone
-module _ (k r : ℕ) (fluxes : List ℤ) (w v : World) (row : SameRow k r w v) where
+-- once places 1 to 4 are passed, answer, count and new row depend on that row, the limiters and whether a book is broken alone
+module _ (k r : ℕ) (fluxes : List ℤ) (w v : World) (row : SameRow k r w v) (sameBooks : brokenBook .applies w ≡ brokenBook .applies v) where
   same-limiters : brokenLimiter .applies w ≡ brokenLimiter .applies v
   same-limiters =
       ap not
@@ -158,5 +161,5 @@ module _ (k r : ℕ) (fluxes : List ℤ) (w v : World) (row : SameRow k r w v) w
   row-alone cw cv =
       let pw = common-passed w (zonal k r fluxes) [] cw in
       let pv = common-passed v (zonal k r fluxes) [] cv in
-      let same = refusal-row k r fluxes w v (row .sameGrid) (row .sameAir) same-limiters (pw .0) (pv .0) in
-      (reply-row k r fluxes w v (row .sameGrid) (row .sameAir) same-limiters (pw .0) (pv .0), same-step (pw .0) (pv .0) (refusal w (zonal k r fluxes)) refl (sym same))
+      let same = refusal-row k r fluxes w v (row .sameGrid) (row .sameAir) same-limiters sameBooks (pw .0) (pv .0) in
+      (reply-row k r fluxes w v (row .sameGrid) (row .sameAir) same-limiters sameBooks (pw .0) (pv .0), same-step (pw .0) (pv .0) (refusal w (zonal k r fluxes)) refl (sym same))

@@ -7,21 +7,26 @@ use mathlib.Core.Path.{_≡_, refl, sym, _∙_, ap, subst}
 use native.Mathlib.Omega.{arith}
 use lib.ListN.{length}
 use Rattle.model.specs.World.{Grid, World, gasTotal}
-use Rattle.model.specs.Step.{Call, load, total, meaning, ownPlaces, accepted, step, Result}
+use Rattle.model.specs.Step.{Call, load, total, noExchange, meaning, ownPlaces, accepted, step, Result}
 use Rattle.model.specs.Lists.{loadedWorld, listed, after, history}
 use Rattle.model.specs.Laws.Step.{Fits, Reached, found as present, accepted-passed, loaded-reached, step-accepted, answer-is}
 use Rattle.model.specs.Laws.Entries.{below-or-not}
 use Rattle.model.specs.Laws.Lists.{after-append, listed-append}
 use Rattle.model.specs.Demand3.{calls-keep}
+use Rattle.model.specs.OnRecord.{OnRecord, loaded-on-record}
 use Rattle.program.specs.Records.{Kind, unknown, gridKind, loadKind, emissionKind, withdrawalKind, zonalKind, meridionalKind, remapKind, totalKind, cellKind, kindOf, State, start, gridded, loaded, worldOf, gridOf, isLoaded, inPlace, bodyLength, commandOf, gridRefusal, Command, setGrid, setWorld, make, Finding, nothing, fault, command, Line, line, afterLoad, Outcome, none, onward, last, found, needed, carriedOut, outcomeOf}
 use Rattle.program.specs.Lines.{Entry, entry, entriesFrom}
 use Rattle.program.specs.Laws.Lines.{firstOutcome, entries-none, entries-onward, entries-last}
 use Rattle.program.specs.Laws.Records.{found-misplaced, found-short, found-command}
 use Rattle.program.specs.Totals.{Since, noted, since, worldNow}
 
--- ---- what is noted stands behind a state: nothing before a load; then the loaded world is reached by the noted calls, none of which is a load
+-- ---- what is noted stands behind a state: nothing before a load; then the loaded world is reached by the noted calls, none of which is a load, and the books began with the load
+abbrev pub BooksBegin : World → Type 0
+BooksBegin first = (t : ℕ) → t < first .grid .N → OnRecord first first t noExchange
+
 pub record Behind (w : World) (s : Since) : Type 0 where
   pub reached : Reached (s .first)
+  pub begun : BooksBegin (s .first)
   pub now : w ≡ worldNow s
   pub allListed : listed (s .calls) ≡ true
 
@@ -38,6 +43,7 @@ unfolding after listed
 make-sound w call s l may behind =
     record {
       reached = behind .reached;
+      begun = behind .begun;
       now = ap (λ (v : World). step v call .next) (behind .now) ∙ sym (after-append (s .first) (s .calls) (call ∷ []));
       allListed = listed-append (s .calls) (call ∷ []) (behind .allListed) (rw may);
     }
@@ -53,7 +59,7 @@ load-sound w s l same = go (step w load .answer) refl
     go : (n : ℕ) → step w load .answer ≡ n → Sound (afterLoad w) (noted s e)
     go zero h =
         let begun : noted s e ≡ record { first = loadedWorld w; calls = [] } = rw (same ∙ h, noted) in
-        rw (h, afterLoad, begun) (record { reached = loaded-reached w h; now = refl; allListed = refl })
+        rw (h, afterLoad, begun) (record { reached = loaded-reached w h; begun = loaded-on-record w h; now = refl; allListed = refl })
     go (suc n) h = rw (h, afterLoad) tt
 
 -- ---- .. over any record that does not end the program
@@ -135,6 +141,7 @@ module _ (byte : ℕ) (s : Since) (l : Line) (next : State) where
 -- ---- a call's line: answer and count are `step`'s in the world behind it
 pub record Said (s : Since) (call : Call) (e : Entry) : Type 0 where
   pub reached : Reached (s .first)
+  pub begun : BooksBegin (s .first)
   pub allListed : listed (s .calls) ≡ true
   pub answered : e .printed .answer ≡ step (worldNow s) call .answer
   pub counted : e .printed .count ≡ step (worldNow s) call .count
@@ -151,6 +158,7 @@ module _ (byte : ℕ) (bytes : List ℕ) (s : Since) where
   said (loaded w) call p sound e same =
       record {
         reached = sound .reached;
+        begun = sound .begun;
         allListed = sound .allListed;
         answered = ap (λ (x : Line). x .answer) same ∙ ap (λ (v : World). step v call .answer) (sound .now);
         counted = ap (λ (x : Line). x .count) same ∙ ap (λ (v : World). step v call .count) (sound .now);

@@ -1,7 +1,7 @@
 -- `record_to_line::take_call` meets its contract: the call made in the world at the start of the buffers.
-use mathlib.Core.Path.{refl, sym, _∙_}
+use mathlib.Core.Path.{sym, _∙_}
 use Rattle.stages.specs.Buffers.{buffers}
-use Rattle.record_to_line.specs.Laws.{small, make-need, amounts-few, numbers-few, tracers-room, parts-sized}
+use Rattle.record_to_line.specs.Laws.{small, make-need, amounts-few, numbers-few, tracers-room, ledger-room, parts-sized}
 use Rattle.record_to_line.specs.Leaves.{call-leaves}
 use Rattle.units.specs.The.{the}
 use borrow.Author.Needs.{needs}
@@ -44,6 +44,11 @@ slice-aggregate-make-2 c =
     let cells = the tie.After-cells-of (search) .cells-of in
     sym (parts-sized (start .pre) (cells .ensures .1) .tracers)
 
+slice-relend-prefix-make-3 : tie.Need-slice-relend-prefix-make-3
+slice-relend-prefix-make-3 c =
+    let start : tie.Start = search in
+    ledger-room (start .pre)
+
 slice-aggregate-make-3 : tie.Need-slice-aggregate-make-3
 slice-aggregate-make-3 c =
     let start : tie.Start = search in
@@ -64,8 +69,8 @@ returns c =
     let kept = made .kept .1 .1 .1 in
     λ call asked.
     call-leaves (cells .ensures .0) (buffers _ _ _) (buffers _ _ _)
-    (record { air = kept .0 ∙ parts .air; tracers = kept .1 .0 ∙ parts .tracers; ledger = parts .ledger }) (start .pre .taken) (start .args .kind) call (made .result) _
-    (c .line-of .ensures) refl (made .ensures .made call asked)
+    (record { air = kept .0 ∙ parts .air; tracers = kept .1 .0 ∙ parts .tracers; ledger = kept .1 .1 .0 ∙ parts .ledger }) (start .pre .taken) (start .args .kind) call (made .result) _
+    (c .line-of .ensures) (made .ensures .made call asked)
 
 pub take-call-spec : {M : Type 1} → statement M
 take-call-spec =
@@ -80,9 +85,11 @@ take-call-spec =
     slice-aggregate-make
     slice-relend-prefix-make-2
     slice-aggregate-make-2
+    slice-relend-prefix-make-3
     slice-aggregate-make-3
     make-requires
     (λ c κs. search needs)  -- line-of-requires
     (λ c. search needs)  -- same-length
     (λ c. search needs)  -- same-length-2
+    (λ c. search needs)  -- same-length-3
     returns)

@@ -26,7 +26,7 @@ returns : tie.Need-returns
 returns c =
     let no : tie.Else1 = search in
     let tested : tie.After-common-places = search in
-    common-placed (tested .common-places .ensures) (λ z. no .if1 .left (no .before .number .ensures ∙ z)) refl refl (c .not-placed .ensures)
+    common-placed (tested .common-places .ensures) (λ z. no .if1 .left (no .before .number .ensures ∙ z)) refl refl refl (c .not-placed .ensures)
 
 -- places 1 to 4 and 21 are passed
 passed : (c : tie.Then1) →
@@ -50,7 +50,7 @@ returns-2 : tie.Need-returns-2
 returns-2 c =
     let no : tie.Else2 = search in
     let common : tie.Then1 = search in
-    stop (own-left (passed common) refl refl) (fails (no .before .table-fits .ensures) (no .if2 .left)) (c .not-placed2 .ensures) refl
+    stop (own-left (passed common) refl refl refl) (fails (no .before .table-fits .ensures) (no .if2 .left)) (c .not-placed2 .ensures) refl
 
 -- the table fits
 table-fit : (c : tie.Then2) → let s : tie.Start = search in tableFits (s .args .g .k) (s .args .table .now) ≡ true
@@ -59,7 +59,7 @@ table-fit c = sym (c .before .table-fits .ensures) ∙ c .if2 .taken
 past-table : (c : tie.Then2) → let s : tie.Start = search in Left (world s) (Like (world s) (call s)) (fromServing (s .args .table .now))
 past-table c =
     let common : tie.Then1 = search in
-    next (own-left (passed common) refl refl) (fits (c .before .table-fits .ensures) (c .if2 .taken))
+    next (own-left (passed common) refl refl refl) (fits (c .before .table-fits .ensures) (c .if2 .taken))
 
 layer-cells-requires : tie.Need-layer-cells-requires
 layer-cells-requires c κs =

@@ -27,6 +27,7 @@ refusal-number-spec =
     (λ c. search needs)  -- enum-told-16
     (λ c. search needs)  -- enum-told-17
     (λ c. search needs)  -- enum-told-18
+    (λ c. search needs)  -- enum-told-19
     (λ c. sym (ap refusalNumber (c .enum-told .given .1)))  -- returns
     (λ c. sym (ap refusalNumber (c .enum-told2 .given .1)))  -- returns-2
     (λ c. sym (ap refusalNumber (c .enum-told3 .given .1)))  -- returns-3
@@ -44,4 +45,5 @@ refusal-number-spec =
     (λ c. sym (ap refusalNumber (c .enum-told15 .given .1)))  -- returns-15
     (λ c. sym (ap refusalNumber (c .enum-told16 .given .1)))  -- returns-16
     (λ c. sym (ap refusalNumber (c .enum-told17 .given .1)))  -- returns-17
-    (λ c. sym (ap refusalNumber (c .enum-told18 .given .1))))  -- returns-18
+    (λ c. sym (ap refusalNumber (c .enum-told18 .given .1)))  -- returns-18
+    (λ c. sym (ap refusalNumber (c .enum-told19 .given .1))))  -- returns-19
