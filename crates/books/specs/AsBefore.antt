@@ -36,14 +36,11 @@ pub record Before : Type 0 where
   pub places : List Place
   pub next : World → World
 
-abbrev pub changesBefore : ℕ → ℕ → Place → (ℕ → ℕ) → Before
+abbrev changesBefore : ℕ → ℕ → Place → (ℕ → ℕ) → Before
 changesBefore t c refusing new =
-    record {
-      places = absent t (λ g. g .N) ∷ absent c worldCells ∷ refusing ∷ [];
-      next = λ w. withAmount w t c (new (amountAt w t c));
-    }
+    record { places = absent t (λ g. g .N) ∷ absent c worldCells ∷ refusing ∷ []; next = λ w. withAmount w t c (new (amountAt w t c)) }
 
-abbrev pub unchanged : Meaning → Before
+abbrev unchanged : Meaning → Before
 unchanged m = record { places = m .places; next = m .next }
 
 abbrev pub before : Call → Before
@@ -225,8 +222,8 @@ module _ (w : World) (so : Reached w) (other : List ℕ) (same : ButBooks w (wit
         exchange = λ u i. elim (eqb t u) [ true ↦ xx i | false ↦ noExchange ];
         places =
             λ room.
-            (λ i. third absence (qq i) (aa i || b w)) ∙
-            skip absence (q .applies v) (a v) (λ e. fails (rw (eq-eqb t t refl) at (room e t (found t (λ g. g .N) (q ∷ place n a ∷ []) v e .0))));
+            (λ i. third (not (ltb t (w .grid .N))) (qq i) (aa i || b w)) ∙
+            skip (not (ltb t (w .grid .N))) (q .applies v) (a v) (λ e. fails (rw (eq-eqb t t refl) at (room e t (found t (λ g. g .N) (q ∷ place n a ∷ []) v e .0))));
         count = refl;
         next =
             λ e.
@@ -234,9 +231,6 @@ module _ (w : World) (so : Reached w) (other : List ℕ) (same : ButBooks w (wit
             record { sameGrid = refl; sameAir = refl; sameTracers = moves there; sameBlocks = λ u. blocks there u (ℕ-discrete u t); long = same .long };
       }
     where
-      absence : Bool
-      absence = not (ltb t (w .grid .N))
-
       third : Bool → Bool → Bool → ℕ
       third p y z = elim p [ true ↦ 5 | false ↦ elim y [ true ↦ q .number | false ↦ elim z [ true ↦ n | false ↦ 0 ] ] ]
 
@@ -265,13 +259,7 @@ module _ (w : World) (so : Reached w) (other : List ℕ) (same : ButBooks w (wit
             let p = found t (λ g. g .N) ps w e in
             let bb = keeps (block w t) ∙ so .blocks t (p .0) .many in
             let dd = keeps (block v t) ∙ sound t (p .0) .many in
-            record {
-              sameGrid = refl;
-              sameAir = refl;
-              sameTracers = refl;
-              sameBlocks = λ u. blocks (p .0) bb dd (but (p .0) (p .1)) u (ℕ-discrete u t);
-              long = length-with-block v (same .long) t (p .0) (new (block v t)) dd;
-            };
+            record { sameGrid = refl; sameAir = refl; sameTracers = refl; sameBlocks = λ u. blocks (p .0) bb dd (but (p .0) (p .1)) u (ℕ-discrete u t); long = length-with-block v (same .long) t (p .0) _ dd };
       }
     where
       blocks :
@@ -384,7 +372,7 @@ list-as-before w v so same (call ∷ calls) held room (suc i) =
     (λ t h. let there : t < w .grid .N = rw (kept .sameGrid) at h in within-rest (block w t) _ _ _ (room t there) (rw (one .1 t) at (kept .booked t there))) i in
     (rest .0, λ h. rest .1 (omega arith))
 
--- as there is after an accepted load, if what the list then exchanged of each tracer is within the limit: "4,294,967,295"
+-- Where no sum would pass its limit every run gives what it gave: after an accepted load, if all that the list exchanged of each tracer before the books is within 4,294,967,295, then at each point the two worlds differ in the books alone, and call i of the list gets the same answer and count in both
 pub as-before :
     (w : World) (calls : List Call) → Loaded w → listed calls ≡ true →
     ((t : ℕ) → t < w .grid .N → (historyBefore (loadedWorld w) t calls .emitted ≤ sumLimit) × (historyBefore (loadedWorld w) t calls .withdrawn ≤ sumLimit)) → (i : ℕ) →
