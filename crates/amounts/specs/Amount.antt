@@ -8,9 +8,9 @@ use Rattle.model.specs.Basic.{at, joined, tab}
 use Rattle.model.specs.World.{World, world_cells, with_amounts, with_ledger, tracer_start, gas, block, gas_total}
 use Rattle.model.specs.Books.{emitted_sum, withdrawn_sum, entered, fresh_block}
 use Rattle.model.specs.Step.{no_room, too_little, amount_at, first_of, limiter_places, book_places, own_places, load, emission, withdrawal, cell}
-use Rattle.model.specs.Laws.Basic.{tab_ext, at_part, term_le_sum}
-use Rattle.model.specs.Laws.Grid.{in_range_lem, amounts_most}
-use Rattle.model.specs.Laws.Step.{Fits}
+use Rattle.model.proofs.Laws.Basic.{tab_ext, at_part, term_le_sum}
+use Rattle.model.proofs.Laws.Grid.{in_range_lem, amounts_most}
+use Rattle.model.proofs.Laws.Step.{Fits}
 use Rattle.units.specs.declared.Answer.TheVariants.{Accepted, Refused}
 use Rattle.units.specs.declared.Refusal.TheVariants.{Emission, Withdrawal}
 use Rattle.units.specs.Answer.{number_of, Agrees}

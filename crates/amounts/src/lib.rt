@@ -1,4 +1,5 @@
 // The calls that move no air: load, emission, withdrawal, and the readings of a total and of a cell.
+#![tactic(auto)]
 ghost use Rattle.model.specs.Step.{load as load-call, emission as emission-call, withdrawal as withdrawal-call, total as total-call, cell as cell-call};
 ghost use Rattle.units.specs.Grid.{world_of};
 ghost use Rattle.units.specs.Answer.{Agrees};

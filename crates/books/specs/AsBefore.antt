@@ -24,15 +24,15 @@ use Rattle.model.specs.Limiters.{Limiter, limiter_fits, limiter_in, with_limiter
 use Rattle.model.specs.Books.{emitted_sum, withdrawn_sum, entered}
 use Rattle.model.specs.Step.{Call, load, emission, withdrawal, zonal, long_zonal, meridional, remap, total, cell, add_emitter, remove_emitter, tick, units_atick, count_zonal, zonal_with_count, set_limiter, Result, Place, place, first_of, absent, broken_record, broken_limiter, amount_at, with_amount, Exchange, no_exchange, booked, Meaning, meaning, common_places, limiter_places, book_places, own_places, accepted, refused, refusal, step}
 use Rattle.model.specs.Lists.{Loaded, loaded_world, listed, call_at, after, point, exchanged, added}
-use Rattle.model.specs.Laws.Basic.{every_true}
-use Rattle.model.specs.Laws.Emitters.{Sound, place_is, same_sound, sound_fits, fresh_emitted, fresh_withdrawn}
-use Rattle.model.specs.Laws.World.{length_block, length_with_block, block_changed, block_unchanged}
-use Rattle.model.specs.Laws.Step.{Reached, first_of_same, passed, found, numbered, behind_passed, behind_stopped, behind_limiters, behind_books, limiters_sound, books_sound, step_accepted, step_refused, accepted_passed, loaded_is, loaded_block, loaded_reached}
-use Rattle.model.specs.Laws.Keeps.{Entered}
-use Rattle.model.specs.Laws.Lists.{listed_split}
-use Rattle.model.specs.Laws.OneTracer.{booked_own, booked_other}
-use Rattle.model.specs.Laws.Standing.{record_sound, no_place_lem}
-use Rattle.model.specs.Demand3.{any_keeps}
+use Rattle.model.proofs.Laws.Basic.{every_true}
+use Rattle.model.proofs.Laws.Emitters.{Sound, place_is, same_sound, sound_fits, fresh_emitted, fresh_withdrawn}
+use Rattle.model.proofs.Laws.World.{length_block, length_with_block, block_changed, block_unchanged}
+use Rattle.model.proofs.Laws.Step.{Reached, first_of_same, passed, found, numbered, behind_passed, behind_stopped, behind_limiters, behind_books, limiters_sound, books_sound, step_accepted, step_refused, accepted_passed, loaded_is, loaded_block, loaded_reached}
+use Rattle.model.proofs.Laws.Keeps.{Entered}
+use Rattle.model.proofs.Laws.Lists.{listed_split}
+use Rattle.model.proofs.Laws.OneTracer.{booked_own, booked_other}
+use Rattle.model.proofs.Laws.Standing.{record_sound, no_place_lem}
+use Rattle.model.proofs.Demand3.{any_keeps}
 
 -- ---- `step` as it was before the books, but for the three numbers more of a block, which it neither reads nor writes, a load apart: no place 22, no limit of a sum in 6 and 7, and nothing entered
 pub record Before : Type 0 where

@@ -2,9 +2,9 @@
 -- Assumes nothing. Inputs, numbers and labels are the second implementation's (reference/cases/books.txt). It stands here and not in the model, whose edits would compute it anew each.
 use Rattle.std.specs.Prelude.{List, [], ◌∷◌, ◌++◌, refl, pos, neg_ℤ, replicate}
 use Rattle.model.specs.Step.{load, emission, withdrawal, zonal, long_zonal, meridional, remap, total, cell, add_emitter, remove_emitter, tick, units_atick, count_zonal, zonal_with_count, set_limiter}
-use Rattle.model.specs.Cases.{Case, Hold, hold, computes}
-use Rattle.model.specs.Cases.Marked.{grid, four, six, refuses, hundreds}
-use Rattle.model.specs.Cases.Books.{held, plain, lent, leaves, reads}
+use Rattle.model.proofs.Cases.{Case, Hold, hold, computes}
+use Rattle.model.proofs.Cases.Marked.{grid, four, six, refuses, hundreds}
+use Rattle.model.proofs.Cases.Books.{held, plain, lent, leaves, reads}
 
 pub further_book_cases : List Case
 further_book_cases =

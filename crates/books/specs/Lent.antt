@@ -8,8 +8,8 @@ use Rattle.std.proofs.lemmas.List.{set-get_or}
 use Rattle.model.specs.Limits.{most_tracers, block_numbers}
 use Rattle.model.specs.Basic.{part, written}
 use Rattle.model.specs.Books.{emitted_sum, withdrawn_sum, entered}
-use Rattle.model.specs.Laws.Basic.{length_part}
-use Rattle.model.specs.Laws.Emitters.{length_entered}
+use Rattle.model.proofs.Laws.Basic.{length_part}
+use Rattle.model.proofs.Laws.Emitters.{length_entered}
 use Rattle.units.specs.EachTracer.{gas_inside}
 use Rattle.units.specs.Lent.{part_lent, put_back}
 

@@ -1,6 +1,7 @@
 // Marked cases m1 to m10, further cases x1 to x5, a thin gas and the largest numerator of a piece (y6-1, y6-12), cases y1-1 to y1-7 of the long sweep, and
 // y7-2 and y7-4 of the limiters, run through the sweeps and the remap: name, answer, count, all air, all tracers.
 // In grids of one row of four columns; the first and the last amount of a layer are the caps'. No emitter stands; the first limiter, where no other is named.
+#![tactic(auto)]
 use libc::STDOUT_FILENO;
 use units::{LEDGER_BLOCK, LIMITER_PLACE};
 

@@ -2,9 +2,9 @@
 -- Assumes nothing. Inputs, numbers and labels are the second implementation's (reference/cases/limiters.txt). It stands here and not in the model, whose edits would compute it anew each.
 use Rattle.std.specs.Prelude.{List, [], ◌∷◌, ◌++◌, refl, pos, replicate}
 use Rattle.model.specs.Step.{load, emission, zonal, long_zonal, meridional, remap, total, add_emitter, remove_emitter, tick, units_atick, count_zonal, zonal_with_count, set_limiter}
-use Rattle.model.specs.Cases.{Case, Hold, hold, computes}
-use Rattle.model.specs.Cases.Marked.{grid, four, six, refuses, hundreds}
-use Rattle.model.specs.Cases.Limiters.{limiter, first, positive, fixed, most, blocks, times, row_a, row_b, wind, minus, lent, two, moves, writes, reads}
+use Rattle.model.proofs.Cases.{Case, Hold, hold, computes}
+use Rattle.model.proofs.Cases.Marked.{grid, four, six, refuses, hundreds}
+use Rattle.model.proofs.Cases.Limiters.{limiter, first, positive, fixed, most, blocks, times, row_a, row_b, wind, minus, lent, two, moves, writes, reads}
 
 -- Gases on different limiters in one call, and bounds that a limiter does not read; q at a bound and outside them
 abbrev alone : List Case

@@ -7,8 +7,8 @@ use Rattle.model.specs.Basic.{part, written}
 use Rattle.model.specs.World.{World, with_ledger, block}
 use Rattle.model.specs.Limiters.{Limiter, limiter_fits, with_limiter}
 use Rattle.model.specs.Step.{Call, Place, place, set_limiter}
-use Rattle.model.specs.Laws.Basic.{length_part}
-use Rattle.model.specs.Laws.Limiters.{length_limiter}
+use Rattle.model.proofs.Laws.Basic.{length_part}
+use Rattle.model.proofs.Laws.Limiters.{length_limiter}
 use Rattle.units.specs.declared.Answer.TheVariants.{Accepted, Refused}
 use Rattle.units.specs.declared.Refusal.TheVariants.{Index, Limiters}
 use Rattle.units.specs.Answer.{Agrees}

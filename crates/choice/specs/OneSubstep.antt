@@ -4,9 +4,9 @@ use Rattle.std.specs.Prelude.{[], ◌∷◌, ◌≡◌, refl, pos, replicate}
 use Rattle.model.specs.World.{World}
 use Rattle.model.specs.Step.{zonal, set_limiter}
 use Rattle.model.specs.Lists.{loaded_world, after}
-use Rattle.model.specs.Cases.{computes}
-use Rattle.model.specs.Cases.Marked.{grid, world, four, six}
-use Rattle.model.specs.Cases.Limiters.{first, positive, fixed, blocks, lent}
+use Rattle.model.proofs.Cases.{computes}
+use Rattle.model.proofs.Cases.Marked.{grid, world, four, six}
+use Rattle.model.proofs.Cases.Limiters.{first, positive, fixed, blocks, lent}
 
 abbrev half_full : World
 half_full = world (grid 4 1 1 3) (replicate 6 1000) (replicate 18 500)

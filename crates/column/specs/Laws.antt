@@ -4,7 +4,7 @@ use Rattle.std.proofs.Common.{ap₂, mul-le-mul, arith}
 use Rattle.model.specs.Limits.{air_limit, table_scale, table_limit}
 use Rattle.model.specs.Basic.{at, every}
 use Rattle.model.specs.Remap.{edges_serve}
-use Rattle.model.specs.Laws.Basic.{every_ext}
+use Rattle.model.proofs.Laws.Basic.{every_ext}
 use Rattle.line.specs.Line.{serves_at}
 use Rattle.column.specs.Column.{AreEdges}
 

@@ -10,8 +10,8 @@ use Rattle.model.specs.Basic.{at, tab}
 use Rattle.model.specs.Scheme.{Mismatch, ratio, plain}
 use Rattle.model.specs.Limiters.{Limiter, rule_for}
 use Rattle.model.specs.Remap.{layer_mismatch, layers}
-use Rattle.model.specs.Laws.Basic.{at_tab, tab_ext}
-use Rattle.model.specs.Laws.Limiters.{limiter_limited}
+use Rattle.model.proofs.Laws.Basic.{at_tab, tab_ext}
+use Rattle.model.proofs.Laws.Limiters.{limiter_limited}
 use Rattle.model.specs.Walk.{layer_of}
 use Rattle.substep.specs.Pieces.{AreRatios}
 use Rattle.line.specs.Line.{slope_in, cell_at}

@@ -6,10 +6,10 @@ use Rattle.model.specs.Basic.{at, sum}
 use Rattle.model.specs.Limiters.{Limiter, rule_for}
 use Rattle.model.specs.Remap.{air_above, edge, amount_above, column_count}
 use Rattle.model.specs.Walk.{ends_passed, layer_of, column_walk, budget}
-use Rattle.model.specs.Laws.Basic.{le_or_lt, sum_ext, sum_tab, at_tab}
+use Rattle.model.proofs.Laws.Basic.{le_or_lt, sum_ext, sum_tab, at_tab}
 use Rattle.model.specs.Long.{line_air}
-use Rattle.model.specs.Laws.Walk.{walk_same, ends_alike, walk_not_before}
-use Rattle.model.specs.Laws.Ends.{column_pairs_by_walk}
+use Rattle.model.proofs.Laws.Walk.{walk_same, ends_alike, walk_not_before}
+use Rattle.model.proofs.Laws.Ends.{column_pairs_by_walk}
 use Rattle.line.specs.Line.{cell_at, LineNeed, line_walk, line_ends, IsWalk}
 use Rattle.line.specs.Tracer.{between_is}
 use Rattle.column.specs.Column.{firsts, AreEdges}

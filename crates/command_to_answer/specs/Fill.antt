@@ -3,7 +3,7 @@ use Rattle.std.specs.Prelude.{ℕ, ◌+◌, ◌≤◌, ◌<◌, List, [], ◌∷
 use Rattle.std.proofs.Math.Path.{refl}
 use Rattle.std.proofs.Common.{sym, ◌∙◌, ap, add-one, arith, take_all, take-suc-set}
 use Rattle.model.specs.Basic.{tab, tab_from}
-use Rattle.model.specs.Laws.Entries.{tab_more}
+use Rattle.model.proofs.Laws.Entries.{tab_more}
 
 module _ {A : Type 0} (l : List A) (f : ℕ → A) where
   pub filled_none : take 0 l ≡ tab 0 f

@@ -5,7 +5,7 @@ use Rattle.std.proofs.Math.Nat.{min-le_left}
 use Rattle.model.specs.Basic.{tab}
 use Rattle.model.specs.World.{World}
 use Rattle.model.specs.Step.{Call}
-use Rattle.model.specs.Laws.Basic.{length_tab}
+use Rattle.model.proofs.Laws.Basic.{length_tab}
 use Rattle.units.specs.declared.Answer.{Answer}
 use Rattle.units.specs.Answer.{Agrees}
 use Rattle.program.specs.Bytes.{number, number_at, numbers_at, signed, fluxes_at}

@@ -1,4 +1,5 @@
 // Makes the call that a command asks for, with the lists that its body holds, in exactly the slices that it is lent.
+#![tactic(auto)]
 ghost use Rattle.std.specs.Prelude.{◌≡◌, ◌+◌, ◌*◌, ◌≤◌, length};
 ghost use Rattle.program.specs.Bytes.{signed as signed-number, numbers_at, fluxes_at};
 ghost use Rattle.model.specs.Limits.{most_columns, most_layers};

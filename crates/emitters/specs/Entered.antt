@@ -12,7 +12,7 @@ use Rattle.model.specs.Basic.{part, written}
 use Rattle.model.specs.World.{World, world_cells, with_ledger, block, with_block}
 use Rattle.model.specs.Emitters.{standing, has_id, emitter_added, removed_at}
 use Rattle.model.specs.Step.{absent, first_of, add_emitter, remove_emitter}
-use Rattle.model.specs.Laws.Step.{passes, stops}
+use Rattle.model.proofs.Laws.Step.{passes, stops}
 use Rattle.units.specs.declared.Answer.TheVariants.{Accepted, Refused}
 use Rattle.units.specs.declared.Refusal.TheVariants.{Index, EmitterAdded, EmitterAbsent}
 use Rattle.units.specs.Answer.{Agrees}

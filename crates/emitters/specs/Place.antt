@@ -8,9 +8,9 @@ use Rattle.model.specs.Basic.{at, part, every}
 use Rattle.model.specs.World.{World, world_cells, block, gas_total}
 use Rattle.model.specs.Emitters.{standing, emitter_cell, kept_units, has_id, record_fits}
 use Rattle.model.specs.Step.{Call, Place, place, absent, no_room, broken_record, meaning, first_of, own_places, lent_fits, refusal, add_emitter, remove_emitter, tick, units_atick}
-use Rattle.model.specs.Laws.Basic.{every_at, length_part}
-use Rattle.model.specs.Laws.Grid.{in_range_lem}
-use Rattle.model.specs.Laws.Step.{Fits, passes, stops}
+use Rattle.model.proofs.Laws.Basic.{every_at, length_part}
+use Rattle.model.proofs.Laws.Grid.{in_range_lem}
+use Rattle.model.proofs.Laws.Step.{Fits, passes, stops}
 use Rattle.units.specs.declared.Answer.{Answer}
 use Rattle.units.specs.Answer.{number_of, Agrees}
 use Rattle.ledger.specs.Block.{Kept, record_kept}

@@ -12,11 +12,11 @@ use Rattle.model.specs.World.{World, world_cells, with_amounts, with_ledger, gas
 use Rattle.model.specs.Books.{emitted_sum, entered}
 use Rattle.model.specs.Emitters.{standing, emitter_cell, emitter_units, kept_units, present_units, ticked}
 use Rattle.model.specs.Step.{first_of, tick}
-use Rattle.model.specs.Laws.Basic.{sum_le, sum_more, sum_fewer, term_le_sum}
-use Rattle.model.specs.Laws.Emitters.{length_entered, length_ticked, ticked_at}
-use Rattle.model.specs.Laws.Grid.{in_range_lem, amounts_most}
-use Rattle.model.specs.Laws.Step.{passes, stops}
-use Rattle.model.specs.Laws.World.{length_gas}
+use Rattle.model.proofs.Laws.Basic.{sum_le, sum_more, sum_fewer, term_le_sum}
+use Rattle.model.proofs.Laws.Emitters.{length_entered, length_ticked, ticked_at}
+use Rattle.model.proofs.Laws.Grid.{in_range_lem, amounts_most}
+use Rattle.model.proofs.Laws.Step.{passes, stops}
+use Rattle.model.proofs.Laws.World.{length_gas}
 use Rattle.units.specs.declared.Answer.TheVariants.{Accepted, Refused}
 use Rattle.units.specs.declared.Refusal.TheVariants.{Emission}
 use Rattle.units.specs.Answer.{Agrees}

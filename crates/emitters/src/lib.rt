@@ -1,4 +1,5 @@
 // The calls on a tracer's standing emitters: one is added or removed, all of them emit in a tick, their units a tick are read.
+#![tactic(auto)]
 ghost use Rattle.std.specs.Prelude.{◌≡◌, ◌+◌, ◌≤◌, ◌<◌, length, set};
 ghost use Rattle.model.specs.Basic.{at};
 ghost use Rattle.model.specs.Emitters.{standing, ticked};

@@ -6,8 +6,8 @@ use Rattle.std.proofs.Common.{ap, ap₂, ◌∙◌, arith, Fits as Fits32}
 use Rattle.std.specs.Int.{w32}
 use Rattle.model.specs.Basic.{at, sum, every}
 use Rattle.model.specs.Sweep.{Flow, reversed, layer, leaving, allowed}
-use Rattle.model.specs.Laws.Basic.{every_ext, sum_none, sum_more}
-use Rattle.model.specs.Laws.Layer.{leaving_inner, leaving_north}
+use Rattle.model.proofs.Laws.Basic.{every_ext, sum_none, sum_more}
+use Rattle.model.proofs.Laws.Layer.{leaving_inner, leaving_north}
 use Rattle.substep.specs.Faces.{flow_of}
 use Rattle.substep.specs.Cells.{Cell, cell_allowed}
 

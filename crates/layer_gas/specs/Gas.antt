@@ -7,9 +7,9 @@ use Rattle.model.specs.Basic.{at}
 use Rattle.model.specs.Scheme.{high_piece, low_piece}
 use Rattle.model.specs.Limiters.{Limiter, rule_for}
 use Rattle.model.specs.Sweep.{Flow, south_of, north_of, layer, cell_mismatch, pieces}
-use Rattle.model.specs.Laws.Limiters.{limiter_plain}
-use Rattle.model.specs.Laws.Layer.{sides_inner, sides_north, south_cap_lem, south_inner, north_inner, north_cap_lem, layer_regular}
-use Rattle.model.specs.Laws.Substep.{mismatch_between, mismatch_south, mismatch_north, piece_up, piece_down}
+use Rattle.model.proofs.Laws.Limiters.{limiter_plain}
+use Rattle.model.proofs.Laws.Layer.{sides_inner, sides_north, south_cap_lem, south_inner, north_inner, north_cap_lem, layer_regular}
+use Rattle.model.proofs.Laws.Substep.{mismatch_between, mismatch_south, mismatch_north, piece_up, piece_down}
 use Rattle.substep.specs.Faces.{flow_of}
 use Rattle.substep.specs.Pieces.{GasNeed, AreRatios, Neighbours, PieceNeed, high_need, low_need}
 use Rattle.layer.specs.Cells.{Size, Faces}

@@ -9,8 +9,8 @@ use borrow.Author.Tests.{lt-ltb, lt-leb, le-leb, ltb-true, ltb-false, eq-eqb, ne
 use Rattle.std.proofs.Math.Dec.{eqb}
 use Rattle.model.specs.Limits.{most_emitters, block_numbers}
 use Rattle.model.specs.Basic.{at, part, written, sum, every, some}
-use Rattle.model.specs.Laws.Basic.{sum_le, sum_same, term_le_sum}
-use Rattle.model.specs.Laws.Emitters.{record_fitting, none_sound}
+use Rattle.model.proofs.Laws.Basic.{sum_le, sum_same, term_le_sum}
+use Rattle.model.proofs.Laws.Emitters.{record_fitting, none_sound}
 use Rattle.model.specs.Emitters.{standing, emitter_id, emitter_cell, emitter_units, half, kept_units, present_units, has_id, record_fits, with_head, with_emitter, emitter_added, place_of, removed_at, emitter_removed}
 use Rattle.model.specs.Books.{fresh_block}
 use Rattle.units.specs.EachTracer.{Changes, changed_up_to, length_gas, part_more}

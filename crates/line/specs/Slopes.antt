@@ -4,7 +4,7 @@ use Rattle.std.specs.Prelude.{ℕ, ◌+◌, ◌≤◌, ◌<◌, List, Bool, fals
 use Rattle.std.proofs.Common.{ap, arith}
 use Rattle.model.specs.Basic.{at}
 use Rattle.model.specs.Scheme.{Mismatch}
-use Rattle.model.specs.Laws.Entries.{entries_more}
+use Rattle.model.proofs.Laws.Entries.{entries_more}
 use Rattle.line.specs.Line.{slope_in}
 
 -- the lists hold the slopes `D c` of the first n cells

@@ -12,11 +12,11 @@ use Rattle.model.specs.Basic.{at, tab}
 use Rattle.model.specs.Scheme.{Mismatch, opposite, low_piece}
 use Rattle.model.specs.Remap.{ColumnLayer, amount_above}
 use Rattle.model.specs.Walk.{Walk, at_top, walk_step, Passes}
-use Rattle.model.specs.Laws.Basic.{le_or_lt, steps_rise, term_le_sum, sum_more, sum_fewer, sum_le, sum_same}
-use Rattle.model.specs.Laws.Scheme.{Safe, ratio_safe, piece_whole}
-use Rattle.model.specs.Laws.Above.{air_of, amount_rises, amount_longer}
-use Rattle.model.specs.Laws.Walk.{Stands, stands, walk_start, walk_more, step_edge, step_layer, ends_none, ends_most, ends_more, ends_same}
-use Rattle.model.specs.Laws.Long.{line_all}
+use Rattle.model.proofs.Laws.Basic.{le_or_lt, steps_rise, term_le_sum, sum_more, sum_fewer, sum_le, sum_same}
+use Rattle.model.proofs.Laws.Scheme.{Safe, ratio_safe, piece_whole}
+use Rattle.model.proofs.Laws.Above.{air_of, amount_rises, amount_longer}
+use Rattle.model.proofs.Laws.Walk.{Stands, stands, walk_start, walk_more, step_edge, step_layer, ends_none, ends_most, ends_more, ends_same}
+use Rattle.model.proofs.Laws.Long.{line_all}
 use Rattle.scheme.specs.Leaves.{mismatch_of, Giver}
 use Rattle.model.specs.Long.{line_air, turns}
 use Rattle.line.specs.Line.{slope_in, cell_at, LineNeed, line_walk, line_ends, IsWalk, IsBetween}

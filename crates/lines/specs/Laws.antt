@@ -1,7 +1,7 @@
 -- Laws of a number's decimal digits, the last one apart, and of how many there are; of bytes put before a place of a list; and of a line's text.
 use Rattle.std.specs.Prelude.{ℕ, zero, suc, ◌+◌, ◌-◌, ◌*◌, ◌/◌, ◌%◌, ◌^◌, ◌≤◌, ◌<◌, List, [], ◌∷◌, ◌++◌, ◌≡◌, length, drop, set}
 use Rattle.std.proofs.Common.{append_assoc, ⊎_elim, ◌∙◌, ap, arith, pow-suc, length-append, length-set, drop-cons, drop-set-lt, get_or-set_same, lt-ltb, le-ltb}
-use Rattle.model.specs.Laws.Basic.{le_or_lt}
+use Rattle.model.proofs.Laws.Basic.{le_or_lt}
 use Rattle.program.specs.Bytes.{digits, decimal}
 use Rattle.program.specs.Records.{Line}
 use Rattle.program.specs.Lines.{text}

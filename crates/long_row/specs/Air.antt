@@ -10,10 +10,10 @@ use Rattle.model.specs.World.{air_fits}
 use Rattle.model.specs.Sweep.{west_of, flux, forward, backward}
 use Rattle.model.specs.Remap.{air_above}
 use Rattle.model.specs.Long.{turns, departure, long_air, long_air_fits}
-use Rattle.model.specs.Laws.Basic.{every_ext, length_part, at_part, tab_at, tab_ext, sum_le, sum_same, sum_fewer}
-use Rattle.model.specs.Laws.Entries.{entries_more}
-use Rattle.model.specs.Laws.Substep.{AirIn, air_bounds}
-use Rattle.model.specs.Laws.Long.{OneTurn, LongServes, line_all, departure_is, departure_most, air_between, departures_rise, length_long_air}
+use Rattle.model.proofs.Laws.Basic.{every_ext, length_part, at_part, tab_at, tab_ext, sum_le, sum_same, sum_fewer}
+use Rattle.model.proofs.Laws.Entries.{entries_more}
+use Rattle.model.proofs.Laws.Substep.{AirIn, air_bounds}
+use Rattle.model.proofs.Laws.Long.{OneTurn, LongServes, line_all, departure_is, departure_most, air_between, departures_rise, length_long_air}
 use Rattle.line.specs.Line.{AirNeed, serves_at, Served, IsNewAir}
 
 -- 1 to 72 columns with air in range, a flux for each, and none above the row's air: what place 16 tests

@@ -10,11 +10,11 @@ use Rattle.model.specs.Limiters.{Limiter, rule_for}
 use Rattle.model.specs.Sweep.{ring, west_of, east_of, cell_mismatch}
 use Rattle.model.specs.Remap.{ColumnLayer, amount_above}
 use Rattle.model.specs.Long.{line_cell, line_air, turns, carried, departure, long_gas}
-use Rattle.model.specs.Laws.Basic.{length_part, at_part, tab_at, tab_ext}
-use Rattle.model.specs.Laws.Ring.{west_in, east_in}
-use Rattle.model.specs.Laws.Limiters.{limiter_limited}
-use Rattle.model.specs.Laws.Substep.{air_bounds}
-use Rattle.model.specs.Laws.Long.{line_all}
+use Rattle.model.proofs.Laws.Basic.{length_part, at_part, tab_at, tab_ext}
+use Rattle.model.proofs.Laws.Ring.{west_in, east_in}
+use Rattle.model.proofs.Laws.Limiters.{limiter_limited}
+use Rattle.model.proofs.Laws.Substep.{air_bounds}
+use Rattle.model.proofs.Laws.Long.{line_all}
 use Rattle.substep.specs.Pieces.{HasAir, AreRatios, mismatch_in}
 use Rattle.row.specs.Columns.{column_neighbours}
 use Rattle.line.specs.Line.{slope_in, cell_at, LineNeed, IsWalk}

@@ -6,10 +6,10 @@ use Rattle.model.specs.World.{World, world_cells, row_start}
 use Rattle.model.specs.Remap.{air_above}
 use Rattle.model.specs.Long.{long_air_fits}
 use Rattle.model.specs.Step.{Place, place, fluxes_within, row_air, long_zonal}
-use Rattle.model.specs.Laws.Grid.{in_range_lem}
-use Rattle.model.specs.Laws.LongZonal.{flux_within}
-use Rattle.model.specs.Laws.Part.{cells_in_lem}
-use Rattle.model.specs.Laws.Substep.{AirIn}
+use Rattle.model.proofs.Laws.Grid.{in_range_lem}
+use Rattle.model.proofs.Laws.LongZonal.{flux_within}
+use Rattle.model.proofs.Laws.Part.{cells_in_lem}
+use Rattle.model.proofs.Laws.Substep.{AirIn}
 use Rattle.units.specs.Answer.{count_of}
 use Rattle.places.specs.declared.Placed.{Placed}
 use Rattle.places.specs.Walk.{Left, IsPlaced, Like}

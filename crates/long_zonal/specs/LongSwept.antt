@@ -11,11 +11,11 @@ use Rattle.model.specs.World.{Grid, World, world_cells, with_amounts}
 use Rattle.model.specs.Limiters.{rule_for}
 use Rattle.model.specs.Long.{long_air, long_gas, long_swept}
 use Rattle.model.specs.Step.{row_air, long_zonal}
-use Rattle.model.specs.Laws.Entries.{joined_ext}
-use Rattle.model.specs.Laws.Grid.{InRange, in_range_lem, cells_most_lem}
-use Rattle.model.specs.Laws.Long.{length_long_air}
-use Rattle.model.specs.Laws.LongZonal.{long_sweeps}
-use Rattle.model.specs.Laws.Substep.{AirIn}
+use Rattle.model.proofs.Laws.Entries.{joined_ext}
+use Rattle.model.proofs.Laws.Grid.{InRange, in_range_lem, cells_most_lem}
+use Rattle.model.proofs.Laws.Long.{length_long_air}
+use Rattle.model.proofs.Laws.LongZonal.{long_sweeps}
+use Rattle.model.proofs.Laws.Substep.{AirIn}
 use Rattle.units.specs.Limiter.{limiter_at}
 use Rattle.units.specs.Answer.{number_of, Agrees}
 use Rattle.units.specs.Agrees.{accepted_agrees}

@@ -5,8 +5,8 @@ use borrow.Rule.Slice.PartMut.{put_mid}
 use Rattle.model.specs.Limits.{total_limit, most_cells, most_tracers, most_amounts, block_numbers}
 use Rattle.model.specs.Basic.{at, part, written, sum, joined, tab}
 use Rattle.model.specs.Limiters.{Limiter}
-use Rattle.model.specs.Laws.Basic.{length_part, length_tab, length_written}
-use Rattle.model.specs.Laws.Entries.{part_sum_le}
+use Rattle.model.proofs.Laws.Basic.{length_part, length_tab, length_written}
+use Rattle.model.proofs.Laws.Entries.{part_sum_le}
 use Rattle.units.specs.Limiter.{limiter_at}
 use Rattle.units.specs.Limiter as units
 use Rattle.units.specs.EachTracer.{Changes, changed_up_to, gas_inside, length_gas, part_kept, part_more}

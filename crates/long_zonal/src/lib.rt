@@ -1,4 +1,5 @@
 // The long zonal sweep of one row in one layer: a sweep without substeps.
+#![tactic(auto)]
 ghost use Rattle.std.specs.Prelude.{◌≡◌, length};
 ghost use Rattle.model.specs.Remap.{air_above};
 ghost use Rattle.model.specs.Step.{long_zonal as long-zonal-call};

@@ -6,10 +6,10 @@ use Rattle.model.specs.Basic.{part, every}
 use Rattle.model.specs.World.{Grid, World, layer_cells, layer_start}
 use Rattle.model.specs.Sweep.{Mesh, Flow, layer, parts, allowed, air_after, serves}
 use Rattle.model.specs.Step.{Place, place, flux_too_large, layer_air, meridional}
-use Rattle.model.specs.Laws.Basic.{length_part}
-use Rattle.model.specs.Laws.Grid.{InRange, layer_cells_most, faces_most}
-use Rattle.model.specs.Laws.Layer.{layer_regular}
-use Rattle.model.specs.Laws.Step.{Fits}
+use Rattle.model.proofs.Laws.Basic.{length_part}
+use Rattle.model.proofs.Laws.Grid.{InRange, layer_cells_most, faces_most}
+use Rattle.model.proofs.Laws.Layer.{layer_regular}
+use Rattle.model.proofs.Laws.Step.{Fits}
 use Rattle.places.specs.declared.Placed.{Placed}
 use Rattle.places.specs.Walk.{Left, IsPlaced, Like}
 use Rattle.substep.specs.Faces.{flow_of, Same, AreParts, same_allowed}

@@ -10,12 +10,12 @@ use Rattle.model.specs.Basic.{part, written}
 use Rattle.model.specs.World.{World, layer_cells, world_cells, layer_start, with_amounts}
 use Rattle.model.specs.Sweep.{Mesh, layer, parts, allowed, after_flow, air_after, gas_after, swept}
 use Rattle.model.specs.Step.{layer_air, meridional}
-use Rattle.model.specs.Laws.Grid.{InRange, in_range_lem, cells_most_lem}
-use Rattle.model.specs.Laws.Layer.{layer_regular}
-use Rattle.model.specs.Laws.Part.{cells_in_lem}
-use Rattle.model.specs.Laws.Sweep.{Sweeps}
-use Rattle.model.specs.Laws.Meridional.{meridional_sweeps}
-use Rattle.model.specs.Laws.Substep.{AirIn, length_after_flow}
+use Rattle.model.proofs.Laws.Grid.{InRange, in_range_lem, cells_most_lem}
+use Rattle.model.proofs.Laws.Layer.{layer_regular}
+use Rattle.model.proofs.Laws.Part.{cells_in_lem}
+use Rattle.model.proofs.Laws.Sweep.{Sweeps}
+use Rattle.model.proofs.Laws.Meridional.{meridional_sweeps}
+use Rattle.model.proofs.Laws.Substep.{AirIn, length_after_flow}
 use Rattle.units.specs.declared.Answer.TheVariants.{Accepted}
 use Rattle.units.specs.Answer.{Agrees}
 use Rattle.units.specs.Agrees.{accepted_agrees}

@@ -9,11 +9,11 @@ use Rattle.model.specs.World.{Grid, layer_cells, world_cells}
 use Rattle.model.specs.Scheme.{Rule}
 use Rattle.model.specs.Limiters.{Limiter, rule_for}
 use Rattle.model.specs.Sweep.{Flow, layer, allowed}
-use Rattle.model.specs.Laws.Basic.{length_part, length_written}
-use Rattle.model.specs.Laws.Entries.{part_sum_le}
-use Rattle.model.specs.Laws.Grid.{InRange, amounts_most}
-use Rattle.model.specs.Laws.Layer.{layer_regular}
-use Rattle.model.specs.Laws.Substep.{AirIn, length_after_flow}
+use Rattle.model.proofs.Laws.Basic.{length_part, length_written}
+use Rattle.model.proofs.Laws.Entries.{part_sum_le}
+use Rattle.model.proofs.Laws.Grid.{InRange, amounts_most}
+use Rattle.model.proofs.Laws.Layer.{layer_regular}
+use Rattle.model.proofs.Laws.Substep.{AirIn, length_after_flow}
 use Rattle.units.specs.Limiter.{limiter_at}
 use Rattle.units.specs.Limiter as units
 use Rattle.units.specs.EachTracer.{Changes, changed_up_to, gas_inside, length_gas, length_up_to, part_kept, part_more}

@@ -1,4 +1,5 @@
 // The meridional sweep of one layer.
+#![tactic(auto)]
 ghost use Rattle.std.specs.Prelude.{◌≡◌};
 ghost use Rattle.model.specs.Step.{meridional as meridional-call};
 ghost use Rattle.units.specs.Answer.{Agrees};

@@ -12,14 +12,3 @@ pub mod Long
 pub mod Range
 pub mod Step
 pub mod Lists
-pub mod Cases
-pub mod Laws
-pub mod Demand3
-pub mod Corollaries
-pub mod Inventory
-pub mod Budget
-pub mod Readout
-pub mod Presses
-pub mod PerGas
-pub mod FixedBounds
-pub mod OnRecord

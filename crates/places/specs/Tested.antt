@@ -9,8 +9,8 @@ use Rattle.model.specs.World.{Grid, World, world_cells, block, gas_total, air_fi
 use Rattle.model.specs.Limiters.{limiter_fits}
 use Rattle.model.specs.Books.{balances}
 use Rattle.model.specs.Step.{Call, Place, place, broken_limiter, broken_book, meaning, first_of, common_places, place_if, limiter_places, book_places, own_places, refusal, grid_fits, lengths_fit, lent_fits}
-use Rattle.model.specs.Laws.Basic.{every_at, every_true, every_ext}
-use Rattle.model.specs.Laws.Step.{Fits}
+use Rattle.model.proofs.Laws.Basic.{every_at, every_true, every_ext}
+use Rattle.model.proofs.Laws.Step.{Fits}
 use Rattle.units.specs.declared.Answer.{Answer}
 use Rattle.units.specs.declared.Answer.TheVariants.{Refused}
 use Rattle.units.specs.declared.Refusal.TheVariants.{Limiters}

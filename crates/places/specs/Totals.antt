@@ -4,8 +4,8 @@ use Rattle.std.proofs.Common.{sym, ◌∙◌, ap, le_refl, mod-eq_of_lt, mul-le-
 use Rattle.std.proofs.Math.Nat.{add-sub_cancel_left}
 use Rattle.model.specs.Limits.{most_cells, most_tracers, most_amounts}
 use Rattle.model.specs.Basic.{at, part, sum}
-use Rattle.model.specs.Laws.Basic.{length_part, at_part, sum_none, sum_more, sum_split, sum_ext}
-use Rattle.model.specs.Laws.Entries.{entries_more}
+use Rattle.model.proofs.Laws.Basic.{length_part, at_part, sum_none, sum_more, sum_split, sum_ext}
+use Rattle.model.proofs.Laws.Entries.{entries_more}
 use Rattle.places.specs.Bits.{or_above}
 
 -- a sum of amounts below 2^32

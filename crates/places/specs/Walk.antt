@@ -3,7 +3,7 @@ use Rattle.std.specs.Prelude.{◌≡◌, ℕ, ◌<◌, ◌≤◌, Bool, true, fa
 use Rattle.std.proofs.Common.{append_assoc, append-nil, sym, ap, ◌∙◌, lt-ltb, le-ltb}
 use Rattle.model.specs.World.{World}
 use Rattle.model.specs.Step.{Call, Place, meaning, first_of, lent_fits, refusal}
-use Rattle.model.specs.Laws.Step.{passes, stops}
+use Rattle.model.proofs.Laws.Step.{passes, stops}
 use Rattle.units.specs.declared.Answer.{Answer}
 use Rattle.units.specs.declared.Answer.TheVariants.{Refused}
 use Rattle.units.specs.declared.Refusal.{Refusal}

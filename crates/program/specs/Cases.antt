@@ -5,7 +5,7 @@ use mathlib.Core.List.{List, [], ◌∷◌, ◌++◌, cons≢nil}
 use Rattle.std.proofs.Math.Bool.{and-eq-true_iff}
 use Rattle.std.proofs.lemmas.Bool.{false≢true}
 use Rattle.std.proofs.Common.{ap₂, eqb-true}
-use Rattle.model.specs.Cases.{computes}
+use Rattle.model.proofs.Cases.{computes}
 use Rattle.program.specs.Bytes.{number, digits}
 use Rattle.program.specs.Records.{Line, line, found, carried_out, outcome_of}
 use Rattle.program.specs.Lines.{entries_from, lines_of, lines, text}

@@ -6,9 +6,9 @@ use Rattle.model.specs.World.{block, gas_total}
 use Rattle.model.specs.Books.{loaded_sum, emitted_sum, withdrawn_sum}
 use Rattle.model.specs.Step.{Call, total, Result, accepted, step}
 use Rattle.model.specs.Lists.{history}
-use Rattle.model.specs.Laws.Step.{step_accepted, answer_is}
-use Rattle.model.specs.Laws.Lists.{history_append}
-use Rattle.model.specs.OnRecord.{accepted_balances}
+use Rattle.model.proofs.Laws.Step.{step_accepted, answer_is}
+use Rattle.model.proofs.Laws.Lists.{history_append}
+use Rattle.model.proofs.OnRecord.{accepted_balances}
 use Rattle.program.specs.Records.{start, make, command}
 use Rattle.program.specs.Lines.{Entry, entries, run}
 use Rattle.program.specs.Totals.{Since, nothing_yet, since, world_now}

@@ -4,7 +4,7 @@ use Rattle.std.specs.Prelude.{ℕ, ◌+◌, ◌≤◌, ◌<◌, List, ◌∷◌,
 use Rattle.model.specs.World.{gas_total}
 use Rattle.model.specs.Step.{Call, total, step}
 use Rattle.model.specs.Lists.{listed, history}
-use Rattle.model.specs.OnRecord.{OnRecord, kept_on_record}
+use Rattle.model.proofs.OnRecord.{OnRecord, kept_on_record}
 use Rattle.program.specs.Records.{start, make, command}
 use Rattle.program.specs.Lines.{Entry, entries, lines, run}
 use Rattle.program.specs.Totals.{Since, nothing_yet, since, world_now}

@@ -5,7 +5,7 @@ use Rattle.model.specs.Limits.{total_limit}
 use Rattle.model.specs.Basic.{at, sum}
 use Rattle.model.specs.Limiters.{Limiter, rule_for}
 use Rattle.model.specs.Remap.{air_above, new_tracer, layers}
-use Rattle.model.specs.Laws.Basic.{sum_tab}
+use Rattle.model.proofs.Laws.Basic.{sum_tab}
 use Rattle.substep.specs.Pieces.{HasAir, AreRatios}
 use Rattle.column.specs.Column.{firsts, AreEdges}
 use Rattle.column.specs.Gas.{Spans, ColumnGasNeed, IsRemapped}

@@ -7,9 +7,9 @@ use Rattle.model.specs.Basic.{at, part, sum, joined, tab_from, tab}
 use Rattle.model.specs.Limiters.{Limiter, rule_for}
 use Rattle.model.specs.Remap.{air_above, new_air, new_tracer, layers, column_count}
 use Rattle.model.specs.Walk.{budget}
-use Rattle.model.specs.Laws.Basic.{sum_none, sum_more, sum_tab, sum_columns, term_le_sum}
-use Rattle.model.specs.Laws.Entries.{joined_more, joined_ext}
-use Rattle.model.specs.Laws.Column.{Edges}
+use Rattle.model.proofs.Laws.Basic.{sum_none, sum_more, sum_tab, sum_columns, term_le_sum}
+use Rattle.model.proofs.Laws.Entries.{joined_more, joined_ext}
+use Rattle.model.proofs.Laws.Column.{Edges}
 use Rattle.units.specs.Limiter.{limiter_at}
 use Rattle.units.specs.EachTracer.{length_gas}
 use Rattle.line.specs.Line.{IsNewAir, Served}

@@ -6,9 +6,9 @@ use Rattle.model.specs.Basic.{every}
 use Rattle.model.specs.World.{World, layer_cells, with_amounts}
 use Rattle.model.specs.Remap.{column, remap_serves, remap_count, remapped, remapped_air, remapped_gas}
 use Rattle.model.specs.Step.{Place, place, table_fits, remap}
-use Rattle.model.specs.Laws.Grid.{in_range_lem, layer_cells_most}
-use Rattle.model.specs.Laws.Step.{Fits}
-use Rattle.model.specs.Laws.Remap.{remap_edges}
+use Rattle.model.proofs.Laws.Grid.{in_range_lem, layer_cells_most}
+use Rattle.model.proofs.Laws.Step.{Fits}
+use Rattle.model.proofs.Laws.Remap.{remap_edges}
 use Rattle.units.specs.declared.Answer.TheVariants.{Accepted}
 use Rattle.units.specs.Answer.{Agrees}
 use Rattle.units.specs.Agrees.{accepted_agrees}

@@ -6,9 +6,9 @@ use Rattle.model.specs.Basic.{at, every}
 use Rattle.model.specs.World.{air_fits}
 use Rattle.model.specs.Remap.{air_above, edges_serve, column_count}
 use Rattle.model.specs.Step.{table_fits}
-use Rattle.model.specs.Laws.Basic.{at_tab, every_none, every_more, every_false, sum_tab}
-use Rattle.model.specs.Laws.Substep.{air_bounds}
-use Rattle.model.specs.Laws.Column.{Edges}
+use Rattle.model.proofs.Laws.Basic.{at_tab, every_none, every_more, every_false, sum_tab}
+use Rattle.model.proofs.Laws.Substep.{air_bounds}
+use Rattle.model.proofs.Laws.Column.{Edges}
 use Rattle.line.specs.Line as line
 use Rattle.line.specs.Line.{AirNeed, IsAirSum, Served}
 use Rattle.column.specs.Column.{firsts, AreEdges}

@@ -6,7 +6,7 @@ use Rattle.model.specs.Limits.{total_limit, most_layers, most_layer_cells, most_
 use Rattle.model.specs.Basic.{at, part, written, sum}
 use Rattle.model.specs.Limiters.{Limiter}
 use Rattle.model.specs.Walk.{budget}
-use Rattle.model.specs.Laws.Basic.{length_rewritten, part_rewritten, part_not_rewritten}
+use Rattle.model.proofs.Laws.Basic.{length_rewritten, part_rewritten, part_not_rewritten}
 use Rattle.units.specs.Limiter.{limiter_at}
 use Rattle.units.specs.Limiter as units
 use Rattle.units.specs.EachTracer.{length_gas}

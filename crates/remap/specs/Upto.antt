@@ -2,7 +2,7 @@
 use Rattle.std.specs.Prelude.{ℕ, suc, ◌+◌, ◌*◌, ◌/◌, ◌%◌, ◌≤◌, ◌<◌, List, ◌≡◌, refl, length}
 use Rattle.std.proofs.Common.{⊎_elim, sym, ap, ◌∙◌, mul-le-mul_right, div-lt_iff_lt-mul, mod-lt, div-add-mod', eq-or-lt_of_le, arith}
 use Rattle.model.specs.Basic.{at, tab}
-use Rattle.model.specs.Laws.Basic.{tab_at, tab_ext, le_or_lt}
+use Rattle.model.proofs.Laws.Basic.{tab_at, tab_ext, le_or_lt}
 use Rattle.remap.specs.Columns.{column_of, column_set, set_length, set_within, set_outside}
 
 -- new i c is what cell c of layer i shall have

@@ -1,4 +1,5 @@
 // The remap of all columns.
+#![tactic(auto)]
 ghost use Rattle.std.specs.Prelude.{◌≡◌, ◌||◌, ◌+◌, ◌*◌, ◌≤◌, ◌<◌, eqb, length};
 ghost use Rattle.model.specs.Basic.{at, every};
 ghost use Rattle.model.specs.Walk.{budget};

@@ -4,7 +4,7 @@ use Rattle.std.proofs.Math.Path.{refl}
 use Rattle.std.proofs.Common.{sym, arith}
 use Rattle.model.specs.Basic.{at, every}
 use Rattle.model.specs.Sweep.{Flow, ring, east_of, west_of, leaving, allowed, after_flow, cell_mismatch}
-use Rattle.model.specs.Laws.Ring.{west_in, east_in, ring_regular}
+use Rattle.model.proofs.Laws.Ring.{west_in, east_in, ring_regular}
 use Rattle.substep.specs.Faces.{flow_of}
 use Rattle.substep.specs.Cells.{Cell, CellFlows, Moves, Moved, cell_allowed, moved_none, moved_exchange, moved_more, all_moved_lem}
 use Rattle.substep.specs.Pieces.{Neighbours}

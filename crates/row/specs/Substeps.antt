@@ -7,9 +7,9 @@ use native.Mathlib.Omega.{arith}
 use Rattle.model.specs.Limits.{most_substeps}
 use Rattle.model.specs.Basic.{every}
 use Rattle.model.specs.Sweep.{Mesh, ring, parts, allowed, after_flow, air_after, serves, substep_count}
-use Rattle.model.specs.Laws.Basic.{every_at, every_false, Smallest, none, found, smallest_is}
-use Rattle.model.specs.Laws.Chain.{count_only}
-use Rattle.model.specs.Laws.Ring.{ring_regular}
+use Rattle.model.proofs.Laws.Basic.{every_at, every_false, Smallest, none, found, smallest_is}
+use Rattle.model.proofs.Laws.Chain.{count_only}
+use Rattle.model.proofs.Laws.Ring.{ring_regular}
 use Rattle.substep.specs.Faces.{flow_of, Same, AreParts, same_after, same_allowed}
 
 -- the row of as many columns as fluxes

@@ -7,9 +7,9 @@ use Rattle.model.specs.Limits.{zonal_limit, most_cells}
 use Rattle.model.specs.Basic.{part}
 use Rattle.model.specs.World.{World, world_cells, row_start}
 use Rattle.model.specs.Step.{Call, absent, Place, meaning, first_of, own_places, lent_fits, flux_too_large, row_air}
-use Rattle.model.specs.Laws.Basic.{length_part}
-use Rattle.model.specs.Laws.Grid.{in_range_lem, cells_most_lem}
-use Rattle.model.specs.Laws.Step.{Fits}
+use Rattle.model.proofs.Laws.Basic.{length_part}
+use Rattle.model.proofs.Laws.Grid.{in_range_lem, cells_most_lem}
+use Rattle.model.proofs.Laws.Step.{Fits}
 use Rattle.units.specs.declared.Answer.{Answer}
 use Rattle.units.specs.Answer.{number_of, count_of}
 use Rattle.places.specs.declared.Placed.{Placed}

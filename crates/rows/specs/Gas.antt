@@ -9,11 +9,11 @@ use Rattle.model.specs.Basic.{at, part, sum}
 use Rattle.model.specs.Scheme.{high_piece, low_piece}
 use Rattle.model.specs.Limiters.{Limiter, rule_for}
 use Rattle.model.specs.Sweep.{Flow, ring, east_of, west_of, allowed, after_flow, pieces}
-use Rattle.model.specs.Laws.Basic.{length_part}
-use Rattle.model.specs.Laws.Entries.{entries_more, entries_above}
-use Rattle.model.specs.Laws.Ring.{east_in, ring_regular}
-use Rattle.model.specs.Laws.Limiters.{limiter_limited}
-use Rattle.model.specs.Laws.Substep.{AirIn, allowed_is, length_after_flow, gas_total_after_flow}
+use Rattle.model.proofs.Laws.Basic.{length_part}
+use Rattle.model.proofs.Laws.Entries.{entries_more, entries_above}
+use Rattle.model.proofs.Laws.Ring.{east_in, ring_regular}
+use Rattle.model.proofs.Laws.Limiters.{limiter_limited}
+use Rattle.model.proofs.Laws.Substep.{AirIn, allowed_is, length_after_flow, gas_total_after_flow}
 use Rattle.units.specs.Limiter.{limiter_at}
 use Rattle.units.specs.Limiter as units
 use Rattle.substep.specs.Faces.{flow_of, Same, stepped}

@@ -5,8 +5,8 @@ use Rattle.std.proofs.Math.Nat.{zero-mul}
 use borrow.Rule.Slice.PartMut.{put_mid}
 use Rattle.model.specs.Limits.{most_cells, most_tracers, most_amounts}
 use Rattle.model.specs.Basic.{part, written, joined, tab_from, tab}
-use Rattle.model.specs.Laws.Basic.{length_part, length_tab, get_d_tab, length_written, length_joined}
-use Rattle.model.specs.Laws.Entries.{entries_more, joined_more, written_middle}
+use Rattle.model.proofs.Laws.Basic.{length_part, length_tab, get_d_tab, length_written, length_joined}
+use Rattle.model.proofs.Laws.Entries.{entries_more, joined_more, written_middle}
 use Rattle.units.specs.Lent.{part_lent, put_back, front_lent, front_back, length_front}
 use Rattle.rows.specs.Gas.{row_of, Wide, length_row}
 

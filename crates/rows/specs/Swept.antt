@@ -9,10 +9,10 @@ use Rattle.std.proofs.Math.ListN.{length}
 use Rattle.model.specs.Limits.{total_limit, block_numbers}
 use Rattle.model.specs.Basic.{at, sum}
 use Rattle.model.specs.Sweep.{ring, parts, allowed, after_flow, gas_after, serves}
-use Rattle.model.specs.Laws.Substep.{AirIn, length_after_flow}
-use Rattle.model.specs.Laws.Ring.{ring_regular}
+use Rattle.model.proofs.Laws.Substep.{AirIn, length_after_flow}
+use Rattle.model.proofs.Laws.Ring.{ring_regular}
 use Rattle.model.specs.Limiters.{rule_for}
-use Rattle.model.specs.Laws.Chain.{air_after_in}
+use Rattle.model.proofs.Laws.Chain.{air_after_in}
 use Rattle.units.specs.Limiter.{limiter_at}
 use Rattle.substep.specs.Faces.{flow_of, Same, AreParts, stepped, same_stepped}
 use Rattle.substep.specs.Cells.{air_moves}

@@ -1,4 +1,5 @@
 // The runner program.
+#![tactic(auto)]
 fn main() {
     console::run();
 }

@@ -11,7 +11,7 @@ use Rattle.model.specs.Limits.{air_limit, total_limit}
 use Rattle.model.specs.Basic.{distance}
 use Rattle.model.specs.Scheme.{Mismatch, Rule, ratio, limited_to, bounded, mismatch}
 use Rattle.model.specs.Limiters.{Limiter, positive_one, fixed_one, positive_rule, rule_for}
-use Rattle.model.specs.Laws.Limiters.{first_is, second_is, third_is}
+use Rattle.model.proofs.Laws.Limiters.{first_is, second_is, third_is}
 use Rattle.model.specs.Sweep.{forward, backward, flux_part}
 
 abbrev pub mismatch_of : code.Mismatch → Mismatch

@@ -6,7 +6,7 @@ use Rattle.model.specs.Limits.{air_limit}
 use Rattle.model.specs.Basic.{at}
 use Rattle.model.specs.World.{air_fits}
 use Rattle.model.specs.Sweep.{Mesh, Flow, leaving, entering, after_flow, allowed}
-use Rattle.model.specs.Laws.Substep.{Covers, allowed_is, air_bounds, at_after_flow, length_after_flow, balance}
+use Rattle.model.proofs.Laws.Substep.{Covers, allowed_is, air_bounds, at_after_flow, length_after_flow, balance}
 
 -- ---- what a cell exchanges
 -- e and l are what enters and what leaves cell c

@@ -7,10 +7,10 @@ use Rattle.std.proofs.Math.Dec.{leb}
 use Rattle.model.specs.Basic.{at}
 use Rattle.model.specs.World.{air_fits}
 use Rattle.model.specs.Sweep.{Mesh, Flow, leaving, entering, after_flow, allowed, parts, pieces}
-use Rattle.model.specs.Laws.Basic.{tab_ext, every_ext}
-use Rattle.model.specs.Laws.Entries.{entries_more}
+use Rattle.model.proofs.Laws.Basic.{tab_ext, every_ext}
+use Rattle.model.proofs.Laws.Entries.{entries_more}
 use Rattle.model.specs.Scheme.{Rule}
-use Rattle.model.specs.Laws.Mesh.{Regular, leaving_times, entering_times}
+use Rattle.model.proofs.Laws.Mesh.{Regular, leaving_times, entering_times}
 
 -- the flow that two lists hold
 abbrev pub flow_of : List ℕ → List ℕ → Flow

@@ -6,11 +6,11 @@ use Rattle.model.specs.Basic.{at, sum}
 use Rattle.model.specs.Scheme.{Mismatch, high_piece, low_piece}
 use Rattle.model.specs.Limiters.{Limiter, rule_for}
 use Rattle.model.specs.Sweep.{Mesh, Flow, after_flow, allowed, cell_ratio, cell_mismatch, pieces}
-use Rattle.model.specs.Laws.Basic.{term_le_sum}
-use Rattle.model.specs.Laws.Mesh.{Regular}
-use Rattle.model.specs.Laws.Range.{high_leaves, low_leaves}
-use Rattle.model.specs.Laws.Limiters.{limiter_limited}
-use Rattle.model.specs.Laws.Substep.{AirIn, Covers, air_bounds, allowed_is, piece_up, piece_down, pieces_covered, gas_after_flow_le}
+use Rattle.model.proofs.Laws.Basic.{term_le_sum}
+use Rattle.model.proofs.Laws.Mesh.{Regular}
+use Rattle.model.proofs.Laws.Range.{high_leaves, low_leaves}
+use Rattle.model.proofs.Laws.Limiters.{limiter_limited}
+use Rattle.model.proofs.Laws.Substep.{AirIn, Covers, air_bounds, allowed_is, piece_up, piece_down, pieces_covered, gas_after_flow_le}
 use Rattle.substep.specs.Faces.{Same, same_leaving, same_after, stepped}
 use Rattle.substep.specs.Cells.{Moves}
 

@@ -5,7 +5,7 @@ use Rattle.std.proofs.Math.Path.{sym, ap}
 use Rattle.std.proofs.Common.{◌∙◌, arith}
 use Rattle.model.specs.World.{World}
 use Rattle.model.specs.Step.{Call, Result, meaning, refusal, accepted, refused}
-use Rattle.model.specs.Laws.Step.{step_accepted, step_refused, answer_is}
+use Rattle.model.proofs.Laws.Step.{step_accepted, step_refused, answer_is}
 use Rattle.units.specs.declared.Answer.{Answer}
 use Rattle.units.specs.declared.Answer.TheVariants.{Refused}
 use Rattle.units.specs.declared.Refusal.{Refusal}

@@ -4,8 +4,8 @@ use Rattle.std.proofs.Common.{append_assoc, append-nil, sym, ap, ◌∙◌, mul-
 use Rattle.std.proofs.Math.Nat.{zero-mul}
 use Rattle.std.proofs.Math.Seq.{drop-append-add}
 use Rattle.model.specs.Basic.{part, written, joined, tab_from, tab}
-use Rattle.model.specs.Laws.Basic.{length_part, length_tab, get_d_tab, length_joined}
-use Rattle.model.specs.Laws.Entries.{joined_more, written_middle, part_part}
+use Rattle.model.proofs.Laws.Basic.{length_part, length_tab, get_d_tab, length_joined}
+use Rattle.model.proofs.Laws.Entries.{joined_more, written_middle, part_part}
 
 -- tracer t's amounts lie among all
 module _ (tracers : List ℕ) (n m : ℕ) (long : length tracers ≡ n * m) {t : ℕ} (h : t < n) where

@@ -2,7 +2,7 @@
 use Rattle.std.specs.Prelude.{ℕ, ◌<◌, true, List, ◌≡◌}
 use Rattle.model.specs.World as model
 use Rattle.model.specs.Step.{grid_fits}
-use Rattle.model.specs.Laws.Grid as bounds
+use Rattle.model.proofs.Laws.Grid as bounds
 use Rattle.units.specs.declared.Grid as declared
 
 abbrev pub grid_of : declared.Grid → model.Grid

@@ -1,4 +1,6 @@
 // Air units and tracer units with their sums, mismatches, the grid, and the answer of a call.
+#![tactic(auto)]
+
 ghost use Rattle.std.specs.Prelude.{◌≡◌, ◌≤◌, ◌+◌};
 ghost use Rattle.model.specs.Limits.{most_layer_cells, most_cells};
 ghost use Rattle.model.specs.World.{layer_cells, world_cells, layer_start, row_start};

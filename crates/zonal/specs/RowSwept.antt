@@ -11,13 +11,13 @@ use Rattle.model.specs.World.{Grid, World, world_cells, row_start, with_amounts}
 use Rattle.model.specs.Limiters.{rule_for}
 use Rattle.model.specs.Sweep.{ring, air_after, gas_after, serves, swept}
 use Rattle.model.specs.Step.{row_air, zonal_count, zonal, zonal_with_count}
-use Rattle.model.specs.Laws.Chain.{length_air_after}
-use Rattle.model.specs.Laws.Grid.{InRange, in_range_lem, cells_most_lem}
-use Rattle.model.specs.Laws.Part.{cells_in_lem}
-use Rattle.model.specs.Laws.Sweep.{Sweeps}
-use Rattle.model.specs.Laws.Zonal.{zonal_sweeps}
-use Rattle.model.specs.Laws.Entries.{joined_ext, part_part, part_sum_le}
-use Rattle.model.specs.Laws.Substep.{AirIn}
+use Rattle.model.proofs.Laws.Chain.{length_air_after}
+use Rattle.model.proofs.Laws.Grid.{InRange, in_range_lem, cells_most_lem}
+use Rattle.model.proofs.Laws.Part.{cells_in_lem}
+use Rattle.model.proofs.Laws.Sweep.{Sweeps}
+use Rattle.model.proofs.Laws.Zonal.{zonal_sweeps}
+use Rattle.model.proofs.Laws.Entries.{joined_ext, part_part, part_sum_le}
+use Rattle.model.proofs.Laws.Substep.{AirIn}
 use Rattle.units.specs.Limiter.{limiter_at}
 use Rattle.units.specs.declared.Answer.TheVariants.{Accepted, Refused}
 use Rattle.units.specs.declared.Refusal.TheVariants.{GivenCount}

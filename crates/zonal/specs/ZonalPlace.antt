@@ -5,7 +5,7 @@ use Rattle.model.specs.Limits.{most_substeps}
 use Rattle.model.specs.World.{World, row_start}
 use Rattle.model.specs.Sweep.{ring, substep_count}
 use Rattle.model.specs.Step.{Place, place, other_count, zonal_count, zonal, count_zonal, zonal_with_count}
-use Rattle.model.specs.Laws.Grid.{in_range_lem}
+use Rattle.model.proofs.Laws.Grid.{in_range_lem}
 use Rattle.units.specs.Answer.{number_of, count_of, Agrees}
 use Rattle.units.specs.Agrees.{accepted_agrees}
 use Rattle.places.specs.declared.Placed.{Placed}

@@ -1,4 +1,5 @@
 // The zonal sweep of one row in one layer; the count before the sweep, and the sweep with a given count.
+#![tactic(auto)]
 ghost use Rattle.model.specs.Step.{zonal as zonal-call, count_zonal, zonal_with_count};
 ghost use Rattle.units.specs.Answer.{Agrees};
 ghost use Rattle.units.specs.Grid.{grid_of, world_of};

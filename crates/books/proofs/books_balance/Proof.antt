@@ -8,7 +8,7 @@ use lib.ListN.{length}
 use Rattle.model.specs.Limits.{block_numbers}
 use Rattle.model.specs.Basic.{at, part, every}
 use Rattle.model.specs.Books.{balances}
-use Rattle.model.specs.Laws.Basic.{every_none, every_more, every_at, length_part}
+use Rattle.model.proofs.Laws.Basic.{every_none, every_more, every_at, length_part}
 use Rattle.units.specs.Limiter.{block_room}
 use Rattle.units.specs.Lent.{part_lent}
 use Rattle.units.specs.The.{the}

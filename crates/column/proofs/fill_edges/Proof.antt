@@ -5,7 +5,7 @@ use native.Mathlib.Omega.{arith}
 use lib.ListN.{length}
 use Rattle.model.specs.Basic.{at}
 use Rattle.model.specs.Remap.{edge}
-use Rattle.model.specs.Laws.Entries.{entries_more}
+use Rattle.model.proofs.Laws.Entries.{entries_more}
 use Rattle.units.specs.The.{the}
 use borrow.Author.Rules.{rules}
 use Rattle.column.proofs.fill_edges.Statement.{statement}

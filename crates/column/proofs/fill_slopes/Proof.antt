@@ -1,7 +1,7 @@
 -- `column::fill_slopes` meets its contract: a limiter numbered 1 has the rule of the first one, whatever its bounds.
 use mathlib.Core.Path.{refl, sym, ◌∙◌}
 use Rattle.model.specs.Limiters.{first_limiter}
-use Rattle.model.specs.Laws.Limiters.{rule_first}
+use Rattle.model.proofs.Laws.Limiters.{rule_first}
 use Rattle.column.specs.Slopes.{slopes_same}
 use Rattle.units.specs.The.{the}
 use Rattle.units.specs.Limiter.{limiter_of}

@@ -2,7 +2,7 @@
 use Prim.Native.Nat.{ℕ, ◌*◌}
 use mathlib.Core.Path.{◌∙◌, ap}
 use lib.ListN.{length}
-use Rattle.model.specs.Laws.Basic.{length_tab}
+use Rattle.model.proofs.Laws.Basic.{length_tab}
 use Rattle.units.specs.Grid.{world_of}
 use Rattle.program.specs.Bytes.{numbers_at}
 use Rattle.command_to_answer.specs.Room.{numbers_from, agrees_in}

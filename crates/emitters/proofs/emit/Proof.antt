@@ -5,7 +5,7 @@ use native.Mathlib.Omega.{arith}
 use lib.ListN.{length}
 use Rattle.model.specs.Emitters.{standing, ticked}
 use Rattle.units.specs.The.{the}
-use Rattle.model.specs.Laws.Emitters.{length_ticked}
+use Rattle.model.proofs.Laws.Emitters.{length_ticked}
 use Rattle.emitters.specs.Tick.{ticked_none, ticked_more, next_fits}
 use borrow.Author.Rules.{rules}
 use Rattle.emitters.proofs.emit.Statement.{statement}

@@ -5,7 +5,7 @@ use mathlib.Core.Path.{◌≡◌, sym, ◌∙◌, ap₂}
 use native.Mathlib.Omega.{arith}
 use Rattle.model.specs.Basic.{every}
 use Rattle.model.specs.Sweep.{layer}
-use Rattle.model.specs.Laws.Basic.{every_none, every_more}
+use Rattle.model.proofs.Laws.Basic.{every_none, every_more}
 use Rattle.substep.specs.Faces.{flow_of}
 use Rattle.substep.specs.Cells.{cell_allowed, cell_allows}
 use Rattle.layer.specs.Cells.{row_cell_lem}

@@ -1,7 +1,7 @@
 -- `layer_gas::north_of` meets its contract.
 use mathlib.Core.Path.{sym, ◌∙◌}
 use native.Mathlib.Omega.{arith}
-use Rattle.model.specs.Laws.Layer.{north_inner, north_cap_lem}
+use Rattle.model.proofs.Laws.Layer.{north_inner, north_cap_lem}
 use borrow.Author.Rules.{rules}
 use Rattle.layer_gas.proofs.north_of.Statement.{statement}
 use Rattle.layer_gas.proofs.north_of.Tie as tie

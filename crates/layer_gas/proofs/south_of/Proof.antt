@@ -1,7 +1,7 @@
 -- `layer_gas::south_of` meets its contract.
 use mathlib.Core.Path.{sym, ◌∙◌}
 use native.Mathlib.Omega.{arith}
-use Rattle.model.specs.Laws.Layer.{south_cap_lem, south_inner}
+use Rattle.model.proofs.Laws.Layer.{south_cap_lem, south_inner}
 use borrow.Author.Rules.{rules}
 use Rattle.layer_gas.proofs.south_of.Statement.{statement}
 use Rattle.layer_gas.proofs.south_of.Tie as tie

@@ -2,7 +2,7 @@
 use Prim.Native.Nat.{ℕ}
 use mathlib.Core.Path.{sym, subst, ◌∙◌}
 use native.Mathlib.Omega.{arith}
-use Rattle.model.specs.Laws.Layer.{layer_regular}
+use Rattle.model.proofs.Laws.Layer.{layer_regular}
 use Rattle.units.specs.Limiter.{limiter_of}
 use Rattle.substep.specs.Pieces.{HasAir, has_air, gas_moves, gas_after_lem}
 use Rattle.layer.specs.Cells.{layer_cells_lem}

@@ -5,8 +5,8 @@ use lib.ListN.{length, length-set}
 use lib.Seq.{ext_get_or}
 use native.Mathlib.Omega.{arith}
 use Rattle.model.specs.Basic.{at, zeros}
-use Rattle.model.specs.Laws.Basic.{length_zeros, at_zeros}
-use Rattle.model.specs.Laws.Entries.{entries_more}
+use Rattle.model.proofs.Laws.Basic.{length_zeros, at_zeros}
+use Rattle.model.proofs.Laws.Entries.{entries_more}
 use Rattle.units.specs.The.{the}
 use borrow.Author.Rules.{rules}
 use Rattle.ledger.proofs.clear.Statement.{statement}

@@ -3,7 +3,7 @@ use Prim.Native.Nat.{ℕ, ◌≤◌, ◌*◌, ◌-◌}
 use mathlib.Core.Path.{◌≡◌, sym, ◌∙◌, ap}
 use native.Mathlib.Omega.{arith}
 use Rattle.model.specs.Basic.{sum}
-use Rattle.model.specs.Laws.Basic.{sum_none, sum_more}
+use Rattle.model.proofs.Laws.Basic.{sum_none, sum_more}
 use Rattle.model.specs.Emitters.{emitter_units}
 use Rattle.units.specs.The.{the}
 use borrow.Author.Rules.{rules}

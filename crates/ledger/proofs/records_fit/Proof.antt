@@ -6,7 +6,7 @@ use native.Mathlib.Nat.{add-sub_cancel_left}
 use native.Mathlib.Omega.{arith}
 use Rattle.model.specs.Limits.{block_numbers}
 use Rattle.model.specs.Basic.{part, every}
-use Rattle.model.specs.Laws.Basic.{every_none, every_more}
+use Rattle.model.proofs.Laws.Basic.{every_none, every_more}
 use Rattle.model.specs.Emitters.{record_fits}
 use Rattle.units.specs.The.{the}
 use borrow.Author.Rules.{rules}

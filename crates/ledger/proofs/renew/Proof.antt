@@ -7,7 +7,7 @@ use lib.ListN.{length}
 use Rattle.model.specs.Limits.{block_numbers}
 use Rattle.model.specs.Basic.{at}
 use Rattle.model.specs.Books.{fresh_block}
-use Rattle.model.specs.Laws.Basic.{every_at, length_part}
+use Rattle.model.proofs.Laws.Basic.{every_at, length_part}
 use Rattle.units.specs.Lent.{part_lent}
 use Rattle.units.specs.EachTracer.{changed_up_to, changed_none, changed_all, length_up_to, gas_inside}
 use Rattle.ledger.specs.Block.{renews, renewed_more}

@@ -3,7 +3,7 @@ use Prim.Native.Nat.{ℕ}
 use mathlib.Core.List.{List}
 use mathlib.Core.Path.{◌∙◌, ap}
 use lib.ListN.{length, set, length-set}
-use Rattle.model.specs.Laws.Basic.{length_zeros}
+use Rattle.model.proofs.Laws.Basic.{length_zeros}
 use Rattle.model.specs.Basic.{zeros}
 use Rattle.model.specs.Limiters.{with_limiter, first_limiter}
 use Rattle.units.specs.The.{the}

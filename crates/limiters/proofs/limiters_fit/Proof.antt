@@ -5,7 +5,7 @@ use mathlib.Core.Path.{◌≡◌, sym, ◌∙◌, ap, ap₂}
 use native.Mathlib.Omega.{arith}
 use Rattle.model.specs.Basic.{every}
 use Rattle.model.specs.Limiters.{limiter_fits}
-use Rattle.model.specs.Laws.Basic.{every_none, every_more}
+use Rattle.model.proofs.Laws.Basic.{every_none, every_more}
 use Rattle.units.specs.Limiter.{limiter_at, block_room}
 use Rattle.units.specs.The.{the}
 use borrow.Author.Rules.{rules}

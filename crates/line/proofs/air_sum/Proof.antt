@@ -4,7 +4,7 @@ use mathlib.Core.Path.{◌≡◌, sym, ap, ◌∙◌}
 use native.Mathlib.Omega.{arith}
 use Rattle.model.specs.Limits.{air_limit}
 use Rattle.model.specs.Basic as model
-use Rattle.model.specs.Laws.Basic.{sum_none, sum_more}
+use Rattle.model.proofs.Laws.Basic.{sum_none, sum_more}
 use Rattle.units.specs.The.{the}
 use borrow.Author.Rules.{rules}
 use Rattle.line.proofs.air_sum.Statement.{statement}

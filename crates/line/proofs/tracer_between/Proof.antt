@@ -7,7 +7,7 @@ use native.Mathlib.Nat.{zero-mod}
 use native.Mathlib.Omega.{arith}
 use lib.ListN.{length}
 use Rattle.model.specs.Long.{turns}
-use Rattle.model.specs.Laws.Basic.{le_or_lt}
+use Rattle.model.proofs.Laws.Basic.{le_or_lt}
 use Rattle.line.specs.Tracer.{Walking, walking_start, stands_here, need_again, turned_whole, walk_is}
 use Rattle.units.specs.The.{the}
 use borrow.Author.Rules.{rules}

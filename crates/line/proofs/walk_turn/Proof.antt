@@ -10,8 +10,8 @@ use Rattle.model.specs.Limits.{most_columns}
 use Rattle.model.specs.Basic.{at}
 use Rattle.model.specs.Scheme.{low_piece}
 use Rattle.model.specs.Walk.{Passes}
-use Rattle.model.specs.Laws.Basic.{le_or_lt}
-use Rattle.model.specs.Laws.Entries.{entries_more}
+use Rattle.model.proofs.Laws.Basic.{le_or_lt}
+use Rattle.model.proofs.Laws.Entries.{entries_more}
 use Rattle.line.specs.Line.{slope_in, line_walk, line_ends}
 use Rattle.line.specs.Tracer.{place, in_turn, turn_start, ends_few, made_more, stands_here, passed_fits, gas_fits, ahead_here, walk_cell, ends_cell, ends_inside, ends_end, whole_cell, walk_edge, mark_rises, edge_passes, cell_giver}
 use Rattle.units.specs.The.{the}

@@ -1,6 +1,6 @@
 -- `meridional::layer_permits` meets its contract: the lists are filled, and the layer's air is lent with them.
 use native.Mathlib.Omega.{arith}
-use Rattle.model.specs.Laws.Grid.{faces_most}
+use Rattle.model.proofs.Laws.Grid.{faces_most}
 use Rattle.meridional.specs.LayerPlace.{layer_fit, permit}
 use borrow.Author.Rules.{rules}
 use Rattle.meridional.proofs.layer_permits.Statement.{statement}

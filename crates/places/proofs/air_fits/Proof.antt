@@ -3,7 +3,7 @@ use Rattle.std.proofs.Common.{◌≡◌, ℕ, ◌-◌, ◌≤◌, Bool, ◌&&◌
 use Rattle.model.specs.Limits.{air_limit}
 use Rattle.model.specs.Basic.{at, every}
 use Rattle.model.specs.World.{air_fits}
-use Rattle.model.specs.Laws.Basic.{every_none, every_more}
+use Rattle.model.proofs.Laws.Basic.{every_none, every_more}
 use Rattle.places.specs.Bits.{or_within, every_both}
 use Rattle.places.proofs.air_fits.Statement.{statement}
 use Rattle.places.proofs.air_fits.Tie as tie

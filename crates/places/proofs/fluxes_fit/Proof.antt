@@ -4,7 +4,7 @@ use Rattle.units.specs.The.{the}
 use borrow.Author.Rules.{sfits_of}
 use Rattle.model.specs.Basic.{every}
 use Rattle.model.specs.Sweep.{flux}
-use Rattle.model.specs.Laws.Basic.{every_none, every_more}
+use Rattle.model.proofs.Laws.Basic.{every_none, every_more}
 use Rattle.places.proofs.fluxes_fit.Statement.{statement}
 use Rattle.places.proofs.fluxes_fit.Tie as tie
 

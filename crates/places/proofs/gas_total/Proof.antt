@@ -1,7 +1,7 @@
 -- `places::gas_total` meets its contract: the sum of the blocks passed is the sum of their amounts.
 use Rattle.std.proofs.Common.{◌≡◌, ℕ, ◌-◌, ◌*◌, ◌≤◌, length, sym, ap, ◌∙◌, arith, rules}
 use Rattle.model.specs.Basic.{at, part, sum as total}
-use Rattle.model.specs.Laws.Basic.{sum_none, length_part}
+use Rattle.model.proofs.Laws.Basic.{sum_none, length_part}
 use Rattle.places.specs.Totals.{sum_block}
 use Rattle.units.specs.The.{the}
 use Rattle.places.proofs.gas_total.Statement.{statement}

@@ -2,7 +2,7 @@
 use Rattle.std.proofs.Common.{◌≡◌, ℕ, ◌-◌, ◌≤◌, Bool, ◌&&◌, leb, sym, ap, ◌∙◌, arith, rules}
 use Rattle.model.specs.Limits.{total_limit}
 use Rattle.model.specs.Basic.{at, every}
-use Rattle.model.specs.Laws.Basic.{every_none, every_more}
+use Rattle.model.proofs.Laws.Basic.{every_none, every_more}
 use Rattle.places.proofs.totals_fit.Statement.{statement}
 use Rattle.places.proofs.totals_fit.Tie as tie
 

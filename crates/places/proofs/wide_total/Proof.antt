@@ -1,7 +1,7 @@
 -- `places::wide_total` meets its contract. The loop's invariant: `sum` is the sum of the cells passed, each below 2^32.
 use Rattle.std.proofs.Common.{◌≡◌, ℕ, ◌+◌, ◌-◌, ◌*◌, ◌≤◌, length, sym, ap, ◌∙◌, arith, rules}
 use Rattle.model.specs.Basic.{at, sum as total}
-use Rattle.model.specs.Laws.Basic.{sum_none, sum_more}
+use Rattle.model.proofs.Laws.Basic.{sum_none, sum_more}
 use Rattle.places.proofs.wide_total.Statement.{statement}
 use Rattle.places.proofs.wide_total.Tie as tie
 

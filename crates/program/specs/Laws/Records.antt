@@ -3,7 +3,7 @@ use Rattle.std.specs.Prelude.{ℕ, zero, suc, ◌+◌, ◌*◌, ◌≤◌, ◌<�
 use Rattle.std.proofs.Common.{inl, inr, sym, ◌∙◌, ap, arith, zero-add, lit<, get_or-take, take_all, length-take-le}
 use borrow.Author.Tests.{le-leb, lt-leb}
 use Rattle.model.specs.Basic.{at, tab, tab_from}
-use Rattle.model.specs.Laws.Entries.{part_part, below_or_not}
+use Rattle.model.proofs.Laws.Entries.{part_part, below_or_not}
 use Rattle.model.specs.World.{Grid, world_cells}
 use Rattle.program.specs.Bytes.{number, number_at, numbers_at, signed, fluxes_at}
 use Rattle.program.specs.Records.{Kind, unknown, grid_kind, load_kind, emission_kind, withdrawal_kind, zonal_kind, meridional_kind, remap_kind, total_kind, cell_kind, kind_of, State, grid_of, in_place, body_length, command_of, fault, command, found, needed}

@@ -7,11 +7,11 @@ use Rattle.std.proofs.Math.Path.{◌≡◌, refl, ap, subst}
 use Rattle.model.specs.World.{Grid, World, gas_total}
 use Rattle.model.specs.Step.{Call, load, total, no_exchange, meaning, own_places, accepted, step, Result}
 use Rattle.model.specs.Lists.{loaded_world, listed, after, history}
-use Rattle.model.specs.Laws.Step.{Fits, Reached, found as present, accepted_passed, loaded_reached, step_accepted, answer_is}
-use Rattle.model.specs.Laws.Entries.{below_or_not}
-use Rattle.model.specs.Laws.Lists.{after_append, listed_append}
-use Rattle.model.specs.Demand3.{calls_keep}
-use Rattle.model.specs.OnRecord.{OnRecord, loaded_on_record}
+use Rattle.model.proofs.Laws.Step.{Fits, Reached, found as present, accepted_passed, loaded_reached, step_accepted, answer_is}
+use Rattle.model.proofs.Laws.Entries.{below_or_not}
+use Rattle.model.proofs.Laws.Lists.{after_append, listed_append}
+use Rattle.model.proofs.Demand3.{calls_keep}
+use Rattle.model.proofs.OnRecord.{OnRecord, loaded_on_record}
 use Rattle.program.specs.Records.{Kind, unknown, grid_kind, load_kind, emission_kind, withdrawal_kind, zonal_kind, meridional_kind, remap_kind, total_kind, cell_kind, kind_of, State, start, gridded, loaded, world_of, grid_of, is_loaded, in_place, body_length, command_of, grid_refusal, Command, set_grid, set_world, make, Finding, nothing, fault, command, Line, line, after_load, Outcome, none, onward, last, found, needed, carried_out, outcome_of}
 use Rattle.program.specs.Lines.{Entry, entry, entries_from}
 use Rattle.program.specs.Laws.Lines.{first_outcome, entries_none, entries_onward, entries_last}

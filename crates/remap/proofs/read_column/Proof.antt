@@ -5,8 +5,8 @@ use native.Mathlib.Omega.{arith}
 use lib.ListN.{length}
 use Rattle.model.specs.Limits.{most_cells}
 use Rattle.model.specs.Basic.{at}
-use Rattle.model.specs.Laws.Basic.{tab_ext}
-use Rattle.model.specs.Laws.Entries.{entries_more}
+use Rattle.model.proofs.Laws.Basic.{tab_ext}
+use Rattle.model.proofs.Laws.Entries.{entries_more}
 use Rattle.remap.specs.Columns.{cell_room}
 use borrow.Author.Rules.{rules}
 use Rattle.remap.proofs.read_column.Statement.{statement}

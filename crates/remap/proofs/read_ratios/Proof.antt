@@ -6,8 +6,8 @@ use lib.ListN.{length}
 use Rattle.model.specs.Limits.{most_cells}
 use Rattle.model.specs.Basic.{at}
 use Rattle.model.specs.Scheme.{ratio}
-use Rattle.model.specs.Laws.Basic.{tab_ext}
-use Rattle.model.specs.Laws.Entries.{entries_more}
+use Rattle.model.proofs.Laws.Basic.{tab_ext}
+use Rattle.model.proofs.Laws.Entries.{entries_more}
 use Rattle.remap.specs.Columns.{cell_room}
 use Rattle.units.specs.The.{the}
 use borrow.Author.Rules.{rules}

@@ -5,7 +5,7 @@ use native.Mathlib.Omega.{arith}
 use lib.ListN.{length}
 use lib.Seq.{ext_get_or}
 use Rattle.model.specs.Basic.{at}
-use Rattle.model.specs.Laws.Entries.{entries_more}
+use Rattle.model.proofs.Laws.Entries.{entries_more}
 use borrow.Author.Rules.{rules}
 use Rattle.row.proofs.copy.Statement.{statement}
 use Rattle.row.proofs.copy.Tie as tie

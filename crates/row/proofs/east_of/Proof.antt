@@ -1,7 +1,7 @@
 -- `row::east_of` meets its contract.
 use mathlib.Core.Path.{sym, ◌∙◌}
 use native.Mathlib.Omega.{arith}
-use Rattle.model.specs.Laws.Ring.{east_last, east_inner}
+use Rattle.model.proofs.Laws.Ring.{east_last, east_inner}
 use borrow.Author.Rules.{rules}
 use Rattle.row.proofs.east_of.Statement.{statement}
 use Rattle.row.proofs.east_of.Tie as tie

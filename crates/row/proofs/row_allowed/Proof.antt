@@ -6,7 +6,7 @@ use native.Mathlib.Omega.{arith}
 use lib.ListN.{length}
 use Rattle.model.specs.Basic.{every}
 use Rattle.model.specs.Sweep.{ring}
-use Rattle.model.specs.Laws.Basic.{every_none, every_more}
+use Rattle.model.proofs.Laws.Basic.{every_none, every_more}
 use Rattle.substep.specs.Faces.{flow_of}
 use Rattle.substep.specs.Cells.{cell_allowed, cell_allows}
 use Rattle.row.specs.Columns.{allowed_columns, column}

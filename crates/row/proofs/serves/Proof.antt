@@ -6,7 +6,7 @@ use native.Mathlib.Omega.{arith}
 use lib.ListN.{length}
 use Rattle.model.specs.Basic.{every}
 use Rattle.model.specs.Sweep.{ring}
-use Rattle.model.specs.Laws.Basic.{every_none, every_more}
+use Rattle.model.proofs.Laws.Basic.{every_none, every_more}
 use Rattle.substep.specs.Cells.{air_moves}
 use Rattle.row.specs.Substeps.{chain, may, chain_start, may_here, after_here, serves_is, serves_not}
 use Rattle.units.specs.The.{the}

@@ -1,7 +1,7 @@
 -- `row::west_of` meets its contract.
 use mathlib.Core.Path.{sym}
 use native.Mathlib.Omega.{arith}
-use Rattle.model.specs.Laws.Ring.{west_first, west_inner}
+use Rattle.model.proofs.Laws.Ring.{west_first, west_inner}
 use borrow.Author.Rules.{rules}
 use Rattle.row.proofs.west_of.Statement.{statement}
 use Rattle.row.proofs.west_of.Tie as tie

@@ -8,7 +8,7 @@ use borrow.Author.Rules.{rules}
 use mir.Syntax.{w64}
 use mir.Val.{Fits}
 use Rattle.model.specs.Sweep.{flux_part}
-use Rattle.model.specs.Laws.Scheme.{flux_part_not_cut, flux_part_le}
+use Rattle.model.proofs.Laws.Scheme.{flux_part_not_cut, flux_part_le}
 use Rattle.scheme.proofs.flux_part.Statement.{statement}
 use Rattle.scheme.proofs.flux_part.Tie as tie
 

@@ -12,7 +12,7 @@ use Rattle.units.specs.declared.Tracer.{Tracer}
 use Rattle.units.specs.declared.Mismatch as code
 use Rattle.model.specs.Limits.{scale}
 use Rattle.model.specs.Scheme.{Mismatch, high_piece}
-use Rattle.model.specs.Laws.Scheme.{Safe, ratio_safe, numerator, piece_is, slope_le, tilt_le_level, level_fits, piece_le}
+use Rattle.model.proofs.Laws.Scheme.{Safe, ratio_safe, numerator, piece_is, slope_le, tilt_le_level, level_fits, piece_le}
 use Rattle.scheme.specs.Leaves.{mismatch_of, Giver}
 use Rattle.scheme.proofs.high_piece.Statement.{statement}
 use Rattle.scheme.proofs.high_piece.Tie as tie

@@ -6,7 +6,7 @@ use lib.Dec.{leb}
 use Rattle.model.specs.Basic.{distance}
 use Rattle.model.specs.Scheme.{Mismatch}
 use Rattle.model.specs.Limiters.{Limiter}
-use Rattle.model.specs.Laws.Limiters.{limiter_limited}
+use Rattle.model.proofs.Laws.Limiters.{limiter_limited}
 use Rattle.units.specs.Limiter.{limiter_of}
 use Rattle.scheme.specs.Leaves.{half_limit, limiter_is}
 use Rattle.units.specs.The.{the}

@@ -4,7 +4,7 @@ use mathlib.Core.Path.{◌≡◌}
 use native.Mathlib.Omega.{arith}
 use lib.ListN.{length}
 use Rattle.model.specs.Sweep.{cell_ratio}
-use Rattle.model.specs.Laws.Entries.{entries_more}
+use Rattle.model.proofs.Laws.Entries.{entries_more}
 use Rattle.substep.specs.Pieces.{AreRatios}
 use Rattle.units.specs.The.{the}
 use borrow.Author.Rules.{rules}

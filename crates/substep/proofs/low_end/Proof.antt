@@ -2,7 +2,7 @@
 use mathlib.Core.Path.{sym, ◌∙◌, ap}
 use Rattle.model.specs.Basic.{at}
 use Rattle.model.specs.Scheme.{Mismatch, opposite, low_piece}
-use Rattle.model.specs.Laws.Scheme.{piece_none}
+use Rattle.model.proofs.Laws.Scheme.{piece_none}
 use Rattle.units.specs.Limiter.{limiter_of}
 use Rattle.substep.specs.Pieces.{mismatch_in}
 use Rattle.units.specs.The.{the}

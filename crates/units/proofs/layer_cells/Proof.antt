@@ -1,6 +1,6 @@
 -- `units::layer_cells` meets its contract: 44 · 72 cells and two caps fit 32 bits.
 use native.Mathlib.Omega.{arith}
-use Rattle.model.specs.Laws.Grid.{layer_cells_most}
+use Rattle.model.proofs.Laws.Grid.{layer_cells_most}
 use borrow.Author.Rules.{rules}
 use Rattle.units.proofs.layer_cells.Statement.{statement}
 use Rattle.units.proofs.layer_cells.Tie as tie

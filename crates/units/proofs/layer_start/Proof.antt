@@ -3,7 +3,7 @@ use Prim.Native.Nat.{ℕ, ◌*◌}
 use mathlib.Core.Path.{◌≡◌, ap}
 use native.Mathlib.Omega.{arith}
 use Rattle.model.specs.World.{layer_start}
-use Rattle.model.specs.Laws.Grid.{layer_inside, cells_most_lem}
+use Rattle.model.proofs.Laws.Grid.{layer_inside, cells_most_lem}
 use Rattle.units.specs.Grid.{grid_of}
 use borrow.Author.Rules.{rules}
 use Rattle.units.proofs.layer_start.Statement.{statement}

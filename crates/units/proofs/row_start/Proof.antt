@@ -5,7 +5,7 @@ use native.Mathlib.Nat.{le_trans}
 use native.Mathlib.Omega.{arith}
 use Rattle.model.specs.Limits.{most_cells}
 use Rattle.model.specs.World.{row_start}
-use Rattle.model.specs.Laws.Grid.{row_inside_lem, cells_most_lem}
+use Rattle.model.proofs.Laws.Grid.{row_inside_lem, cells_most_lem}
 use Rattle.units.specs.Grid.{grid_of}
 use borrow.Author.Rules.{rules}
 use Rattle.units.proofs.row_start.Statement.{statement}

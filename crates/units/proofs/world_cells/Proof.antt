@@ -3,7 +3,7 @@ use Prim.Native.Nat.{ℕ, ◌*◌}
 use mathlib.Core.Path.{◌≡◌, ap}
 use native.Mathlib.Omega.{arith}
 use Rattle.model.specs.World.{world_cells}
-use Rattle.model.specs.Laws.Grid.{cells_most_lem}
+use Rattle.model.proofs.Laws.Grid.{cells_most_lem}
 use Rattle.units.specs.Grid.{grid_of}
 use borrow.Author.Rules.{rules}
 use Rattle.units.proofs.world_cells.Statement.{statement}

@@ -1,0 +1,11 @@
+pub mod Cases
+pub mod Laws
+pub mod Demand3
+pub mod Corollaries
+pub mod Inventory
+pub mod Budget
+pub mod Readout
+pub mod Presses
+pub mod PerGas
+pub mod FixedBounds
+pub mod OnRecord
