@@ -1,6 +1,7 @@
 // The calls that move no air: load, emission, withdrawal, and the readings of a total and of a cell.
 #![tactic(auto)]
-ghost use Rattle.model.specs.Step.{load as load-call, emission as emission-call, withdrawal as withdrawal-call, total as total-call, cell as cell-call};
+
+ghost use Rattle.model.specs.Step.{load as load_call, emission as emission_call, withdrawal as withdrawal_call, total as total_call, cell as cell_call};
 ghost use Rattle.units.specs.Grid.{world_of};
 ghost use Rattle.units.specs.Answer.{Agrees};
 ghost use Rattle.amounts.specs.Amount.{IsCellPlace};
@@ -12,7 +13,7 @@ use units::{Answer, Grid, LEDGER_BLOCK, Refusal, number, wide, world_cells};
 
 // Tests lent air and tracers, and leaves for every tracer no emitter, the first limiter, and its total in its book.
 pub fn load(g: Grid, air: &[u32], tracers: &[u32], ledger: &mut [u32]) -> Answer
-    ensures { Agrees (world_of g air.now tracers.now ledger.old) load-call result (world_of g air.now tracers.now ledger.new) }
+    ensures { Agrees (world_of g air.now tracers.now ledger.old) load_call result (world_of g air.now tracers.now ledger.new) }
 {
     let loaded = world_places(g, air, tracers, ledger, Lent::Nothing);
     let answer = loaded.answer;
@@ -26,7 +27,7 @@ pub fn load(g: Grid, air: &[u32], tracers: &[u32], ledger: &mut [u32]) -> Answer
 
 // A tracer's total.
 pub fn total(g: Grid, air: &[u32], tracers: &[u32], ledger: &[u32], tracer: u32) -> Answer
-    ensures { Agrees (world_of g air.now tracers.now ledger.now) (total-call tracer) result (world_of g air.now tracers.now ledger.now) }
+    ensures { Agrees (world_of g air.now tracers.now ledger.now) (total_call tracer) result (world_of g air.now tracers.now ledger.now) }
 {
     let tested = common_places(g, air, tracers, ledger, Lent::Nothing);
     let answer = tested.answer;
@@ -78,7 +79,7 @@ fn amount_place(
 
 // A cell's amount of a tracer, the cell numbered over all layers.
 pub fn cell(g: Grid, air: &[u32], tracers: &[u32], ledger: &[u32], tracer: u32, cell: u32) -> Answer
-    ensures { Agrees (world_of g air.now tracers.now ledger.now) (cell-call tracer cell) result (world_of g air.now tracers.now ledger.now) }
+    ensures { Agrees (world_of g air.now tracers.now ledger.now) (cell_call tracer cell) result (world_of g air.now tracers.now ledger.now) }
 {
     let place = amount_place(g, air, tracers, ledger, tracer, cell);
     let answer = place.answer;
@@ -100,7 +101,7 @@ pub fn emission(
     cell: u32,
     amount: u32,
 ) -> Answer
-    ensures { Agrees (world_of g air.now tracers.old ledger.old) (emission-call tracer cell amount) result (world_of g air.now tracers.new ledger.new) }
+    ensures { Agrees (world_of g air.now tracers.old ledger.old) (emission_call tracer cell amount) result (world_of g air.now tracers.new ledger.new) }
 {
     let place = amount_place(g, air, tracers, ledger, tracer, cell);
     let answer = place.answer;
@@ -128,7 +129,7 @@ pub fn withdrawal(
     cell: u32,
     amount: u32,
 ) -> Answer
-    ensures { Agrees (world_of g air.now tracers.old ledger.old) (withdrawal-call tracer cell amount) result (world_of g air.now tracers.new ledger.new) }
+    ensures { Agrees (world_of g air.now tracers.old ledger.old) (withdrawal_call tracer cell amount) result (world_of g air.now tracers.new ledger.new) }
 {
     let place = amount_place(g, air, tracers, ledger, tracer, cell);
     let answer = place.answer;

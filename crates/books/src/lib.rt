@@ -1,5 +1,6 @@
 // A tracer's book as it stands in its block of the ledger: the units loaded, emitted and withdrawn. Each sum has 32 bits, and they are added in 64.
 #![tactic(auto)]
+
 ghost use Rattle.std.specs.Prelude.{◌≡◌, true, ◌&&◌, ◌+◌, ◌*◌, ◌≤◌, ◌<◌, leb, length};
 ghost use Rattle.model.specs.Limits.{total_limit, sum_limit, block_numbers};
 ghost use Rattle.model.specs.Basic.{at, part, every};

@@ -1,8 +1,9 @@
 // The public calls for C and Rust. Each takes the grid's four numbers and the lent buffers, and returns one number: answer · 2^32 + count.
 // The reading of the units a tick has a count of 64 bits, so it has two exports: one for the answer, one for the count.
 #![tactic(auto)]
+
 ghost use Rattle.std.specs.Prelude.{◌≡◌};
-ghost use Rattle.model.specs.Step.{load, emission, withdrawal, zonal, long_zonal, meridional, remap, total, cell as cell-call, add_emitter, remove_emitter, tick, units_atick, count_zonal, zonal_with_count, set_limiter};
+ghost use Rattle.model.specs.Step.{load, emission, withdrawal, zonal, long_zonal, meridional, remap, total, cell as cell_call, add_emitter, remove_emitter, tick, units_atick, count_zonal, zonal_with_count, set_limiter};
 ghost use Rattle.boundary.specs.Returned.{packed_of, Returns, Answers, Counts, lent_world};
 
 use units::{Answer, Grid, count, number, wide_count, wide_number};
@@ -97,7 +98,7 @@ pub extern "C" fn puldeho_raw_cell(
     tracer: u32,
     cell: u32,
 ) -> u64
-    ensures { Returns (lent_world w r k n air.now tracers.now ledger.now) (cell-call tracer cell) result (lent_world w r k n air.now tracers.now ledger.now) }
+    ensures { Returns (lent_world w r k n air.now tracers.now ledger.now) (cell_call tracer cell) result (lent_world w r k n air.now tracers.now ledger.now) }
 {
     let g = Grid { w, r, k, n };
     packed(amounts::cell(g, air, tracers, ledger, tracer, cell))

@@ -2,6 +2,7 @@
 // y7-2 and y7-4 of the limiters, run through the sweeps and the remap: name, answer, count, all air, all tracers.
 // In grids of one row of four columns; the first and the last amount of a layer are the caps'. No emitter stands; the first limiter, where no other is named.
 #![tactic(auto)]
+
 use libc::STDOUT_FILENO;
 use units::{LEDGER_BLOCK, LIMITER_PLACE};
 

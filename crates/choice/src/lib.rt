@@ -1,5 +1,6 @@
 // The call that sets one tracer's limiter and its bounds.
 #![tactic(auto)]
+
 ghost use Rattle.model.specs.Step.{set_limiter};
 ghost use Rattle.units.specs.Answer.{Agrees};
 ghost use Rattle.units.specs.Grid.{world_of};

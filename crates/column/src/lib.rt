@@ -1,6 +1,7 @@
 // The remap of one column in lent lists: edges, ratios and mismatches, new amounts, and the count of pairs. A column is a line of cells whose low end is its top (crate line).
 // A list's first k entries count, of a list of edges the first k + 1. `air` holds air, `gas` and `newgas` a tracer, `size` and `rising` the layers' mismatches.
 #![tactic(auto)]
+
 ghost use Rattle.std.specs.Prelude.{◌≡◌, ◌&&◌, ◌+◌, ◌-◌, ◌*◌, ◌/◌, ◌≤◌, ◌<◌, length, leb};
 ghost use Rattle.model.specs.Limits.{table_limit, table_scale, most_layers};
 ghost use Rattle.model.specs.Step.{table_fits};

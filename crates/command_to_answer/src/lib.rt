@@ -1,7 +1,8 @@
 // Makes the call that a command asks for, with the lists that its body holds, in exactly the slices that it is lent.
 #![tactic(auto)]
+
 ghost use Rattle.std.specs.Prelude.{◌≡◌, ◌+◌, ◌*◌, ◌≤◌, length};
-ghost use Rattle.program.specs.Bytes.{signed as signed-number, numbers_at, fluxes_at};
+ghost use Rattle.program.specs.Bytes.{signed as signed_number, numbers_at, fluxes_at};
 ghost use Rattle.model.specs.Limits.{most_columns, most_layers};
 ghost use Rattle.model.specs.Step.{zonal, meridional, remap};
 ghost use Rattle.units.specs.Answer.{Agrees};
@@ -30,7 +31,7 @@ fn decode(bytes: &[u8], out: &mut [u32])
 
 // 32 bits as a signed number.
 fn signed(x: u32) -> i32
-    ensures { result ≡ signed-number x }
+    ensures { result ≡ signed_number x }
 {
     if x < 2147483648 {
         return x as i32;

@@ -1,5 +1,6 @@
 // What a record asks for: a kind with its whole body as a command.
 #![tactic(auto)]
+
 ghost use Rattle.kinds.specs.Kind.{kind_is};
 ghost use Rattle.commands.specs.Command.{ParseNeed, Parses};
 

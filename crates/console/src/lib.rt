@@ -1,6 +1,7 @@
 // The runner's loop over standard input and standard output. What a record is, what comes of it and its line's text
 // are proved in the crates below; here it is read and written.
 #![tactic(auto)]
+
 ghost use Rattle.std.specs.Prelude.{◌≡◌, ◌+◌, length};
 ghost use Rattle.stages.specs.Limits.{program_body};
 

@@ -1,9 +1,10 @@
 // The calls on a tracer's standing emitters: one is added or removed, all of them emit in a tick, their units a tick are read.
 #![tactic(auto)]
+
 ghost use Rattle.std.specs.Prelude.{◌≡◌, ◌+◌, ◌≤◌, ◌<◌, length, set};
 ghost use Rattle.model.specs.Basic.{at};
 ghost use Rattle.model.specs.Emitters.{standing, ticked};
-ghost use Rattle.model.specs.Step.{add_emitter, remove_emitter, tick as tick-call, units_atick};
+ghost use Rattle.model.specs.Step.{add_emitter, remove_emitter, tick as tick_call, units_atick};
 ghost use Rattle.units.specs.Grid.{world_of};
 ghost use Rattle.units.specs.Answer.{Agrees, AgreesWide};
 ghost use Rattle.emitters.specs.Place.{IsEmitterPlace};
@@ -124,7 +125,7 @@ fn emit(gas: &mut [u32], block: &[u32])
 
 // Emits the units of all of a tracer's emitters, or of none, and enters their sum in the tracer's book.
 pub fn tick(g: Grid, air: &[u32], tracers: &mut [u32], ledger: &mut [u32], tracer: u32) -> Answer
-    ensures { Agrees (world_of g air.now tracers.old ledger.old) (tick-call tracer) result (world_of g air.now tracers.new ledger.new) }
+    ensures { Agrees (world_of g air.now tracers.old ledger.old) (tick_call tracer) result (world_of g air.now tracers.new ledger.new) }
 {
     let place = emitter_place(g, air, tracers, ledger, tracer);
     let answer = place.answer;

@@ -1,5 +1,6 @@
 // The fields of a record's body: numbers of 1, 2 and 4 bytes, a grid, an amount in a cell.
 #![tactic(auto)]
+
 ghost use Rattle.std.specs.Prelude.{◌≡◌, ◌+◌, ◌≤◌, ◌<◌, length};
 ghost use Rattle.model.specs.Basic.{at as byte_at};
 ghost use Rattle.program.specs.Bytes.{number_at};

@@ -1,5 +1,6 @@
 // The kinds of records: where each may stand, and how long its body is.
 #![tactic(auto)]
+
 ghost use Rattle.std.specs.Prelude.{◌≡◌, ◌≤◌};
 ghost use Rattle.program.specs.Records.{kind_of, is_start, is_loaded, in_place, body_length};
 ghost use Rattle.units.specs.Grid.{grid_of};

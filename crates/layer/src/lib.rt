@@ -2,6 +2,7 @@
 // Cell 0 is the south cap, cell 1 + j the cell between face j and face w + j, and the last cell the north cap.
 // `airup` and `airdown` hold the air that passes each face northward and southward, `gasup` and `gasdown` the tracer that it carries; a list's name says of what its numbers are.
 #![tactic(auto)]
+
 ghost use Rattle.std.specs.Prelude.{◌≡◌, ◌+◌, ◌*◌, ◌≤◌, ◌<◌, length};
 ghost use Rattle.model.specs.Basic.{at, every};
 ghost use Rattle.model.specs.Sweep.{layer, after_flow, allowed};

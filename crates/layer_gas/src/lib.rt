@@ -3,6 +3,7 @@
 // `airup` and `airdown` hold the air that passes each face northward and southward, `gasup` and `gasdown` the tracer that it carries.
 // Every piece is taken into a list before any amount changes.
 #![tactic(auto)]
+
 ghost use Rattle.std.specs.Prelude.{◌≡◌, ◌*◌, ◌≤◌};
 ghost use Rattle.model.specs.Limits.{most_faces};
 ghost use Rattle.model.specs.Basic.{at};

@@ -1,6 +1,7 @@
 // The ledger: a block of 59 numbers for each tracer, with its standing emitters, from number 51 on its limiter (crate limiters), and from 56 on its book (crate books). Number 0 is how
 // many stand, 1 and 2 are the halves of the sum of their units a tick; emitter i has its id at 3 + 3·i, its cell and its units behind it.
 #![tactic(auto)]
+
 ghost use Rattle.std.specs.Prelude.{◌≡◌, true, not, ◌||◌, ◌+◌, ◌*◌, ◌≤◌, ◌<◌, length, leb, ltb, eqb};
 ghost use Rattle.model.specs.Limits.{total_limit, most_emitters, block_numbers};
 ghost use Rattle.model.specs.Basic.{at, zeros, part, tab, joined, sum, every};

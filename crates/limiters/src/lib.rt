@@ -1,5 +1,6 @@
 // A tracer's limiter as it stands in its block of the ledger: its number, then the low and the high half of each of its two bounds.
 #![tactic(auto)]
+
 ghost use Rattle.std.specs.Prelude.{◌≡◌, ◌+◌, ◌*◌, ◌≤◌, ◌<◌, length};
 ghost use Rattle.model.specs.Limits.{block_numbers};
 ghost use Rattle.model.specs.Basic.{every};

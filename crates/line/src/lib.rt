@@ -2,6 +2,7 @@
 // An edge is a number: air counted from the line's low end, in 64 bits, since an edge that does not serve may be any number.
 // `air` and `newair` hold air, `gas` and `newgas` a tracer, `size` and `rising` the slope in each cell: its size, and whether its sign is positive.
 #![tactic(auto)]
+
 ghost use Rattle.std.specs.Prelude.{◌≡◌, ◌&&◌, ◌+◌, ◌-◌, ◌≤◌, ◌<◌, length, leb, ltb};
 ghost use Rattle.model.specs.Limits.{air_limit};
 ghost use Rattle.model.specs.Basic.{at, every};

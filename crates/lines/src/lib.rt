@@ -1,5 +1,6 @@
 // A line of the runner as text. It is written from its end, so that each number's digits come out in their order.
 #![tactic(auto)]
+
 ghost use Rattle.std.specs.Prelude.{◌≤◌, [], ◌∷◌, length};
 ghost use Rattle.program.specs.Bytes.{decimal};
 ghost use Rattle.program.specs.Records.{line};

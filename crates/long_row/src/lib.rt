@@ -1,6 +1,7 @@
 // One row of a layer in a long sweep, over the row's lent parts: where the faces' air comes from, the air afterwards, and a tracer's amounts.
 // A point of the line is a number: the air before it, in 64 bits. The row is swept where it lies on the line the second time.
 #![tactic(auto)]
+
 ghost use Rattle.std.specs.Prelude.{◌≡◌, ◌+◌, ◌-◌, ◌≤◌, ◌<◌, length};
 ghost use Rattle.model.specs.Sweep.{forward, backward};
 ghost use Rattle.model.specs.Long.{long_air_fits};

@@ -1,8 +1,9 @@
 // The long zonal sweep of one row in one layer: a sweep without substeps.
 #![tactic(auto)]
+
 ghost use Rattle.std.specs.Prelude.{◌≡◌, length};
 ghost use Rattle.model.specs.Remap.{air_above};
-ghost use Rattle.model.specs.Step.{long_zonal as long-zonal-call};
+ghost use Rattle.model.specs.Step.{long_zonal as long_zonal_call};
 ghost use Rattle.units.specs.Answer.{Agrees};
 ghost use Rattle.units.specs.Grid.{grid_of, world_of};
 ghost use Rattle.line.specs.Line.{AirNeed};
@@ -109,7 +110,7 @@ pub fn long_zonal(
     row: u32,
     fluxes: &[i32],
 ) -> Answer
-    ensures { Agrees (world_of g air.old tracers.old ledger.now) (long-zonal-call layer row fluxes.now) result (world_of g air.new tracers.new ledger.now) }
+    ensures { Agrees (world_of g air.old tracers.old ledger.now) (long_zonal_call layer row fluxes.now) result (world_of g air.new tracers.new ledger.now) }
 {
     let place = long_place(g, air, tracers, ledger, layer, row, fluxes);
     let answer = place.answer;

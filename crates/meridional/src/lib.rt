@@ -1,7 +1,8 @@
 // The meridional sweep of one layer.
 #![tactic(auto)]
+
 ghost use Rattle.std.specs.Prelude.{◌≡◌};
-ghost use Rattle.model.specs.Step.{meridional as meridional-call};
+ghost use Rattle.model.specs.Step.{meridional as meridional_call};
 ghost use Rattle.units.specs.Answer.{Agrees};
 ghost use Rattle.units.specs.Grid.{grid_of, world_of};
 ghost use Rattle.substep.specs.Faces.{flow_of};
@@ -120,7 +121,7 @@ pub fn meridional(
     layer: u32,
     fluxes: &[i32],
 ) -> Answer
-    ensures { Agrees (world_of g air.old tracers.old ledger.now) (meridional-call layer fluxes.now) result (world_of g air.new tracers.new ledger.now) }
+    ensures { Agrees (world_of g air.old tracers.old ledger.now) (meridional_call layer fluxes.now) result (world_of g air.new tracers.new ledger.now) }
 {
     let mut airup = [0u32; MOST_FACES];
     let mut airdown = [0u32; MOST_FACES];

@@ -1,6 +1,7 @@
 // Places 1 to 4, which every call tests: the grid, the lent lengths, the air, the tracers' totals; 21, the limiters, of the calls that move air; 22, the books, of every call but a load; and place 8, of both sweeps.
 // The tests of whole buffers have no early exit, so that the compiler can vectorise them, and each buffer is read once.
 #![tactic(auto)]
+
 ghost use Rattle.std.specs.Prelude.{◌≡◌, ◌+◌, ◌*◌, ◌<◌, ◌≤◌, leb, length, nat_le, unsigned_abs};
 ghost use Rattle.model.specs.Limits.{total_limit, most_cells, block_numbers};
 ghost use Rattle.model.specs.Basic.{at, sum, every};

@@ -1,5 +1,6 @@
 // Carries out a record of the runner in the program's buffers.
 #![tactic(auto)]
+
 ghost use Rattle.std.specs.Prelude.{◌≡◌, length};
 ghost use Rattle.model.specs.Limits.{program_cells};
 ghost use Rattle.stages.specs.Buffers.{buffers};

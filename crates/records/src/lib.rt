@@ -1,5 +1,6 @@
 // The runner's reader: the bytes that a record needs, and the record at the start of some bytes.
 #![tactic(auto)]
+
 ghost use Rattle.records.specs.Found.{NeedsBytes, Finds};
 
 use commands::{Command, parse};

@@ -1,5 +1,6 @@
 // The remap of all columns.
 #![tactic(auto)]
+
 ghost use Rattle.std.specs.Prelude.{◌≡◌, ◌||◌, ◌+◌, ◌*◌, ◌≤◌, ◌<◌, eqb, length};
 ghost use Rattle.model.specs.Basic.{at, every};
 ghost use Rattle.model.specs.Walk.{budget};
@@ -13,7 +14,7 @@ ghost use Rattle.remap.specs.Gas.{GasNeed, IsGasMoved};
 ghost use Rattle.remap.specs.Tracers.{ColumnTracersNeed, AreTracersMoved};
 ghost use Rattle.remap.specs.Moved.{ColumnsTracersNeed, AreMoved};
 ghost use Rattle.remap.specs.RemapPlace.{IsRemapPlace};
-ghost use Rattle.model.specs.Step.{remap as remap-call};
+ghost use Rattle.model.specs.Step.{remap as remap_call};
 ghost use Rattle.units.specs.Answer.{Agrees};
 ghost use Rattle.units.specs.Grid.{world_of};
 
@@ -253,7 +254,7 @@ fn remap_place(g: Grid, air: &[u32], tracers: &[u32], ledger: &[u32], table: &[u
 
 // Remaps all columns, in the air and in all tracers. Its count is exactly the number of pairs of an old and a new layer that share some air, summed over columns.
 pub fn remap(g: Grid, air: &mut [u32], tracers: &mut [u32], ledger: &[u32], table: &[u32]) -> Answer
-    ensures { Agrees (world_of g air.old tracers.old ledger.now) (remap-call table.now) result (world_of g air.new tracers.new ledger.now) }
+    ensures { Agrees (world_of g air.old tracers.old ledger.now) (remap_call table.now) result (world_of g air.new tracers.new ledger.now) }
 {
     let place = remap_place(g, air, tracers, ledger, table);
     let answer = place.answer;

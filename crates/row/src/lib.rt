@@ -1,5 +1,6 @@
 // One row of a layer: whether a substep is allowed, the substep in its air and in a tracer's amounts, and the number of substeps.
 #![tactic(auto)]
+
 ghost use Rattle.std.specs.Prelude.{◌≡◌, ◌<◌, length};
 ghost use Rattle.model.specs.Sweep.{ring, east_of, west_of, allowed, after_flow, serves};
 ghost use Rattle.substep.specs.Faces.{flow_of};

@@ -1,5 +1,6 @@
 // Places 1 to 4, 21, 5 and 8 of a sweep of one row in one layer, with substeps or without: where the row starts.
 #![tactic(auto)]
+
 ghost use Rattle.units.specs.Grid.{world_of};
 ghost use Rattle.row_place.specs.RowPlace.{IsRowPlace};
 

@@ -1,6 +1,7 @@
 // The row of every tracer: loaded from the lent amounts, carried through a sweep's substeps as an array of 8 arrays of 72 amounts, written back.
 // Every piece of a tracer is taken into a list before any amount changes.
 #![tactic(auto)]
+
 ghost use Rattle.std.specs.Prelude.{◌≡◌};
 ghost use Rattle.units.specs.Limiter.{limiter_of};
 ghost use Rattle.substep.specs.Faces.{flow_of};

@@ -1,5 +1,6 @@
 // The runner program.
 #![tactic(auto)]
+
 fn main() {
     console::run();
 }

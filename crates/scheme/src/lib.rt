@@ -1,5 +1,6 @@
 // The leaves of the scheme: ratio, mismatch, piece, the two directions of a flux, and its parts.
 #![tactic(auto)]
+
 ghost use Rattle.std.specs.Prelude.{◌≡◌, ◌≤◌, ◌<◌, ◌*◌, ◌-◌, min, max};
 ghost use Rattle.units.specs.Limiter.{limiter_of};
 ghost use Rattle.scheme.specs.Leaves.{mismatch_of, half_limit, IsMismatch, Giver, IsPiece, IsSplit, IsFluxPart};

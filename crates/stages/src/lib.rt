@@ -1,5 +1,6 @@
 // What the runner's records have set up, and the grids that the program takes.
 #![tactic(auto)]
+
 ghost use Rattle.std.specs.Prelude.{◌≡◌, ◌≤◌};
 ghost use Rattle.model.specs.Limits.{program_cells};
 ghost use Rattle.model.specs.World.{world_cells};

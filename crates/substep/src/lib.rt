@@ -2,6 +2,7 @@
 // A lent list holds numbers, and its parameter's name says of what: air, or a tracer (gas). A number becomes an amount, `Air(..)` or `Tracer(..)`, where it is read; amounts are added and subtracted only by functions that take and give amounts of one unit.
 // `airup` and `airdown` hold the air that passes each face towards its high and towards its low side, `gasup` and `gasdown` the tracer that it carries.
 #![tactic(auto)]
+
 ghost use Rattle.std.specs.Prelude.{◌≡◌, ◌+◌, ◌-◌, ◌≤◌, length};
 ghost use Rattle.model.specs.Basic.{at};
 ghost use Rattle.model.specs.Scheme.{high_piece, low_piece};

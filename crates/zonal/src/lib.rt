@@ -1,6 +1,7 @@
 // The zonal sweep of one row in one layer; the count before the sweep, and the sweep with a given count.
 #![tactic(auto)]
-ghost use Rattle.model.specs.Step.{zonal as zonal-call, count_zonal, zonal_with_count};
+
+ghost use Rattle.model.specs.Step.{zonal as zonal_call, count_zonal, zonal_with_count};
 ghost use Rattle.units.specs.Answer.{Agrees};
 ghost use Rattle.units.specs.Grid.{grid_of, world_of};
 ghost use Rattle.zonal.specs.ZonalPlace.{IsZonalPlace};
@@ -75,7 +76,7 @@ pub fn zonal(
     row: u32,
     fluxes: &[i32],
 ) -> Answer
-    ensures { Agrees (world_of g air.old tracers.old ledger.now) (zonal-call layer row fluxes.now) result (world_of g air.new tracers.new ledger.now) }
+    ensures { Agrees (world_of g air.old tracers.old ledger.now) (zonal_call layer row fluxes.now) result (world_of g air.new tracers.new ledger.now) }
 {
     let place = zonal_place(g, air, tracers, ledger, layer, row, fluxes);
     let answer = place.answer;
