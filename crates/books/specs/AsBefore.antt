@@ -22,7 +22,7 @@ use Rattle.model.specs.Long.{long_swept}
 use Rattle.model.specs.Emitters.{half, standing, emitter_id, emitter_cell, emitter_units, kept_units, has_id, with_head, with_emitter, emitter_added, place_of, emitter_removed, ticked}
 use Rattle.model.specs.Limiters.{Limiter, limiter_fits, limiter_in, with_limiter, rule_for, rule_of}
 use Rattle.model.specs.Books.{emitted_sum, withdrawn_sum, entered}
-use Rattle.model.specs.Step.{Call, load, emission, withdrawal, zonal, long_zonal, meridional, remap, total, cell, add_emitter, remove_emitter, tick, units_atick, count_zonal, zonal_with_count, set_limiter, Result, Place, place, first_of, absent, broken_record, broken_limiter, amount_at, with_amount, Exchange, no_exchange, booked, Meaning, meaning, common_places, limiter_places, book_places, own_places, accepted, refused, refusal, step}
+use Rattle.model.specs.Step.{Call, load, emission, withdrawal, zonal, long_zonal, meridional, remap, total, cell, add_emitter, remove_emitter, tick, units_a_tick, count_zonal, zonal_with_count, set_limiter, Result, Place, place, first_of, absent, broken_record, broken_limiter, amount_at, with_amount, Exchange, no_exchange, booked, Meaning, meaning, common_places, limiter_places, book_places, own_places, accepted, refused, refusal, step}
 use Rattle.model.specs.Lists.{Loaded, loaded_world, listed, call_at, after, point, exchanged, added}
 use Rattle.model.proofs.Laws.Basic.{every_true}
 use Rattle.model.proofs.Laws.Emitters.{Sound, place_is, same_sound, sound_fits, fresh_emitted, fresh_withdrawn}
@@ -63,7 +63,7 @@ before (total t) = unchanged (meaning (total t))
 before (cell t c) = unchanged (meaning (cell t c))
 before (add_emitter t c id units) = unchanged (meaning (add_emitter t c id units))
 before (remove_emitter t id) = unchanged (meaning (remove_emitter t id))
-before (units_atick t) = unchanged (meaning (units_atick t))
+before (units_a_tick t) = unchanged (meaning (units_a_tick t))
 before (count_zonal k r fluxes) = unchanged (meaning (count_zonal k r fluxes))
 before (zonal_with_count k r n fluxes) = unchanged (meaning (zonal_with_count k r n fluxes))
 before (set_limiter t number lo hi) = unchanged (meaning (set_limiter t number lo hi))
@@ -301,7 +301,7 @@ module _ (w : World) (so : Reached w) (other : List ℕ) (same : ButBooks w (wit
       same_enter t _ (λ b. emitter_removed b id) (λ h i. elim (records i) [ true ↦ 5 | false ↦ elim (not (same_has blocks (so.blocks t h).few id i)) [ true ↦ 19 | false ↦ 0 ] ])
       (λ b. simp length-set)
       (λ h e. removed_but blocks (so.blocks t h).few id (not-false _ (passed last [] w (lit< tt) (passed broken_record (last ∷ []) w (lit< tt) e).1).0))
-  same_call (units_atick t) held =
+  same_call (units_a_tick t) held =
       record {
         exchange = λ u. refl;
         places = λ room i. elim (not (ltb t w.grid.N)) [ true ↦ 5 | false ↦ elim (records i) [ true ↦ 5 | false ↦ 0 ] ];

@@ -1,7 +1,7 @@
 -- The further cases of y8-1 to y8-80 for document 02, Slip 8, as one table with one theorem about `step`. Those that edits of the model break are in the model (Cases/Books).
 -- Assumes nothing. Inputs, numbers and labels are the second implementation's (reference/cases/books.txt). It stands here and not in the model, whose edits would compute it anew each.
 use Rattle.std.specs.Prelude.{List, [], ◌∷◌, ◌++◌, refl, pos, neg_ℤ, replicate}
-use Rattle.model.specs.Step.{load, emission, withdrawal, zonal, long_zonal, meridional, remap, total, cell, add_emitter, remove_emitter, tick, units_atick, count_zonal, zonal_with_count, set_limiter}
+use Rattle.model.specs.Step.{load, emission, withdrawal, zonal, long_zonal, meridional, remap, total, cell, add_emitter, remove_emitter, tick, units_a_tick, count_zonal, zonal_with_count, set_limiter}
 use Rattle.model.proofs.Cases.{Case, Hold, hold, computes}
 use Rattle.model.proofs.Cases.Marked.{grid, four, six, refuses, hundreds}
 use Rattle.model.proofs.Cases.Books.{held, plain, lent, leaves, reads}
@@ -94,7 +94,7 @@ further_book_cases =
     refuses "y8-17 add emitter 2" (lent (grid 4 1 1 2) hundreds (six 0 10 20 30 40 0 ++ six 5 7 11 13 17 19) (held (1 ∷ 3 ∷ 0 ∷ 7 ∷ 1 ∷ 3 ∷ []) (1 ∷ 0 ∷ 0 ∷ 0 ∷ 0 ∷ []) 60 50 10 ++ plain 41 50 18)) (add_emitter 0 3 8 1) 22 ∷
     refuses "y8-17 remove emitter" (lent (grid 4 1 1 2) hundreds (six 0 10 20 30 40 0 ++ six 5 7 11 13 17 19) (held (1 ∷ 3 ∷ 0 ∷ 7 ∷ 1 ∷ 3 ∷ []) (1 ∷ 0 ∷ 0 ∷ 0 ∷ 0 ∷ []) 60 50 10 ++ plain 41 50 18)) (remove_emitter 0 7) 22 ∷
     refuses "y8-17 tick" (lent (grid 4 1 1 2) hundreds (six 0 10 20 30 40 0 ++ six 5 7 11 13 17 19) (held (1 ∷ 3 ∷ 0 ∷ 7 ∷ 1 ∷ 3 ∷ []) (1 ∷ 0 ∷ 0 ∷ 0 ∷ 0 ∷ []) 60 50 10 ++ plain 41 50 18)) (tick 0) 22 ∷
-    refuses "y8-17 units a tick" (lent (grid 4 1 1 2) hundreds (six 0 10 20 30 40 0 ++ six 5 7 11 13 17 19) (held (1 ∷ 3 ∷ 0 ∷ 7 ∷ 1 ∷ 3 ∷ []) (1 ∷ 0 ∷ 0 ∷ 0 ∷ 0 ∷ []) 60 50 10 ++ plain 41 50 18)) (units_atick 0) 22 ∷
+    refuses "y8-17 units a tick" (lent (grid 4 1 1 2) hundreds (six 0 10 20 30 40 0 ++ six 5 7 11 13 17 19) (held (1 ∷ 3 ∷ 0 ∷ 7 ∷ 1 ∷ 3 ∷ []) (1 ∷ 0 ∷ 0 ∷ 0 ∷ 0 ∷ []) 60 50 10 ++ plain 41 50 18)) (units_a_tick 0) 22 ∷
     refuses "y8-17 set limiter" (lent (grid 4 1 1 2) hundreds (six 0 10 20 30 40 0 ++ six 5 7 11 13 17 19) (held (1 ∷ 3 ∷ 0 ∷ 7 ∷ 1 ∷ 3 ∷ []) (1 ∷ 0 ∷ 0 ∷ 0 ∷ 0 ∷ []) 60 50 10 ++ plain 41 50 18)) (set_limiter 0 2 0 0) 22 ∷
     -- y8-23: 22 in every call but a load: an amount one up in tracer 1 of 2, which no call names
     leaves "y8-23 add emitter" (lent (grid 4 1 1 2) hundreds (six 0 10 20 30 40 0 ++ six 5 7 11 13 17 20) (plain 100 0 0 ++ plain 73 0 0)) (add_emitter 0 1 7 3) 0 (lent (grid 4 1 1 2) hundreds (six 0 10 20 30 40 0 ++ six 5 7 11 13 17 20) (held (1 ∷ 3 ∷ 0 ∷ 7 ∷ 1 ∷ 3 ∷ []) (1 ∷ 0 ∷ 0 ∷ 0 ∷ 0 ∷ []) 100 0 0 ++ plain 73 0 0)) ∷
@@ -111,7 +111,7 @@ further_book_cases =
     refuses "y8-23 add emitter 2" (lent (grid 4 1 1 2) hundreds (six 0 10 20 30 40 0 ++ six 5 7 11 13 17 20) (held (1 ∷ 3 ∷ 0 ∷ 7 ∷ 1 ∷ 3 ∷ []) (1 ∷ 0 ∷ 0 ∷ 0 ∷ 0 ∷ []) 60 50 10 ++ plain 40 50 18)) (add_emitter 0 3 8 1) 22 ∷
     refuses "y8-23 remove emitter" (lent (grid 4 1 1 2) hundreds (six 0 10 20 30 40 0 ++ six 5 7 11 13 17 20) (held (1 ∷ 3 ∷ 0 ∷ 7 ∷ 1 ∷ 3 ∷ []) (1 ∷ 0 ∷ 0 ∷ 0 ∷ 0 ∷ []) 60 50 10 ++ plain 40 50 18)) (remove_emitter 0 7) 22 ∷
     refuses "y8-23 tick" (lent (grid 4 1 1 2) hundreds (six 0 10 20 30 40 0 ++ six 5 7 11 13 17 20) (held (1 ∷ 3 ∷ 0 ∷ 7 ∷ 1 ∷ 3 ∷ []) (1 ∷ 0 ∷ 0 ∷ 0 ∷ 0 ∷ []) 60 50 10 ++ plain 40 50 18)) (tick 0) 22 ∷
-    refuses "y8-23 units a tick" (lent (grid 4 1 1 2) hundreds (six 0 10 20 30 40 0 ++ six 5 7 11 13 17 20) (held (1 ∷ 3 ∷ 0 ∷ 7 ∷ 1 ∷ 3 ∷ []) (1 ∷ 0 ∷ 0 ∷ 0 ∷ 0 ∷ []) 60 50 10 ++ plain 40 50 18)) (units_atick 0) 22 ∷
+    refuses "y8-23 units a tick" (lent (grid 4 1 1 2) hundreds (six 0 10 20 30 40 0 ++ six 5 7 11 13 17 20) (held (1 ∷ 3 ∷ 0 ∷ 7 ∷ 1 ∷ 3 ∷ []) (1 ∷ 0 ∷ 0 ∷ 0 ∷ 0 ∷ []) 60 50 10 ++ plain 40 50 18)) (units_a_tick 0) 22 ∷
     refuses "y8-23 set limiter" (lent (grid 4 1 1 2) hundreds (six 0 10 20 30 40 0 ++ six 5 7 11 13 17 20) (held (1 ∷ 3 ∷ 0 ∷ 7 ∷ 1 ∷ 3 ∷ []) (1 ∷ 0 ∷ 0 ∷ 0 ∷ 0 ∷ []) 60 50 10 ++ plain 40 50 18)) (set_limiter 0 2 0 0) 22 ∷
     -- y8-31: 22 in every call but a load: loaded one up in tracer 0, and tracer 1 is named
     leaves "y8-31 add emitter" (lent (grid 4 1 1 2) hundreds (six 0 10 20 30 40 0 ++ six 5 7 11 13 17 19) (plain 60 50 10 ++ plain 40 50 18)) (add_emitter 1 1 7 3) 0 (lent (grid 4 1 1 2) hundreds (six 0 10 20 30 40 0 ++ six 5 7 11 13 17 19) (plain 60 50 10 ++ held (1 ∷ 3 ∷ 0 ∷ 7 ∷ 1 ∷ 3 ∷ []) (1 ∷ 0 ∷ 0 ∷ 0 ∷ 0 ∷ []) 40 50 18)) ∷
@@ -128,7 +128,7 @@ further_book_cases =
     refuses "y8-31 add emitter 2" (lent (grid 4 1 1 2) hundreds (six 0 10 20 30 40 0 ++ six 5 7 11 13 17 19) (plain 61 50 10 ++ held (1 ∷ 3 ∷ 0 ∷ 7 ∷ 1 ∷ 3 ∷ []) (1 ∷ 0 ∷ 0 ∷ 0 ∷ 0 ∷ []) 40 50 18)) (add_emitter 1 3 8 1) 22 ∷
     refuses "y8-31 remove emitter" (lent (grid 4 1 1 2) hundreds (six 0 10 20 30 40 0 ++ six 5 7 11 13 17 19) (plain 61 50 10 ++ held (1 ∷ 3 ∷ 0 ∷ 7 ∷ 1 ∷ 3 ∷ []) (1 ∷ 0 ∷ 0 ∷ 0 ∷ 0 ∷ []) 40 50 18)) (remove_emitter 1 7) 22 ∷
     refuses "y8-31 tick" (lent (grid 4 1 1 2) hundreds (six 0 10 20 30 40 0 ++ six 5 7 11 13 17 19) (plain 61 50 10 ++ held (1 ∷ 3 ∷ 0 ∷ 7 ∷ 1 ∷ 3 ∷ []) (1 ∷ 0 ∷ 0 ∷ 0 ∷ 0 ∷ []) 40 50 18)) (tick 1) 22 ∷
-    refuses "y8-31 units a tick" (lent (grid 4 1 1 2) hundreds (six 0 10 20 30 40 0 ++ six 5 7 11 13 17 19) (plain 61 50 10 ++ held (1 ∷ 3 ∷ 0 ∷ 7 ∷ 1 ∷ 3 ∷ []) (1 ∷ 0 ∷ 0 ∷ 0 ∷ 0 ∷ []) 40 50 18)) (units_atick 1) 22 ∷
+    refuses "y8-31 units a tick" (lent (grid 4 1 1 2) hundreds (six 0 10 20 30 40 0 ++ six 5 7 11 13 17 19) (plain 61 50 10 ++ held (1 ∷ 3 ∷ 0 ∷ 7 ∷ 1 ∷ 3 ∷ []) (1 ∷ 0 ∷ 0 ∷ 0 ∷ 0 ∷ []) 40 50 18)) (units_a_tick 1) 22 ∷
     refuses "y8-31 set limiter" (lent (grid 4 1 1 2) hundreds (six 0 10 20 30 40 0 ++ six 5 7 11 13 17 19) (plain 61 50 10 ++ held (1 ∷ 3 ∷ 0 ∷ 7 ∷ 1 ∷ 3 ∷ []) (1 ∷ 0 ∷ 0 ∷ 0 ∷ 0 ∷ []) 40 50 18)) (set_limiter 1 2 0 0) 22 ∷
     -- y8-35: 21 before 22 in the sweeps, the count call and the remap, and no 21 in the other calls: a broken limiter of tracer 0, broken books of tracer 1
     refuses "y8-35 emission" (lent (grid 4 1 1 2) hundreds (six 0 10 20 30 40 0 ++ six 5 7 11 13 17 19) (held (1 ∷ 3 ∷ 0 ∷ 7 ∷ 1 ∷ 3 ∷ []) (3 ∷ 2 ∷ 0 ∷ 1 ∷ 0 ∷ []) 60 50 10 ++ plain 40 50 17)) (emission 0 2 5) 22 ∷
@@ -142,7 +142,7 @@ further_book_cases =
     refuses "y8-35 add emitter" (lent (grid 4 1 1 2) hundreds (six 0 10 20 30 40 0 ++ six 5 7 11 13 17 19) (held (1 ∷ 3 ∷ 0 ∷ 7 ∷ 1 ∷ 3 ∷ []) (3 ∷ 2 ∷ 0 ∷ 1 ∷ 0 ∷ []) 60 50 10 ++ plain 40 50 17)) (add_emitter 0 3 8 1) 22 ∷
     refuses "y8-35 remove emitter" (lent (grid 4 1 1 2) hundreds (six 0 10 20 30 40 0 ++ six 5 7 11 13 17 19) (held (1 ∷ 3 ∷ 0 ∷ 7 ∷ 1 ∷ 3 ∷ []) (3 ∷ 2 ∷ 0 ∷ 1 ∷ 0 ∷ []) 60 50 10 ++ plain 40 50 17)) (remove_emitter 0 7) 22 ∷
     refuses "y8-35 tick" (lent (grid 4 1 1 2) hundreds (six 0 10 20 30 40 0 ++ six 5 7 11 13 17 19) (held (1 ∷ 3 ∷ 0 ∷ 7 ∷ 1 ∷ 3 ∷ []) (3 ∷ 2 ∷ 0 ∷ 1 ∷ 0 ∷ []) 60 50 10 ++ plain 40 50 17)) (tick 0) 22 ∷
-    refuses "y8-35 units a tick" (lent (grid 4 1 1 2) hundreds (six 0 10 20 30 40 0 ++ six 5 7 11 13 17 19) (held (1 ∷ 3 ∷ 0 ∷ 7 ∷ 1 ∷ 3 ∷ []) (3 ∷ 2 ∷ 0 ∷ 1 ∷ 0 ∷ []) 60 50 10 ++ plain 40 50 17)) (units_atick 0) 22 ∷
+    refuses "y8-35 units a tick" (lent (grid 4 1 1 2) hundreds (six 0 10 20 30 40 0 ++ six 5 7 11 13 17 19) (held (1 ∷ 3 ∷ 0 ∷ 7 ∷ 1 ∷ 3 ∷ []) (3 ∷ 2 ∷ 0 ∷ 1 ∷ 0 ∷ []) 60 50 10 ++ plain 40 50 17)) (units_a_tick 0) 22 ∷
     -- y8-36: 21 before 22 with the faults the other way round: a broken limiter of tracer 1, broken books of tracer 0
     refuses "y8-36 emission" (lent (grid 4 1 1 2) hundreds (six 0 10 20 30 40 0 ++ six 5 7 11 13 17 19) (held (1 ∷ 3 ∷ 0 ∷ 7 ∷ 1 ∷ 3 ∷ []) (1 ∷ 0 ∷ 0 ∷ 0 ∷ 0 ∷ []) 60 50 9 ++ held [] (3 ∷ 2 ∷ 0 ∷ 1 ∷ 0 ∷ []) 40 50 18)) (emission 0 2 5) 22 ∷
     refuses "y8-36 withdrawal" (lent (grid 4 1 1 2) hundreds (six 0 10 20 30 40 0 ++ six 5 7 11 13 17 19) (held (1 ∷ 3 ∷ 0 ∷ 7 ∷ 1 ∷ 3 ∷ []) (1 ∷ 0 ∷ 0 ∷ 0 ∷ 0 ∷ []) 60 50 9 ++ held [] (3 ∷ 2 ∷ 0 ∷ 1 ∷ 0 ∷ []) 40 50 18)) (withdrawal 0 2 5) 22 ∷
@@ -157,7 +157,7 @@ further_book_cases =
     refuses "y8-36 add emitter" (lent (grid 4 1 1 2) hundreds (six 0 10 20 30 40 0 ++ six 5 7 11 13 17 19) (held (1 ∷ 3 ∷ 0 ∷ 7 ∷ 1 ∷ 3 ∷ []) (1 ∷ 0 ∷ 0 ∷ 0 ∷ 0 ∷ []) 60 50 9 ++ held [] (3 ∷ 2 ∷ 0 ∷ 1 ∷ 0 ∷ []) 40 50 18)) (add_emitter 0 3 8 1) 22 ∷
     refuses "y8-36 remove emitter" (lent (grid 4 1 1 2) hundreds (six 0 10 20 30 40 0 ++ six 5 7 11 13 17 19) (held (1 ∷ 3 ∷ 0 ∷ 7 ∷ 1 ∷ 3 ∷ []) (1 ∷ 0 ∷ 0 ∷ 0 ∷ 0 ∷ []) 60 50 9 ++ held [] (3 ∷ 2 ∷ 0 ∷ 1 ∷ 0 ∷ []) 40 50 18)) (remove_emitter 0 7) 22 ∷
     refuses "y8-36 tick" (lent (grid 4 1 1 2) hundreds (six 0 10 20 30 40 0 ++ six 5 7 11 13 17 19) (held (1 ∷ 3 ∷ 0 ∷ 7 ∷ 1 ∷ 3 ∷ []) (1 ∷ 0 ∷ 0 ∷ 0 ∷ 0 ∷ []) 60 50 9 ++ held [] (3 ∷ 2 ∷ 0 ∷ 1 ∷ 0 ∷ []) 40 50 18)) (tick 0) 22 ∷
-    refuses "y8-36 units a tick" (lent (grid 4 1 1 2) hundreds (six 0 10 20 30 40 0 ++ six 5 7 11 13 17 19) (held (1 ∷ 3 ∷ 0 ∷ 7 ∷ 1 ∷ 3 ∷ []) (1 ∷ 0 ∷ 0 ∷ 0 ∷ 0 ∷ []) 60 50 9 ++ held [] (3 ∷ 2 ∷ 0 ∷ 1 ∷ 0 ∷ []) 40 50 18)) (units_atick 0) 22 ∷
+    refuses "y8-36 units a tick" (lent (grid 4 1 1 2) hundreds (six 0 10 20 30 40 0 ++ six 5 7 11 13 17 19) (held (1 ∷ 3 ∷ 0 ∷ 7 ∷ 1 ∷ 3 ∷ []) (1 ∷ 0 ∷ 0 ∷ 0 ∷ 0 ∷ []) 60 50 9 ++ held [] (3 ∷ 2 ∷ 0 ∷ 1 ∷ 0 ∷ []) 40 50 18)) (units_a_tick 0) 22 ∷
     refuses "y8-36 set limiter" (lent (grid 4 1 1 2) hundreds (six 0 10 20 30 40 0 ++ six 5 7 11 13 17 19) (held (1 ∷ 3 ∷ 0 ∷ 7 ∷ 1 ∷ 3 ∷ []) (1 ∷ 0 ∷ 0 ∷ 0 ∷ 0 ∷ []) 60 50 9 ++ held [] (3 ∷ 2 ∷ 0 ∷ 1 ∷ 0 ∷ []) 40 50 18)) (set_limiter 0 2 0 0) 22 ∷
     -- y8-38: 22 before 5 in every call with an index; after the books are mended 5
     refuses "y8-38 withdrawal" (lent (grid 4 1 1 2) hundreds (six 0 10 20 30 40 0 ++ six 5 7 11 13 17 19) (plain 100 0 0 ++ plain 71 0 0)) (withdrawal 2 0 0) 22 ∷
@@ -177,7 +177,7 @@ further_book_cases =
     refuses "y8-38 add emitter 2" (lent (grid 4 1 1 2) hundreds (six 0 10 20 30 40 0 ++ six 5 7 11 13 17 19) (plain 100 0 0 ++ plain 71 0 0)) (add_emitter 0 6 8 1) 22 ∷
     refuses "y8-38 remove emitter" (lent (grid 4 1 1 2) hundreds (six 0 10 20 30 40 0 ++ six 5 7 11 13 17 19) (plain 100 0 0 ++ plain 71 0 0)) (remove_emitter 2 7) 22 ∷
     refuses "y8-38 tick" (lent (grid 4 1 1 2) hundreds (six 0 10 20 30 40 0 ++ six 5 7 11 13 17 19) (plain 100 0 0 ++ plain 71 0 0)) (tick 2) 22 ∷
-    refuses "y8-38 units a tick" (lent (grid 4 1 1 2) hundreds (six 0 10 20 30 40 0 ++ six 5 7 11 13 17 19) (plain 100 0 0 ++ plain 71 0 0)) (units_atick 2) 22 ∷
+    refuses "y8-38 units a tick" (lent (grid 4 1 1 2) hundreds (six 0 10 20 30 40 0 ++ six 5 7 11 13 17 19) (plain 100 0 0 ++ plain 71 0 0)) (units_a_tick 2) 22 ∷
     refuses "y8-38 set limiter" (lent (grid 4 1 1 2) hundreds (six 0 10 20 30 40 0 ++ six 5 7 11 13 17 19) (plain 100 0 0 ++ plain 71 0 0)) (set_limiter 2 2 0 0) 22 ∷
     refuses "y8-38 withdrawal 3" (lent (grid 4 1 1 2) hundreds (six 0 10 20 30 40 0 ++ six 5 7 11 13 17 19) (plain 100 0 0 ++ plain 72 0 0)) (withdrawal 2 0 0) 5 ∷
     refuses "y8-38 withdrawal 4" (lent (grid 4 1 1 2) hundreds (six 0 10 20 30 40 0 ++ six 5 7 11 13 17 19) (plain 100 0 0 ++ plain 72 0 0)) (withdrawal 0 6 0) 5 ∷
@@ -196,17 +196,17 @@ further_book_cases =
     refuses "y8-38 add emitter 4" (lent (grid 4 1 1 2) hundreds (six 0 10 20 30 40 0 ++ six 5 7 11 13 17 19) (plain 100 0 0 ++ plain 72 0 0)) (add_emitter 0 6 8 1) 5 ∷
     refuses "y8-38 remove emitter 2" (lent (grid 4 1 1 2) hundreds (six 0 10 20 30 40 0 ++ six 5 7 11 13 17 19) (plain 100 0 0 ++ plain 72 0 0)) (remove_emitter 2 7) 5 ∷
     refuses "y8-38 tick 2" (lent (grid 4 1 1 2) hundreds (six 0 10 20 30 40 0 ++ six 5 7 11 13 17 19) (plain 100 0 0 ++ plain 72 0 0)) (tick 2) 5 ∷
-    refuses "y8-38 units a tick 2" (lent (grid 4 1 1 2) hundreds (six 0 10 20 30 40 0 ++ six 5 7 11 13 17 19) (plain 100 0 0 ++ plain 72 0 0)) (units_atick 2) 5 ∷
+    refuses "y8-38 units a tick 2" (lent (grid 4 1 1 2) hundreds (six 0 10 20 30 40 0 ++ six 5 7 11 13 17 19) (plain 100 0 0 ++ plain 72 0 0)) (units_a_tick 2) 5 ∷
     refuses "y8-38 set limiter 2" (lent (grid 4 1 1 2) hundreds (six 0 10 20 30 40 0 ++ six 5 7 11 13 17 19) (plain 100 0 0 ++ plain 72 0 0)) (set_limiter 2 2 0 0) 5 ∷
     -- y8-39: 22 before 5 for emitters that are not true, 17 of them, in the calls that test them; after the books are mended 5
     refuses "y8-39 add emitter" (lent (grid 4 1 1 2) hundreds (six 0 10 20 30 40 0 ++ six 5 7 11 13 17 19) (plain 100 0 0 ++ held (17 ∷ 1 ∷ 1 ∷ []) (1 ∷ 0 ∷ 0 ∷ 0 ∷ 0 ∷ []) 71 0 0)) (add_emitter 0 1 7 3) 22 ∷
     refuses "y8-39 remove emitter" (lent (grid 4 1 1 2) hundreds (six 0 10 20 30 40 0 ++ six 5 7 11 13 17 19) (plain 100 0 0 ++ held (17 ∷ 1 ∷ 1 ∷ []) (1 ∷ 0 ∷ 0 ∷ 0 ∷ 0 ∷ []) 71 0 0)) (remove_emitter 0 7) 22 ∷
     refuses "y8-39 tick" (lent (grid 4 1 1 2) hundreds (six 0 10 20 30 40 0 ++ six 5 7 11 13 17 19) (plain 100 0 0 ++ held (17 ∷ 1 ∷ 1 ∷ []) (1 ∷ 0 ∷ 0 ∷ 0 ∷ 0 ∷ []) 71 0 0)) (tick 0) 22 ∷
-    refuses "y8-39 units a tick" (lent (grid 4 1 1 2) hundreds (six 0 10 20 30 40 0 ++ six 5 7 11 13 17 19) (plain 100 0 0 ++ held (17 ∷ 1 ∷ 1 ∷ []) (1 ∷ 0 ∷ 0 ∷ 0 ∷ 0 ∷ []) 71 0 0)) (units_atick 0) 22 ∷
+    refuses "y8-39 units a tick" (lent (grid 4 1 1 2) hundreds (six 0 10 20 30 40 0 ++ six 5 7 11 13 17 19) (plain 100 0 0 ++ held (17 ∷ 1 ∷ 1 ∷ []) (1 ∷ 0 ∷ 0 ∷ 0 ∷ 0 ∷ []) 71 0 0)) (units_a_tick 0) 22 ∷
     refuses "y8-39 add emitter 2" (lent (grid 4 1 1 2) hundreds (six 0 10 20 30 40 0 ++ six 5 7 11 13 17 19) (plain 100 0 0 ++ held (17 ∷ 1 ∷ 1 ∷ []) (1 ∷ 0 ∷ 0 ∷ 0 ∷ 0 ∷ []) 72 0 0)) (add_emitter 0 1 7 3) 5 ∷
     refuses "y8-39 remove emitter 2" (lent (grid 4 1 1 2) hundreds (six 0 10 20 30 40 0 ++ six 5 7 11 13 17 19) (plain 100 0 0 ++ held (17 ∷ 1 ∷ 1 ∷ []) (1 ∷ 0 ∷ 0 ∷ 0 ∷ 0 ∷ []) 72 0 0)) (remove_emitter 0 7) 5 ∷
     refuses "y8-39 tick 2" (lent (grid 4 1 1 2) hundreds (six 0 10 20 30 40 0 ++ six 5 7 11 13 17 19) (plain 100 0 0 ++ held (17 ∷ 1 ∷ 1 ∷ []) (1 ∷ 0 ∷ 0 ∷ 0 ∷ 0 ∷ []) 72 0 0)) (tick 0) 5 ∷
-    refuses "y8-39 units a tick 2" (lent (grid 4 1 1 2) hundreds (six 0 10 20 30 40 0 ++ six 5 7 11 13 17 19) (plain 100 0 0 ++ held (17 ∷ 1 ∷ 1 ∷ []) (1 ∷ 0 ∷ 0 ∷ 0 ∷ 0 ∷ []) 72 0 0)) (units_atick 0) 5 ∷
+    refuses "y8-39 units a tick 2" (lent (grid 4 1 1 2) hundreds (six 0 10 20 30 40 0 ++ six 5 7 11 13 17 19) (plain 100 0 0 ++ held (17 ∷ 1 ∷ 1 ∷ []) (1 ∷ 0 ∷ 0 ∷ 0 ∷ 0 ∷ []) 72 0 0)) (units_a_tick 0) 5 ∷
     leaves "y8-39 set limiter" (lent (grid 4 1 1 2) hundreds (six 0 10 20 30 40 0 ++ six 5 7 11 13 17 19) (plain 100 0 0 ++ held (17 ∷ 1 ∷ 1 ∷ []) (1 ∷ 0 ∷ 0 ∷ 0 ∷ 0 ∷ []) 72 0 0)) (set_limiter 0 2 0 0) 0 (lent (grid 4 1 1 2) hundreds (six 0 10 20 30 40 0 ++ six 5 7 11 13 17 19) (held [] (2 ∷ 0 ∷ 0 ∷ 0 ∷ 0 ∷ []) 100 0 0 ++ held (17 ∷ 1 ∷ 1 ∷ []) (1 ∷ 0 ∷ 0 ∷ 0 ∷ 0 ∷ []) 72 0 0)) ∷
     reads "y8-39 total" (lent (grid 4 1 1 2) hundreds (six 0 10 20 30 40 0 ++ six 5 7 11 13 17 19) (held [] (2 ∷ 0 ∷ 0 ∷ 0 ∷ 0 ∷ []) 100 0 0 ++ held (17 ∷ 1 ∷ 1 ∷ []) (1 ∷ 0 ∷ 0 ∷ 0 ∷ 0 ∷ []) 72 0 0)) (total 0) 100 ∷
     -- y8-40: 22 before 6, 7, 8, 9, 16, 17, 20, 10, 11, 18, 19 and the given limiter's 21; after the books are mended these
@@ -266,7 +266,7 @@ further_book_cases =
     refuses "y8-43 add emitter 2" (lent (grid 4 1 1 2) (six 100 100 100 100 100 0) (six 0 10 20 30 40 0 ++ six 5 7 11 13 17 19) (held (1 ∷ 3 ∷ 0 ∷ 7 ∷ 1 ∷ 3 ∷ []) (1 ∷ 0 ∷ 0 ∷ 0 ∷ 0 ∷ []) 100 0 0 ++ plain 71 0 0)) (add_emitter 0 3 8 1) 3 ∷
     refuses "y8-43 remove emitter" (lent (grid 4 1 1 2) (six 100 100 100 100 100 0) (six 0 10 20 30 40 0 ++ six 5 7 11 13 17 19) (held (1 ∷ 3 ∷ 0 ∷ 7 ∷ 1 ∷ 3 ∷ []) (1 ∷ 0 ∷ 0 ∷ 0 ∷ 0 ∷ []) 100 0 0 ++ plain 71 0 0)) (remove_emitter 0 7) 3 ∷
     refuses "y8-43 tick" (lent (grid 4 1 1 2) (six 100 100 100 100 100 0) (six 0 10 20 30 40 0 ++ six 5 7 11 13 17 19) (held (1 ∷ 3 ∷ 0 ∷ 7 ∷ 1 ∷ 3 ∷ []) (1 ∷ 0 ∷ 0 ∷ 0 ∷ 0 ∷ []) 100 0 0 ++ plain 71 0 0)) (tick 0) 3 ∷
-    refuses "y8-43 units a tick" (lent (grid 4 1 1 2) (six 100 100 100 100 100 0) (six 0 10 20 30 40 0 ++ six 5 7 11 13 17 19) (held (1 ∷ 3 ∷ 0 ∷ 7 ∷ 1 ∷ 3 ∷ []) (1 ∷ 0 ∷ 0 ∷ 0 ∷ 0 ∷ []) 100 0 0 ++ plain 71 0 0)) (units_atick 0) 3 ∷
+    refuses "y8-43 units a tick" (lent (grid 4 1 1 2) (six 100 100 100 100 100 0) (six 0 10 20 30 40 0 ++ six 5 7 11 13 17 19) (held (1 ∷ 3 ∷ 0 ∷ 7 ∷ 1 ∷ 3 ∷ []) (1 ∷ 0 ∷ 0 ∷ 0 ∷ 0 ∷ []) 100 0 0 ++ plain 71 0 0)) (units_a_tick 0) 3 ∷
     refuses "y8-43 set limiter" (lent (grid 4 1 1 2) (six 100 100 100 100 100 0) (six 0 10 20 30 40 0 ++ six 5 7 11 13 17 19) (held (1 ∷ 3 ∷ 0 ∷ 7 ∷ 1 ∷ 3 ∷ []) (1 ∷ 0 ∷ 0 ∷ 0 ∷ 0 ∷ []) 100 0 0 ++ plain 71 0 0)) (set_limiter 0 2 0 0) 3 ∷
     refuses "y8-43 total 2" (lent (grid 4 1 1 2) (six 65536 100 100 100 100 100) (six 0 10 20 30 40 0 ++ six 5 7 11 13 17 19) (held (1 ∷ 3 ∷ 0 ∷ 7 ∷ 1 ∷ 3 ∷ []) (1 ∷ 0 ∷ 0 ∷ 0 ∷ 0 ∷ []) 100 0 0 ++ plain 71 0 0)) (total 0) 3 ∷
     refuses "y8-43 total 3" (lent (grid 4 1 1 2) hundreds (six 0 10 20 30 40 0 ++ six 5 7 11 13 17 19) (held (1 ∷ 3 ∷ 0 ∷ 7 ∷ 1 ∷ 3 ∷ []) (1 ∷ 0 ∷ 0 ∷ 0 ∷ 0 ∷ []) 100 0 0 ++ plain 71 0 0)) (total 0) 22 ∷
@@ -284,7 +284,7 @@ further_book_cases =
     refuses "y8-44 add emitter" (lent (grid 4 1 1 2) hundreds (six 0 10 20 30 40 0 ++ six 5 7 11 13 17 268435403) (plain 100 0 0 ++ plain 72 0 0)) (add_emitter 0 3 8 1) 4 ∷
     refuses "y8-44 remove emitter" (lent (grid 4 1 1 2) hundreds (six 0 10 20 30 40 0 ++ six 5 7 11 13 17 268435403) (plain 100 0 0 ++ plain 72 0 0)) (remove_emitter 0 7) 4 ∷
     refuses "y8-44 tick" (lent (grid 4 1 1 2) hundreds (six 0 10 20 30 40 0 ++ six 5 7 11 13 17 268435403) (plain 100 0 0 ++ plain 72 0 0)) (tick 0) 4 ∷
-    refuses "y8-44 units a tick" (lent (grid 4 1 1 2) hundreds (six 0 10 20 30 40 0 ++ six 5 7 11 13 17 268435403) (plain 100 0 0 ++ plain 72 0 0)) (units_atick 0) 4 ∷
+    refuses "y8-44 units a tick" (lent (grid 4 1 1 2) hundreds (six 0 10 20 30 40 0 ++ six 5 7 11 13 17 268435403) (plain 100 0 0 ++ plain 72 0 0)) (units_a_tick 0) 4 ∷
     refuses "y8-44 set limiter" (lent (grid 4 1 1 2) hundreds (six 0 10 20 30 40 0 ++ six 5 7 11 13 17 268435403) (plain 100 0 0 ++ plain 72 0 0)) (set_limiter 0 2 0 0) 4 ∷
     refuses "y8-44 total 2" (lent (grid 4 1 1 2) hundreds (six 0 10 20 30 40 0 ++ six 5 7 11 13 17 268435403) (plain 100 0 0 ++ plain 268435456 0 0)) (total 0) 4 ∷
     refuses "y8-44 tick 2" (lent (grid 4 1 1 2) hundreds (six 0 10 20 30 40 0 ++ six 5 7 11 13 17 268435403) (plain 100 0 0 ++ plain 268435456 0 0)) (tick 0) 4 ∷
@@ -385,7 +385,7 @@ further_book_cases =
     reads "y8-66 tick 2" (lent (grid 4 1 1 1) hundreds (six 0 10 20 30 40 0) (held (1 ∷ 0 ∷ 0 ∷ 7 ∷ 1 ∷ []) (1 ∷ 0 ∷ 0 ∷ 0 ∷ 0 ∷ []) 100 4294967295 4294967295)) (tick 0) 0 ∷
     leaves "y8-66 add emitter 2" (lent (grid 4 1 1 1) hundreds (six 0 10 20 30 40 0) (held (1 ∷ 0 ∷ 0 ∷ 7 ∷ 1 ∷ []) (1 ∷ 0 ∷ 0 ∷ 0 ∷ 0 ∷ []) 100 4294967295 4294967295)) (add_emitter 0 1 8 1) 0 (lent (grid 4 1 1 1) hundreds (six 0 10 20 30 40 0) (held (2 ∷ 1 ∷ 0 ∷ 7 ∷ 1 ∷ 0 ∷ 8 ∷ 1 ∷ 1 ∷ []) (1 ∷ 0 ∷ 0 ∷ 0 ∷ 0 ∷ []) 100 4294967295 4294967295)) ∷
     refuses "y8-66 tick 3" (lent (grid 4 1 1 1) hundreds (six 0 10 20 30 40 0) (held (2 ∷ 1 ∷ 0 ∷ 7 ∷ 1 ∷ 0 ∷ 8 ∷ 1 ∷ 1 ∷ []) (1 ∷ 0 ∷ 0 ∷ 0 ∷ 0 ∷ []) 100 4294967295 4294967295)) (tick 0) 6 ∷
-    reads "y8-66 units a tick" (lent (grid 4 1 1 1) hundreds (six 0 10 20 30 40 0) (held (2 ∷ 1 ∷ 0 ∷ 7 ∷ 1 ∷ 0 ∷ 8 ∷ 1 ∷ 1 ∷ []) (1 ∷ 0 ∷ 0 ∷ 0 ∷ 0 ∷ []) 100 4294967295 4294967295)) (units_atick 0) 1 ∷
+    reads "y8-66 units a tick" (lent (grid 4 1 1 1) hundreds (six 0 10 20 30 40 0) (held (2 ∷ 1 ∷ 0 ∷ 7 ∷ 1 ∷ 0 ∷ 8 ∷ 1 ∷ 1 ∷ []) (1 ∷ 0 ∷ 0 ∷ 0 ∷ 0 ∷ []) 100 4294967295 4294967295)) (units_a_tick 0) 1 ∷
     -- y8-69: a short list, with the ledger after each call
     reads "y8-69 load" (lent (grid 4 1 1 2) hundreds (six 0 10 20 30 40 0 ++ six 5 7 11 13 17 19) (plain 100 0 0 ++ plain 72 0 0)) load 0 ∷
     leaves "y8-69 emission" (lent (grid 4 1 1 2) hundreds (six 0 10 20 30 40 0 ++ six 5 7 11 13 17 19) (plain 100 0 0 ++ plain 72 0 0)) (emission 0 2 5) 0 (lent (grid 4 1 1 2) hundreds (six 0 10 25 30 40 0 ++ six 5 7 11 13 17 19) (plain 100 5 0 ++ plain 72 0 0)) ∷
@@ -423,7 +423,7 @@ further_book_cases =
     leaves "y8-73 set limiter" (lent (grid 4 1 1 2) hundreds (six 0 10 20 30 40 0 ++ six 5 7 11 13 17 19) (plain 60 50 10 ++ plain 40 50 18)) (set_limiter 1 3 4294967301 38654705670) 0 (lent (grid 4 1 1 2) hundreds (six 0 10 20 30 40 0 ++ six 5 7 11 13 17 19) (plain 60 50 10 ++ held [] (3 ∷ 5 ∷ 1 ∷ 6 ∷ 9 ∷ []) 40 50 18)) ∷
     reads "y8-73 total" (lent (grid 4 1 1 2) hundreds (six 0 10 20 30 40 0 ++ six 5 7 11 13 17 19) (plain 60 50 10 ++ held [] (3 ∷ 5 ∷ 1 ∷ 6 ∷ 9 ∷ []) 40 50 18)) (total 1) 72 ∷
     reads "y8-73 cell" (lent (grid 4 1 1 2) hundreds (six 0 10 20 30 40 0 ++ six 5 7 11 13 17 19) (plain 60 50 10 ++ held [] (3 ∷ 5 ∷ 1 ∷ 6 ∷ 9 ∷ []) 40 50 18)) (cell 1 2) 11 ∷
-    reads "y8-73 units a tick" (lent (grid 4 1 1 2) hundreds (six 0 10 20 30 40 0 ++ six 5 7 11 13 17 19) (plain 60 50 10 ++ held [] (3 ∷ 5 ∷ 1 ∷ 6 ∷ 9 ∷ []) 40 50 18)) (units_atick 1) 0 ∷
+    reads "y8-73 units a tick" (lent (grid 4 1 1 2) hundreds (six 0 10 20 30 40 0 ++ six 5 7 11 13 17 19) (plain 60 50 10 ++ held [] (3 ∷ 5 ∷ 1 ∷ 6 ∷ 9 ∷ []) 40 50 18)) (units_a_tick 1) 0 ∷
     -- y8-74: refused emissions, withdrawals and ticks book nothing: by 5, by 6 and 7, by a false record of emitters
     leaves "y8-74 add emitter" (lent (grid 4 1 1 2) hundreds (six 0 10 20 30 40 0 ++ six 5 7 11 13 17 19) (plain 60 50 10 ++ plain 40 50 18)) (add_emitter 0 1 7 268435356) 0 (lent (grid 4 1 1 2) hundreds (six 0 10 20 30 40 0 ++ six 5 7 11 13 17 19) (held (1 ∷ 268435356 ∷ 0 ∷ 7 ∷ 1 ∷ 268435356 ∷ []) (1 ∷ 0 ∷ 0 ∷ 0 ∷ 0 ∷ []) 60 50 10 ++ plain 40 50 18)) ∷
     refuses "y8-74 emission" (lent (grid 4 1 1 2) hundreds (six 0 10 20 30 40 0 ++ six 5 7 11 13 17 19) (held (1 ∷ 268435356 ∷ 0 ∷ 7 ∷ 1 ∷ 268435356 ∷ []) (1 ∷ 0 ∷ 0 ∷ 0 ∷ 0 ∷ []) 60 50 10 ++ plain 40 50 18)) (emission 2 0 5) 5 ∷

@@ -3,7 +3,7 @@
 #![tactic(auto)]
 
 ghost use Rattle.std.specs.Prelude.{◌≡◌};
-ghost use Rattle.model.specs.Step.{load, emission, withdrawal, zonal, long_zonal, meridional, remap, total, cell as cell_call, add_emitter, remove_emitter, tick, units_atick, count_zonal, zonal_with_count, set_limiter};
+ghost use Rattle.model.specs.Step.{load, emission, withdrawal, zonal, long_zonal, meridional, remap, total, cell as cell_call, add_emitter, remove_emitter, tick, units_a_tick, count_zonal, zonal_with_count, set_limiter};
 ghost use Rattle.boundary.specs.Returned.{packed_of, Returns, Answers, Counts, lent_world};
 
 use units::{Answer, Grid, count, number, wide_count, wide_number};
@@ -243,7 +243,7 @@ pub extern "C" fn puldeho_raw_units_a_tick(
     ledger: &[u32],
     tracer: u32,
 ) -> u32
-    ensures { Answers (lent_world w r k n air.now tracers.now ledger.now) (units_atick tracer) result (lent_world w r k n air.now tracers.now ledger.now) }
+    ensures { Answers (lent_world w r k n air.now tracers.now ledger.now) (units_a_tick tracer) result (lent_world w r k n air.now tracers.now ledger.now) }
 {
     let g = Grid { w, r, k, n };
     wide_number(emitters::units_a_tick(g, air, tracers, ledger, tracer))
@@ -260,7 +260,7 @@ pub extern "C" fn puldeho_raw_units_a_tick_number(
     ledger: &[u32],
     tracer: u32,
 ) -> u64
-    ensures { Counts (lent_world w r k n air.now tracers.now ledger.now) (units_atick tracer) result (lent_world w r k n air.now tracers.now ledger.now) }
+    ensures { Counts (lent_world w r k n air.now tracers.now ledger.now) (units_a_tick tracer) result (lent_world w r k n air.now tracers.now ledger.now) }
 {
     let g = Grid { w, r, k, n };
     wide_count(emitters::units_a_tick(g, air, tracers, ledger, tracer))

@@ -1,7 +1,7 @@
 -- The further cases y7-24 to y7-132 for document 02, Slip 7, as one table with one theorem about `step`: gases on different limiters, sizes, end layers, 21, what is written, orders. The rows under each limiter, and the cases that edits of the model break, are in the model (Cases/Limiters).
 -- Assumes nothing. Inputs, numbers and labels are the second implementation's (reference/cases/limiters.txt). It stands here and not in the model, whose edits would compute it anew each.
 use Rattle.std.specs.Prelude.{List, [], ◌∷◌, ◌++◌, refl, pos, replicate}
-use Rattle.model.specs.Step.{load, emission, zonal, long_zonal, meridional, remap, total, add_emitter, remove_emitter, tick, units_atick, count_zonal, zonal_with_count, set_limiter}
+use Rattle.model.specs.Step.{load, emission, zonal, long_zonal, meridional, remap, total, add_emitter, remove_emitter, tick, units_a_tick, count_zonal, zonal_with_count, set_limiter}
 use Rattle.model.proofs.Cases.{Case, Hold, hold, computes}
 use Rattle.model.proofs.Cases.Marked.{grid, four, six, refuses, hundreds}
 use Rattle.model.proofs.Cases.Limiters.{limiter, first, positive, fixed, most, blocks, times, row_a, row_b, wind, minus, lent, two, moves, writes, reads}
@@ -112,7 +112,7 @@ standing =
     reads "y7-90 total" (two first (limiter 4 9 3)) (total 1) 410 ∷
     moves "y7-90 emission" (two first (limiter 4 9 3)) (emission 1 2 5) 0 hundreds (row_a ++ six 0 300 15 100 0 0) ∷
     writes "y7-90 add emitter" (two first (limiter 4 9 3)) (add_emitter 1 3 7 20) (replicate 51 0 ++ (1 ∷ 0 ∷ 0 ∷ 0 ∷ 0 ∷ 1 ∷ 20 ∷ 0 ∷ 7 ∷ 3 ∷ 20 ∷ []) ++ replicate 45 0 ++ (4 ∷ 9 ∷ 0 ∷ 3 ∷ 0 ∷ [])) ∷
-    reads "y7-90 units a tick" (lent (grid 4 1 1 2) hundreds (row_a ++ row_b) (replicate 51 0 ++ (1 ∷ 0 ∷ 0 ∷ 0 ∷ 0 ∷ 1 ∷ 20 ∷ 0 ∷ 7 ∷ 3 ∷ 20 ∷ []) ++ replicate 45 0 ++ (4 ∷ 9 ∷ 0 ∷ 3 ∷ 0 ∷ []))) (units_atick 1) 20 ∷
+    reads "y7-90 units a tick" (lent (grid 4 1 1 2) hundreds (row_a ++ row_b) (replicate 51 0 ++ (1 ∷ 0 ∷ 0 ∷ 0 ∷ 0 ∷ 1 ∷ 20 ∷ 0 ∷ 7 ∷ 3 ∷ 20 ∷ []) ++ replicate 45 0 ++ (4 ∷ 9 ∷ 0 ∷ 3 ∷ 0 ∷ []))) (units_a_tick 1) 20 ∷
     writes "y7-90 remove emitter" (lent (grid 4 1 1 2) hundreds (row_a ++ six 0 300 10 120 0 0) (replicate 51 0 ++ (1 ∷ 0 ∷ 0 ∷ 0 ∷ 0 ∷ 1 ∷ 20 ∷ 0 ∷ 7 ∷ 3 ∷ 20 ∷ []) ++ replicate 45 0 ++ (4 ∷ 9 ∷ 0 ∷ 3 ∷ 0 ∷ []))) (remove_emitter 1 7) (blocks (first ∷ limiter 4 9 3 ∷ [])) ∷
     -- y7-91: 21: a standing limiter 0 in the first tracer only
     refuses "y7-91 zonal" (two (limiter 0 0 0) first) (zonal 0 0 wind) 21 ∷

@@ -7,7 +7,7 @@ use Rattle.model.specs.Limits.{total_limit, most_emitters, block_numbers, most_t
 use Rattle.model.specs.Basic.{at, part, every}
 use Rattle.model.specs.World.{World, world_cells, block, gas_total}
 use Rattle.model.specs.Emitters.{standing, emitter_cell, kept_units, has_id, record_fits}
-use Rattle.model.specs.Step.{Call, Place, place, absent, no_room, broken_record, meaning, first_of, own_places, lent_fits, refusal, add_emitter, remove_emitter, tick, units_atick}
+use Rattle.model.specs.Step.{Call, Place, place, absent, no_room, broken_record, meaning, first_of, own_places, lent_fits, refusal, add_emitter, remove_emitter, tick, units_a_tick}
 use Rattle.model.proofs.Laws.Basic.{every_at, length_part}
 use Rattle.model.proofs.Laws.Grid.{in_range_lem}
 use Rattle.model.proofs.Laws.Step.{Fits, passes, stops}
@@ -111,7 +111,7 @@ module _ {w : World} {t : ℕ} where
   unfolding own_places
   tick_names = record { lent = refl; limiters = refl; books = refl; places = refl }
 
-  pub units_names : Names w t (units_atick t) []
+  pub units_names : Names w t (units_a_tick t) []
   unfolding own_places
   units_names = record { lent = refl; limiters = refl; books = refl; places = refl }
 

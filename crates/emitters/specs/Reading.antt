@@ -4,7 +4,7 @@ use Rattle.model.specs.Limits.{block_numbers}
 use Rattle.model.specs.Basic.{part}
 use Rattle.model.specs.World.{World}
 use Rattle.model.specs.Emitters.{kept_units}
-use Rattle.model.specs.Step.{Call, first_of, units_atick}
+use Rattle.model.specs.Step.{Call, first_of, units_a_tick}
 use Rattle.units.specs.declared.Answer.{Answer}
 use Rattle.units.specs.declared.Answer.TheVariants.{Accepted, Refused}
 use Rattle.units.specs.declared.WideAnswer.{WideAnswer}
@@ -24,7 +24,7 @@ agrees_wide {answer = Refused r} same = record { number = same.number; count = s
 
 -- ---- the reading, from what `emitter_place` found
 pub units_agree : {w : World} {t : ℕ} {p : Placed} → EmittersFound w t p → {kept : ℕ} →
-    kept ≡ kept_units (part w.ledger p.first (p.first + block_numbers - p.first)) → AgreesWide w (units_atick t) (wide.Accepted kept) w
+    kept ≡ kept_units (part w.ledger p.first (p.first + block_numbers - p.first)) → AgreesWide w (units_a_tick t) (wide.Accepted kept) w
 unfolding first_of
 units_agree found {kept} is =
     agrees_wide {answer = Accepted kept} (accepted_agrees (places_left found units_names) refl (rw (block_lent found) at is) refl)

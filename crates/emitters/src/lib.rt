@@ -4,7 +4,7 @@
 ghost use Rattle.std.specs.Prelude.{◌≡◌, ◌+◌, ◌≤◌, ◌<◌, length, set};
 ghost use Rattle.model.specs.Basic.{at};
 ghost use Rattle.model.specs.Emitters.{standing, ticked};
-ghost use Rattle.model.specs.Step.{add_emitter, remove_emitter, tick as tick_call, units_atick};
+ghost use Rattle.model.specs.Step.{add_emitter, remove_emitter, tick as tick_call, units_a_tick};
 ghost use Rattle.units.specs.Grid.{world_of};
 ghost use Rattle.units.specs.Answer.{Agrees, AgreesWide};
 ghost use Rattle.emitters.specs.Place.{IsEmitterPlace};
@@ -167,7 +167,7 @@ pub fn units_a_tick(
     ledger: &[u32],
     tracer: u32,
 ) -> WideAnswer
-    ensures { AgreesWide (world_of g air.now tracers.now ledger.now) (units_atick tracer) result (world_of g air.now tracers.now ledger.now) }
+    ensures { AgreesWide (world_of g air.now tracers.now ledger.now) (units_a_tick tracer) result (world_of g air.now tracers.now ledger.now) }
 {
     let place = emitter_place(g, air, tracers, ledger, tracer);
     let answer = place.answer;

@@ -6,7 +6,7 @@ use Rattle.std.proofs.Common.{◌∙◌}
 use Rattle.model.specs.Basic.{tab}
 use Rattle.model.specs.World.{World, block, gas_total, air_total}
 use Rattle.model.specs.Emitters.{present_units}
-use Rattle.model.specs.Step.{Call, load, emission, withdrawal, zonal, long_zonal, meridional, remap, total, cell, add_emitter, remove_emitter, tick, units_atick, count_zonal, zonal_with_count, set_limiter, broken_record, first_of, meaning, lent_fits, own_places, refusal, step}
+use Rattle.model.specs.Step.{Call, load, emission, withdrawal, zonal, long_zonal, meridional, remap, total, cell, add_emitter, remove_emitter, tick, units_a_tick, count_zonal, zonal_with_count, set_limiter, broken_record, first_of, meaning, lent_fits, own_places, refusal, step}
 use Rattle.model.specs.Lists.{Loaded, loaded_world, listed, call_at, after, point, history, HasRatio, CallInRange, has_first, LoadedAlike, Alike, names_no_other, SameReply}
 use Rattle.model.proofs.Laws.Step.{Reached, answer_is, own_refusal, loaded_reached, loaded_alike}
 use Rattle.model.proofs.Laws.Keeps.{Kept, MeaningKeeps, StepKeeps, step_keeps, names_grid}
@@ -54,7 +54,7 @@ call_keeps (cell t c) e = cell_keeps t c
 call_keeps (add_emitter t c id units) e = add_keeps t c id units
 call_keeps (remove_emitter t id) e = remove_keeps t id
 call_keeps (tick t) e = tick_keeps t
-call_keeps (units_atick t) e = units_keeps t
+call_keeps (units_a_tick t) e = units_keeps t
 call_keeps (count_zonal k r fluxes) e = count_keeps k r fluxes
 call_keeps (zonal_with_count k r n fluxes) e = with_count_keeps k r n fluxes
 call_keeps (set_limiter t number lo hi) e = limiter_keeps t number lo hi
@@ -101,15 +101,15 @@ pub emitters_reached :
     (w : World) (calls : List Call) → Loaded w → listed calls ≡ true → (i : ℕ) →
     let now = point (loaded_world w) calls i in
     (broken_record.applies now ≡ false)
-    × ((t : ℕ) → t < (loaded_world w).grid.N → ((step now (units_atick t)).answer ≡ 0) × ((step now (units_atick t)).count ≡ present_units (block now t)))
+    × ((t : ℕ) → t < (loaded_world w).grid.N → ((step now (units_a_tick t)).answer ≡ 0) × ((step now (units_a_tick t)).count ≡ present_units (block now t)))
 unfolding own_places
 emitters_reached w calls start no_loads i =
     let now = point (loaded_world w) calls i in
     let kept = calls_keep (loaded_world w) (take i calls) (listed_take i calls no_loads) (loaded_reached w start) in (
       record_sound kept.reached,
       λ t h.
-          let answer : (step now (units_atick t)).answer ≡ 0 =
-          answer_is now (units_atick t) ∙ own_refusal now (units_atick t) kept.reached refl ∙
+          let answer : (step now (units_a_tick t)).answer ≡ 0 =
+          answer_is now (units_a_tick t) ∙ own_refusal now (units_a_tick t) kept.reached refl ∙
           record_left now kept.reached t (rw kept.same_grid h) [] ∙ no_place_lem now in
           (answer, reading_is_sum now t answer),
     )
@@ -131,7 +131,7 @@ worked =
 
 abbrev ticks : List Call
 ticks =
-    add_emitter 0 3 77 5 ∷ add_emitter 0 2 77 6 ∷ tick 0 ∷ tick 0 ∷ units_atick 0 ∷ remove_emitter 0 77 ∷ remove_emitter 0 77 ∷
+    add_emitter 0 3 77 5 ∷ add_emitter 0 2 77 6 ∷ tick 0 ∷ tick 0 ∷ units_a_tick 0 ∷ remove_emitter 0 77 ∷ remove_emitter 0 77 ∷
     cell 0 3 ∷
     count_zonal 0 0 (replicate 4 (pos 150)) ∷ zonal_with_count 0 0 1 (replicate 4 (pos 150)) ∷ zonal_with_count 0 0 2 (replicate 4 (pos 150)) ∷
     set_limiter 0 4 0 0 ∷ set_limiter 0 2 0 0 ∷ zonal 0 0 (four (pos 0) (pos 50) (pos 0) (pos 0)) ∷

@@ -5,7 +5,7 @@ use Rattle.std.proofs.Common.{true≢false, sym, ◌∙◌, ap, arith, length-se
 use Rattle.model.specs.Basic.{at}
 use Rattle.model.specs.World.{World, world_cells, block, with_block, gas_total}
 use Rattle.model.specs.Books.{loaded_sum, emitted_sum, withdrawn_sum}
-use Rattle.model.specs.Step.{Call, load, emission, withdrawal, zonal, long_zonal, meridional, remap, total, cell, add_emitter, remove_emitter, tick, units_atick, count_zonal, zonal_with_count, set_limiter, Exchange, no_exchange, with_amount, amount_at, meaning, lent_fits, own_places, accepted, refused, refusal, step}
+use Rattle.model.specs.Step.{Call, load, emission, withdrawal, zonal, long_zonal, meridional, remap, total, cell, add_emitter, remove_emitter, tick, units_a_tick, count_zonal, zonal_with_count, set_limiter, Exchange, no_exchange, with_amount, amount_at, meaning, lent_fits, own_places, accepted, refused, refusal, step}
 use Rattle.model.specs.Lists.{Loaded, loaded_world, listed, after, point, history}
 use Rattle.model.proofs.Laws.World.{length_gas, length_block, total_changed, block_changed}
 use Rattle.model.proofs.Laws.Emitters.{fresh_loaded, fresh_emitted, fresh_withdrawn}
@@ -72,7 +72,7 @@ not_listed (cell t c) e = absurd (true≢false e)
 not_listed (add_emitter t c id units) e = absurd (true≢false e)
 not_listed (remove_emitter t id) e = absurd (true≢false e)
 not_listed (tick t) e = absurd (true≢false e)
-not_listed (units_atick t) e = absurd (true≢false e)
+not_listed (units_a_tick t) e = absurd (true≢false e)
 not_listed (count_zonal k r fluxes) e = absurd (true≢false e)
 not_listed (zonal_with_count k r n fluxes) e = absurd (true≢false e)
 not_listed (set_limiter t number lo hi) e = absurd (true≢false e)
@@ -111,7 +111,7 @@ own_not_22 (cell t c) = refl
 own_not_22 (add_emitter t c id units) = refl
 own_not_22 (remove_emitter t id) = refl
 own_not_22 (tick t) = refl
-own_not_22 (units_atick t) = refl
+own_not_22 (units_a_tick t) = refl
 own_not_22 (count_zonal k r fluxes) = refl
 own_not_22 (zonal_with_count k r n fluxes) = refl
 own_not_22 (set_limiter t number lo hi) = refl

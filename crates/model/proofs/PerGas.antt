@@ -16,7 +16,7 @@ use Rattle.model.specs.Sweep.{Mesh, ring, layer, air_after, gas_after, swept}
 use Rattle.model.specs.Remap.{remapped_air, remapped_gas, remap_count, remap_serves, remapped}
 use Rattle.model.specs.Long.{long_air, long_gas, long_swept}
 use Rattle.model.specs.Limiters.{Limiter, rule_for, limiter_fits, limiter_in, first_limiter, limiter_of, rule_of}
-use Rattle.model.specs.Step.{Call, load, emission, withdrawal, zonal, long_zonal, meridional, remap, total, cell, add_emitter, remove_emitter, tick, units_atick, count_zonal, zonal_with_count, set_limiter, Result, Place, first_of, broken_limiter, broken_book, grid_fits, lengths_fit, meaning, lent_fits, common_places, place_if, limiter_places, book_places, own_places, accepted, refused, refusal, step, zonal_count}
+use Rattle.model.specs.Step.{Call, load, emission, withdrawal, zonal, long_zonal, meridional, remap, total, cell, add_emitter, remove_emitter, tick, units_a_tick, count_zonal, zonal_with_count, set_limiter, Result, Place, first_of, broken_limiter, broken_book, grid_fits, lengths_fit, meaning, lent_fits, common_places, place_if, limiter_places, book_places, own_places, accepted, refused, refusal, step, zonal_count}
 use Rattle.model.specs.Lists.{Loaded, loaded_world, listed, after, point}
 use Rattle.model.proofs.Laws.Basic.{tab_ext, every_true}
 use Rattle.model.proofs.Laws.Scheme.{ratio_safe, piece_le, pieces_le}
@@ -92,7 +92,7 @@ module _ (w : World) (other : List ℕ) (many : length other ≡ length w.ledger
     same_call (add_emitter t c id units) tests = absurd (false≢true tests)
     same_call (remove_emitter t id) tests = absurd (false≢true tests)
     same_call (tick t) tests = absurd (false≢true tests)
-    same_call (units_atick t) tests = absurd (false≢true tests)
+    same_call (units_a_tick t) tests = absurd (false≢true tests)
     same_call (count_zonal k r fluxes) tests = record { places = refl; count = refl; air = refl }
     same_call (zonal_with_count k r n fluxes) tests = record { places = refl; count = refl; air = refl }
     same_call (set_limiter t number lo hi) tests = absurd (false≢true tests)
@@ -129,7 +129,7 @@ sets (cell t c) = false
 sets (add_emitter t c id units) = false
 sets (remove_emitter t id) = false
 sets (tick t) = false
-sets (units_atick t) = false
+sets (units_a_tick t) = false
 sets (count_zonal k r fluxes) = false
 sets (zonal_with_count k r n fluxes) = false
 
@@ -163,7 +163,7 @@ own_without (cell t c) e = refl
 own_without (add_emitter t c id units) e = refl
 own_without (remove_emitter t id) e = refl
 own_without (tick t) e = refl
-own_without (units_atick t) e = refl
+own_without (units_a_tick t) e = refl
 own_without (count_zonal k r fluxes) e = refl
 own_without (zonal_with_count k r n fluxes) e = refl
 own_without (set_limiter t number lo hi) e = absurd (true≢false e)
@@ -202,7 +202,7 @@ limiter_kept t (cell u c) held other w so h e = refl
 limiter_kept t (add_emitter u c id units) held other w so h e = added_limiter w so t u c id units e
 limiter_kept t (remove_emitter u id) held other w so h e = removed_limiter w so t u id e
 limiter_kept t (tick u) held other w so h e = booked_limiter w so t u (found u (λ g. g.N) _ w e).0 _
-limiter_kept t (units_atick u) held other w so h e = refl
+limiter_kept t (units_a_tick u) held other w so h e = refl
 limiter_kept t (count_zonal k r fluxes) held other w so h e = refl
 limiter_kept t (zonal_with_count k r n fluxes) held other w so h e = refl
 limiter_kept t (set_limiter u number lo hi) held other w so h e =
@@ -251,7 +251,7 @@ next_before (cell t c) w = (meaning (cell t c)).next w
 next_before (add_emitter t c id units) w = (meaning (add_emitter t c id units)).next w
 next_before (remove_emitter t id) w = (meaning (remove_emitter t id)).next w
 next_before (tick t) w = (meaning (tick t)).next w
-next_before (units_atick t) w = (meaning (units_atick t)).next w
+next_before (units_a_tick t) w = (meaning (units_a_tick t)).next w
 next_before (count_zonal k r fluxes) w = (meaning (count_zonal k r fluxes)).next w
 next_before (set_limiter t number lo hi) w = w
 
@@ -329,7 +329,7 @@ module _ (w : World) (first : AllFirst w) where
   next_before_lem (add_emitter t c id units) e = refl
   next_before_lem (remove_emitter t id) e = refl
   next_before_lem (tick t) e = refl
-  next_before_lem (units_atick t) e = refl
+  next_before_lem (units_a_tick t) e = refl
   next_before_lem (count_zonal k r fluxes) e = refl
   next_before_lem (zonal_with_count k r n fluxes) e = swept_before_lem (ring w.grid.W) (row_start w.grid k r) fluxes n
   next_before_lem (set_limiter t number lo hi) e = absurd (true≢false e)

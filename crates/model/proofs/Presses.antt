@@ -11,7 +11,7 @@ use Rattle.std.proofs.Math.Decide.{ℕ_discrete}
 use Rattle.model.specs.Basic.{part}
 use Rattle.model.specs.World.{Grid, World, row_start}
 use Rattle.model.specs.Sweep.{ring}
-use Rattle.model.specs.Step.{Call, load, emission, withdrawal, zonal, long_zonal, meridional, remap, total, cell, add_emitter, remove_emitter, tick, units_atick, count_zonal, zonal_with_count, set_limiter, Place, first_of, absent, other_count, Result, meaning, common_places, limiter_places, book_places, own_places, accepted, refused, refusal, step, row_air, zonal_count}
+use Rattle.model.specs.Step.{Call, load, emission, withdrawal, zonal, long_zonal, meridional, remap, total, cell, add_emitter, remove_emitter, tick, units_a_tick, count_zonal, zonal_with_count, set_limiter, Place, first_of, absent, other_count, Result, meaning, common_places, limiter_places, book_places, own_places, accepted, refused, refusal, step, row_air, zonal_count}
 use Rattle.model.specs.Lists.{Loaded, loaded_world, listed, after, point, history, SameReply}
 use Rattle.model.proofs.Laws.Basic.{Apart}
 use Rattle.model.proofs.Laws.Grid.{layer_apart, rows_apart}
@@ -152,7 +152,7 @@ leaves_row_air k r (cell t c) = true
 leaves_row_air k r (add_emitter t c id units) = true
 leaves_row_air k r (remove_emitter t id) = true
 leaves_row_air k r (tick t) = true
-leaves_row_air k r (units_atick t) = true
+leaves_row_air k r (units_a_tick t) = true
 leaves_row_air k r (count_zonal l s fluxes) = true
 leaves_row_air k r (zonal_with_count l s n fluxes) = not (eqb l k && eqb s r)
 leaves_row_air k r (set_limiter t number lo hi) = true
@@ -223,7 +223,7 @@ one_leaves k r (cell t c) e w there = air_stays k r (cell t c) w refl refl
 one_leaves k r (add_emitter t c id units) e w there = air_stays k r (add_emitter t c id units) w refl refl
 one_leaves k r (remove_emitter t id) e w there = air_stays k r (remove_emitter t id) w refl refl
 one_leaves k r (tick t) e w there = air_stays k r (tick t) w refl refl
-one_leaves k r (units_atick t) e w there = air_stays k r (units_atick t) w refl refl
+one_leaves k r (units_a_tick t) e w there = air_stays k r (units_a_tick t) w refl refl
 one_leaves k r (count_zonal l s fluxes) e w there = air_stays k r (count_zonal l s fluxes) w refl refl
 one_leaves k r (zonal_with_count l s n fluxes) e w there =
     row_stays k r w there l s (zonal_with_count l s n fluxes) e
@@ -280,7 +280,7 @@ module _ (w : World) (calls : List Call) (loaded : Loaded w) (no_loads : listed 
 pub some_leave :
     leave_row_air 0 0
     (emission 0 1 5 ∷ withdrawal 0 1 5 ∷ zonal 1 0 (replicate 4 (pos 50)) ∷ long_zonal 2 0 (replicate 4 (pos 50)) ∷ meridional 1 (replicate 8 (pos 1)) ∷
-    add_emitter 0 3 7 40 ∷ tick 0 ∷ units_atick 0 ∷ remove_emitter 0 7 ∷ count_zonal 0 0 (replicate 4 (pos 50)) ∷ zonal_with_count 1 0 1 (replicate 4 (pos 50)) ∷
+    add_emitter 0 3 7 40 ∷ tick 0 ∷ units_a_tick 0 ∷ remove_emitter 0 7 ∷ count_zonal 0 0 (replicate 4 (pos 50)) ∷ zonal_with_count 1 0 1 (replicate 4 (pos 50)) ∷
     set_limiter 0 2 0 0 ∷ total 0 ∷ cell 0 3 ∷ []) ≡
     true
 unfolding leave_row_air

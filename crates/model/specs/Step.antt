@@ -26,7 +26,7 @@ pub data Call : Type 0 where
   add_emitter : (t c id units : ℕ) → Call
   remove_emitter : (t id : ℕ) → Call
   tick : (t : ℕ) → Call
-  units_atick : (t : ℕ) → Call
+  units_a_tick : (t : ℕ) → Call
   count_zonal : (k r : ℕ) → List ℤ → Call
   zonal_with_count : (k r n : ℕ) → List ℤ → Call
   set_limiter : (t number lo hi : ℕ) → Call
@@ -330,7 +330,7 @@ meaning (tick t) =
       range = λ w next t'. Unit {0};
     }
 -- (02) "A reading gives the tracer's units a tick, kept up to date"
-meaning (units_atick t) = reads (tracer t) (absent t (λ g. g.N) ∷ broken_record ∷ []) (λ w. kept_units (block w t))
+meaning (units_a_tick t) = reads (tracer t) (absent t (λ g. g.N) ∷ broken_record ∷ []) (λ w. kept_units (block w t))
 -- (02) "Add a call that gives the count and writes nothing, and a second that carries the sweep out with a count given to it."
 -- 20 is "tested after 9 in the second call"
 meaning (count_zonal k r fluxes) = counts (sweeps_row k r fluxes (λ w. zonal_count w k r fluxes) [])

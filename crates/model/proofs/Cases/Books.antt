@@ -4,7 +4,7 @@ use Rattle.std.specs.Prelude.{ℕ, ◌-◌, List, [], ◌∷◌, ◌++◌, refl,
 use Prim.Native.String.{String}
 use Rattle.model.specs.Basic.{zeros}
 use Rattle.model.specs.World.{Grid, World}
-use Rattle.model.specs.Step.{Call, load, emission, withdrawal, zonal, long_zonal, meridional, remap, total, cell, add_emitter, remove_emitter, tick, units_atick, count_zonal, zonal_with_count, set_limiter}
+use Rattle.model.specs.Step.{Call, load, emission, withdrawal, zonal, long_zonal, meridional, remap, total, cell, add_emitter, remove_emitter, tick, units_a_tick, count_zonal, zonal_with_count, set_limiter}
 use Rattle.model.proofs.Cases.{Case, Hold, hold, computes}
 use Rattle.model.proofs.Cases.Marked.{grid, four, six, refuses, hundreds}
 

@@ -4,7 +4,7 @@ use Rattle.std.specs.Prelude.{ℕ, ◌+◌, ◌-◌, ◌%◌, List, [], ◌∷�
 use Prim.Native.String.{String}
 use Rattle.model.specs.Basic.{joined, tab, zeros}
 use Rattle.model.specs.World.{World, with_amounts, with_ledger}
-use Rattle.model.specs.Step.{Call, load, emission, withdrawal, zonal, long_zonal, meridional, remap, total, cell, add_emitter, remove_emitter, tick, units_atick}
+use Rattle.model.specs.Step.{Call, load, emission, withdrawal, zonal, long_zonal, meridional, remap, total, cell, add_emitter, remove_emitter, tick, units_a_tick}
 use Rattle.model.proofs.Cases.{Case, Hold, hold, computes, on_record, exchanging}
 use Rattle.model.proofs.Cases.Marked.{grid, four, six, hundreds, refuses}
 
@@ -125,7 +125,7 @@ changed =
 -- ---- a tick, and the reading
 abbrev ticks : List Case
 ticks =
-    reads "y2-9 reading" (two (holding 16 4294967280 15 (tab 16 (λ i. one i 0 4294967295))) none) (units_atick 0) 68719476720 ∷
+    reads "y2-9 reading" (two (holding 16 4294967280 15 (tab 16 (λ i. one i 0 4294967295))) none) (units_a_tick 0) 68719476720 ∷
     refuses "y2-9 tick" (two (holding 16 4294967280 15 (tab 16 (λ i. one i 0 4294967295))) none) (tick 0) 6 ∷
     emits "y2-10 to the limit" (having (six 0 0 268435215 0 140 0 ++ six 5 7 11 13 17 19) (holding 2 100 0 (one 1 2 60 ∷ one 2 4 40 ∷ []) ++ none)) (tick 0)
     (six 0 0 268435275 0 180 0 ++ six 5 7 11 13 17 19) ∷
@@ -140,7 +140,7 @@ ticks =
     reads "y2-15 none" (having (six 0 0 268435455 0 0 0 ++ six 5 7 11 13 17 19) (none ++ none)) (tick 0) 0 ∷
     reads "y2-15 sum 0" (having (six 0 0 268435455 0 0 0 ++ six 5 7 11 13 17 19) (holding 1 0 0 (one 1 2 0 ∷ []) ++ none)) (tick 0) 0 ∷
     refuses "y2-15 sum 1" (having (six 0 0 268435455 0 0 0 ++ six 5 7 11 13 17 19) (holding 2 1 0 (one 1 2 0 ∷ one 2 2 1 ∷ []) ++ none)) (tick 0) 6 ∷
-    reads "y2-26 reading" (two (holding 1 250 0 (one 7 3 250 ∷ remains)) single) (units_atick 0) 250 ∷
+    reads "y2-26 reading" (two (holding 1 250 0 (one 7 3 250 ∷ remains)) single) (units_a_tick 0) 250 ∷
     emits "y2-26 tick" (two (holding 1 250 0 (one 7 3 250 ∷ remains)) single) (tick 0) (six 0 0 100 450 100 0 ++ six 5 7 11 13 17 19) ∷
     refuses "y2-26 removal" (two (holding 1 250 0 (one 7 3 250 ∷ remains)) single) (remove_emitter 0 66) 19 ∷
     enters "y2-70 last cell" (deep (none ++ holding 1 30 0 (one 1 6 30 ∷ []))) (add_emitter 1 11 2 40) (none ++ second) ∷
@@ -157,22 +157,22 @@ faults =
     refuses "y2-30" (two single (set sixteen 0 4294967295)) (tick 0) 5 ∷
     refuses "y2-31" (two single (holding 2 270 0 (one 7 3 250 ∷ one 8 6 20 ∷ []))) (remove_emitter 0 7) 5 ∷
     refuses "y2-33" (two single (holding 3 300 0 (one 7 3 250 ∷ one 8 1 20 ∷ one 7 5 30 ∷ []))) (tick 0) 5 ∷
-    refuses "y2-34" (two single (holding 3 300 0 (one 7 3 250 ∷ one 8 1 20 ∷ one 8 5 30 ∷ []))) (units_atick 0) 5 ∷
-    refuses "y2-35" (two single (set three 1 301)) (units_atick 0) 5 ∷
+    refuses "y2-34" (two single (holding 3 300 0 (one 7 3 250 ∷ one 8 1 20 ∷ one 8 5 30 ∷ []))) (units_a_tick 0) 5 ∷
+    refuses "y2-35" (two single (set three 1 301)) (units_a_tick 0) 5 ∷
     refuses "y2-36" (two single (set three 1 299)) (add_emitter 0 0 50 1) 5 ∷
     refuses "y2-37" (two single (set three 2 1)) (remove_emitter 0 7) 5 ∷
     refuses "y2-39" (two single (set none 1 1)) (tick 0) 5 ∷
     refuses "y2-40" (two seventeen single) (remove_emitter 1 7) 5 ∷
-    refuses "y2-44" (two (set three 2 1) single) (units_atick 1) 5 ∷
+    refuses "y2-44" (two (set three 2 1) single) (units_a_tick 1) 5 ∷
     refuses "y2-45" (two seventeen single) (tick 0) 5 ∷
     refuses "y2-46" (two (holding 2 270 0 (one 7 3 250 ∷ one 8 6 20 ∷ [])) single) (add_emitter 0 0 50 1) 5 ∷
     refuses "y2-47" (two (holding 3 300 0 (one 7 3 250 ∷ one 8 1 20 ∷ one 7 5 30 ∷ [])) single) (remove_emitter 0 7) 5 ∷
-    refuses "y2-48" (two (set three 1 301) single) (units_atick 0) 5 ∷
+    refuses "y2-48" (two (set three 1 301) single) (units_a_tick 0) 5 ∷
     refuses "y2-50" (two single (set sixteen 49 6)) (tick 0) 5 ∷
     refuses "y2-51 added" (two single single) (add_emitter 2 0 50 1) 5 ∷
     refuses "y2-51 removed" (two single single) (remove_emitter 2 7) 5 ∷
     refuses "y2-51 tick" (two single single) (tick 2) 5 ∷
-    refuses "y2-51 reading" (two single single) (units_atick 2) 5 ∷
+    refuses "y2-51 reading" (two single single) (units_a_tick 2) 5 ∷
     refuses "y2-52" (two single single) (add_emitter 0 6 50 1) 5 ∷
     enters "y2-52 last cell" (two single single) (add_emitter 0 5 50 1) (holding 2 251 0 (one 7 3 250 ∷ one 50 5 1 ∷ []) ++ single) ∷
     refuses "y2-53" (two sixteen false_sum) (add_emitter 0 0 50 1) 5 ∷
@@ -180,7 +180,7 @@ faults =
     refuses "y2-55" (two single false_sum) (remove_emitter 0 50) 5 ∷
     refuses "y2-56" (having (six 0 0 268435455 0 0 0 ++ six 5 7 11 13 17 19) (single ++ false_sum)) (tick 0) 5 ∷
     refuses "y2-62" (hollow (set gases 0 268435455) (false_sum ++ seventeen)) (tick 2) 3 ∷
-    refuses "y2-63" (having (set gases 0 268435455) (false_sum ++ seventeen)) (units_atick 2) 4 ∷
+    refuses "y2-63" (having (set gases 0 268435455) (false_sum ++ seventeen)) (units_a_tick 2) 4 ∷
     refuses "y2-77" (record { grid = grid 4 1 33 2; air = hundreds; tracers = gases; ledger = single ++ single }) (add_emitter 0 0 50 1) 1 ∷
     refuses "y2-75" (thrice (single ++ single ++ false_sum)) (tick 1) 5 ∷
     []
@@ -203,7 +203,7 @@ lengths =
     refuses "y2-57 added" (lent 117) (add_emitter 0 0 50 1) 2 ∷
     refuses "y2-57 removed" (lent 117) (remove_emitter 0 7) 2 ∷
     refuses "y2-57 tick" (lent 117) (tick 0) 2 ∷
-    refuses "y2-57 reading" (lent 117) (units_atick 0) 2 ∷
+    refuses "y2-57 reading" (lent 117) (units_a_tick 0) 2 ∷
     refuses "y2-58" (lent 119) (emission 0 3 7) 2 ∷
     refuses "y2-59" (lent 59) (tick 0) 2 ∷
     refuses "y2-60" (record { grid = grid 3 1 1 2; air = hundreds; tracers = gases; ledger = [] }) load 1 ∷

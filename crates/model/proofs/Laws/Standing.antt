@@ -13,7 +13,7 @@ use Rattle.model.specs.Long.{long_swept}
 use Rattle.model.specs.Emitters.{standing, kept_units, present_units, has_id, record_fits, emitter_added, emitter_removed, ticked}
 use Rattle.model.specs.Limiters.{Limiter, limiter_fits, limiter_in, with_limiter, limiter_of}
 use Rattle.model.specs.Books.{emitted_sum}
-use Rattle.model.specs.Step.{Call, load, emission, withdrawal, zonal, long_zonal, meridional, remap, total, cell, Result, Place, first_of, absent, broken_record, add_emitter, remove_emitter, tick, units_atick, count_zonal, zonal_with_count, set_limiter, Exchange, no_exchange, booked, Named, nobody, tracer, meaning, enters, own_places, accepted, refused, refusal, step}
+use Rattle.model.specs.Step.{Call, load, emission, withdrawal, zonal, long_zonal, meridional, remap, total, cell, Result, Place, first_of, absent, broken_record, add_emitter, remove_emitter, tick, units_a_tick, count_zonal, zonal_with_count, set_limiter, Exchange, no_exchange, booked, Named, nobody, tracer, meaning, enters, own_places, accepted, refused, refusal, step}
 use Rattle.model.specs.Lists.{exchanged, Alike, names_own}
 use Rattle.model.proofs.Laws.Basic.{neither, every_at, every_true, length_part, at_part, InPart, Outside, part_or_outside, length_written, at_written_within, at_written_outside, length_rewritten, part_rewritten, part_not_rewritten}
 use Rattle.model.proofs.Laws.Emitters.{Sound, record_fitting, sound_fits, limiter_sound, added_behind, added_sound, added_keeps_limiter, removed_behind, removed_sound, removed_keeps_limiter, length_added, length_removed, length_entered, entered_limiter, added_has, add_remove, length_ticked, ticked_sum, ticked_none, units_in, ticked_at}
@@ -179,7 +179,7 @@ limiter_keeps t number lo hi =
       },
     ))
 
-pub units_keeps : (t : ℕ) → MeaningKeeps (meaning (units_atick t))
+pub units_keeps : (t : ℕ) → MeaningKeeps (meaning (units_a_tick t))
 units_keeps t =
     reads_keep (tracer t) _ _
     (λ own w v ww vv a named.
@@ -307,11 +307,11 @@ own_passed : (w : World) (call : Call) → (step w call).answer ≡ 0 → Fits w
 own_passed w call e = let p = accepted_passed w call (sym (answer_is w call) ∙ e) in (p.0, p.2)
 
 -- "A reading gives the tracer's units a tick .., and it always equals the sum over the emitters present"
-pub reading_is_sum : (w : World) (t : ℕ) → (step w (units_atick t)).answer ≡ 0 → (step w (units_atick t)).count ≡ present_units (block w t)
+pub reading_is_sum : (w : World) (t : ℕ) → (step w (units_a_tick t)).answer ≡ 0 → (step w (units_a_tick t)).count ≡ present_units (block w t)
 unfolding own_places
 reading_is_sum w t e =
-    let p = record_passed t [] w (own_passed w (units_atick t) e).1 in
-    (step_next w (units_atick t) e).1 ∙ (record_fitting (world_cells w.grid) (block w t) p.fits).sum
+    let p = record_passed t [] w (own_passed w (units_a_tick t) e).1 in
+    (step_next w (units_a_tick t) e).1 ∙ (record_fitting (world_cells w.grid) (block w t) p.fits).sum
 
 -- A tick adds to each cell the units of the emitters that name it and to no other cell, of no other gas, enters their sum in the gas's book, and changes nothing else
 pub record Ticks (w next : World) (t : ℕ) : Type 0 where
@@ -465,7 +465,7 @@ beside t (remove_emitter u id) held other w reached e =
     let has = not-false _ (passed _ [] w (lit< tt) p.left).0 in
     (block_unchanged w reached.fits.ledger_length u p.there _ (length_removed (block w u) (reached.blocks u p.there).many (reached.blocks u p.there).few id has) t (differs u t other), refl)
 beside t (tick u) held other w reached e = (beside_booked w reached t u (record_passed u _ w e).there _ other, not_exchanged u t _ other)
-beside t (units_atick u) held other w reached e = (refl, refl)
+beside t (units_a_tick u) held other w reached e = (refl, refl)
 beside t (count_zonal k r fluxes) held other w reached e = (refl, refl)
 beside t (zonal_with_count k r n fluxes) held other w reached e = (refl, refl)
 beside t (set_limiter u number lo hi) held other w reached e =
