@@ -4,7 +4,7 @@ use Rattle.std.proofs.Common.{append_assoc, ◌∙◌, arith}
 use Rattle.std.proofs.Math.Path.{sym, ap}
 use Rattle.model.specs.World.{block, gas_total}
 use Rattle.model.specs.Books.{loaded_sum, emitted_sum, withdrawn_sum}
-use Rattle.model.specs.Step.{Call, total, Result, accepted, step}
+use Rattle.model.specs.Step.{Call, total, Result, accepted}
 use Rattle.model.specs.Lists.{history}
 use Rattle.model.proofs.Laws.Step.{step_accepted, answer_is}
 use Rattle.model.proofs.Laws.Lists.{history_append}
