@@ -97,7 +97,7 @@ pub struct Limiter {
 }
 
 // W columns, R rows, K layers, N tracers.
-#[derive(Drop)]
+#[derive(Clone, Copy)]
 pub struct Grid {
     pub w: u32,
     pub r: u32,
