@@ -68,17 +68,17 @@ pub const PROGRAM_FACES: usize = 2118; // of a layer that the program takes
 pub const PROGRAM_BODY: usize = 24576; // bytes of the longest body of a record
 
 // Air units and tracer units are separate counts: an amount of one is never added to an amount of the other.
-#[derive(Drop)]
+#[derive(Clone, Copy)]
 pub struct Air(pub u32);
 
-#[derive(Drop)]
+#[derive(Clone, Copy)]
 pub struct Tracer(pub u32);
 
 // Sums of air units and of tracer units, in 64 bits.
-#[derive(Drop)]
+#[derive(Clone, Copy)]
 pub struct AirSum(pub u64);
 
-#[derive(Drop)]
+#[derive(Clone, Copy)]
 pub struct TracerSum(pub u64);
 
 // A mismatch as its size and its sign.
