@@ -89,7 +89,7 @@ pub struct Mismatch {
 }
 
 // A tracer's limiter: its number, 1 to 3, and its bounds, in the ratio's scale. A number that is none of these is refused where a call tests it.
-#[derive(Drop)]
+#[derive(Clone, Copy)]
 pub struct Limiter {
     pub number: u32,
     pub lo: u64,
