@@ -82,7 +82,7 @@ pub struct AirSum(pub u64);
 pub struct TracerSum(pub u64);
 
 // A mismatch as its size and its sign.
-#[derive(Drop)]
+#[derive(Clone, Copy)]
 pub struct Mismatch {
     pub size: u64,
     pub positive: bool,
@@ -97,7 +97,7 @@ pub struct Limiter {
 }
 
 // W columns, R rows, K layers, N tracers.
-#[derive(Drop)]
+#[derive(Clone, Copy)]
 pub struct Grid {
     pub w: u32,
     pub r: u32,
@@ -106,7 +106,7 @@ pub struct Grid {
 }
 
 // The place that refuses a call.
-#[derive(Drop)]
+#[derive(Clone, Copy)]
 pub enum Refusal {
     GridRange,
     Lengths,
@@ -130,14 +130,14 @@ pub enum Refusal {
 }
 
 // What a call answers: accepted, with its count, or refused.
-#[derive(Drop)]
+#[derive(Clone, Copy)]
 pub enum Answer {
     Accepted(u32),
     Refused(Refusal),
 }
 
 // What a call answers whose count has 64 bits.
-#[derive(Drop)]
+#[derive(Clone, Copy)]
 pub enum WideAnswer {
     Accepted(u64),
     Refused(Refusal),
