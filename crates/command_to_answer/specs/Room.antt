@@ -9,7 +9,7 @@ use Rattle.model.proofs.Laws.Basic.{length_tab}
 use Rattle.units.specs.declared.Answer.{Answer}
 use Rattle.units.specs.Answer.{Agrees}
 use Rattle.program.specs.Bytes.{number, number_at, numbers_at, signed, fluxes_at}
-use Rattle.program.specs.Laws.Records.{tab_same}
+use Rattle.program.proofs.Laws.Records.{tab_same}
 use Rattle.records.specs.Laws.{take_rest}
 
 -- the first n entries are at most n, and what follows the first a entries is all but a

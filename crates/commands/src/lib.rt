@@ -9,29 +9,29 @@ use kinds::Kind;
 use units::Grid;
 
 // What a record asks for, but for its lists, which stay in its body.
-#[derive(Drop)]
+#[derive(Clone, Copy)]
 pub struct RowOf {
     pub layer: u32,
     pub row: u32,
 }
 
-#[derive(Drop)]
+#[derive(Clone, Copy)]
 pub struct LayerOf {
     pub layer: u32,
 }
 
-#[derive(Drop)]
+#[derive(Clone, Copy)]
 pub struct TracerOf {
     pub tracer: u32,
 }
 
-#[derive(Drop)]
+#[derive(Clone, Copy)]
 pub struct CellOf {
     pub tracer: u32,
     pub cell: u32,
 }
 
-#[derive(Drop)]
+#[derive(Clone, Copy)]
 pub enum Command {
     Grid(Grid),
     Load,

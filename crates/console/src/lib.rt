@@ -2,14 +2,14 @@
 // are proved in the crates below; here it is read and written.
 #![tactic(auto)]
 
-ghost use Rattle.std.specs.Prelude.{◌≡◌, ◌+◌, length};
+ghost use Rattle.std.specs.Prelude.{◌≡◌, ◌+◌, ◌≤◌, length};
 ghost use Rattle.stages.specs.Limits.{program_body};
 
-use libc::{STDIN_FILENO, STDOUT_FILENO};
 use lines::{Line, line_text};
 use record_to_line::{Outcome, air_space, carry_out, ledger_space, tracer_space};
 use records::body_bytes;
 use stages::Stage;
+use std::io::{Input, Print, Read};
 use units::{PROGRAM_AMOUNTS, PROGRAM_BODY, PROGRAM_CELLS, PROGRAM_LEDGER};
 
 // Room for the longest record, a kind and its body.
@@ -19,22 +19,41 @@ fn record_space() -> [u8; PROGRAM_BODY + 1]
     [0; PROGRAM_BODY + 1]
 }
 
+// Reads until `buf` is full, the input ends or a read fails, and answers how many bytes stand at the start of `buf`.
+fn read_full<R: Read>(input: &mut R, buf: &mut [u8]) -> usize
+    ensures { result ≤ length buf.new }
+{
+    let mut done = 0;
+    while done < buf.len() {
+        let Ok(n) = input.read(&mut buf[done..]) else {
+            break;
+        };
+        if n == 0 {
+            break;
+        }
+        done += n;
+    }
+    done
+}
+
 // Prints a line, and answers whether all of it was written.
-fn print(line: Line) -> bool {
+fn print(rt: &impl Print, line: Line) -> bool {
     let mut text = [0u8; 33];
     let at = line_text(line, &mut text);
-    io::write_all(STDOUT_FILENO, &text[at..])
+    rt.write_all(&text[at..]).is_ok()
 }
 
 // Where a turn of the loop leaves the program: at the next stage, or at its end.
-#[derive(Drop)]
+#[derive(Clone, Copy)]
 enum After {
     Next(Stage),
     Done,
 }
 
 // One byte, then the bytes that it needs or what is left of them, then the record carried out, then its line.
-fn turn(
+fn turn<R: Read>(
+    rt: &impl Print,
+    input: &mut R,
     stage: Stage,
     bytes: &mut [u8],
     air: &mut [u32; PROGRAM_CELLS],
@@ -43,30 +62,31 @@ fn turn(
 ) -> After
     requires { length bytes.old ≡ program_body + 1 }
 {
-    let first = io::read_full(STDIN_FILENO, &mut bytes[..1]);
+    let first = read_full(input, &mut bytes[..1]);
     if first == 0 {
         return After::Done;
     }
     let end = 1 + body_bytes(stage, bytes[0]);
-    let body = io::read_full(STDIN_FILENO, &mut bytes[1..end]);
+    let body = read_full(input, &mut bytes[1..end]);
     match carry_out(stage, &bytes[..1 + body], air, tracers, ledger) {
         Outcome::Nothing => After::Done,
         Outcome::Next(line, next) => {
-            if print(line) {
+            if print(rt, line) {
                 After::Next(next)
             } else {
                 After::Done
             }
         }
         Outcome::Last(line) => {
-            print(line);
+            print(rt, line);
             After::Done
         }
     }
 }
 
 // A proved loop has to end, and nothing says that the input does. So it counts its turns down from a number that no run uses up.
-pub fn run() {
+pub fn run(rt: &(impl Input + Print)) {
+    let mut input = rt.reader();
     let mut bytes = record_space();
     let mut air = air_space();
     let mut tracers = tracer_space();
@@ -74,7 +94,15 @@ pub fn run() {
     let mut stage = Stage::Start;
     let mut turns = u64::MAX;
     while turns > 0 {
-        let After::Next(next) = turn(stage, &mut bytes, &mut air, &mut tracers, &mut ledger) else {
+        let After::Next(next) = turn(
+            rt,
+            &mut input,
+            stage,
+            &mut bytes,
+            &mut air,
+            &mut tracers,
+            &mut ledger,
+        ) else {
             return;
         };
         stage = next;

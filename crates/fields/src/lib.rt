@@ -31,7 +31,7 @@ pub fn number_4(bytes: &[u8], at: usize) -> u32
     number_2(bytes, at) + 65536 * number_2(bytes, at + 2)
 }
 
-#[derive(Drop)]
+#[derive(Clone, Copy)]
 pub struct Amount {
     pub tracer: u32,
     pub cell: u32,

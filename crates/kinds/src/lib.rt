@@ -12,7 +12,7 @@ ghost use Rattle.kinds.specs.Kind.{kind_is};
 use stages::{Stage, cells_of};
 use units::Grid;
 
-#[derive(Drop)]
+#[derive(Clone, Copy)]
 pub enum Kind {
     Unknown,
     Grid,

@@ -125,7 +125,7 @@ fn air_inside(passed: AirSum, edge: u64) -> Air
 }
 
 // Where a walk along the line stands: the cells passed, their air and their tracer, the edges passed after edge 0, the tracer up to the last of them, and how many of these edges lie where a cell ends.
-#[derive(Drop)]
+#[derive(Clone, Copy)]
 struct Place {
     i: usize,
     passed: AirSum,
@@ -206,7 +206,7 @@ fn walk_turn(
 }
 
 // A walk that has been made: its steps, and how many edges after edge 0 lie where a cell ends.
-#[derive(Drop)]
+#[derive(Clone, Copy)]
 pub struct Walked {
     pub steps: usize,
     pub ends: usize,

@@ -6,7 +6,7 @@ ghost use Rattle.program.specs.Bytes.{decimal};
 ghost use Rattle.program.specs.Records.{line};
 ghost use Rattle.lines.specs.Text.{IsPut, IsText};
 
-#[derive(Drop)]
+#[derive(Clone, Copy)]
 pub struct Line {
     pub kind: u32,
     pub answer: u32,

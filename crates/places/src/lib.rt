@@ -138,7 +138,7 @@ pub fn totals_fit(sums: [u64; MOST_TRACERS], n: usize) -> bool
 }
 
 // What a call is lent besides the world, with its length: nothing, a row's fluxes, a layer's fluxes, a table.
-#[derive(Drop)]
+#[derive(Clone, Copy)]
 pub enum Lent {
     Nothing,
     RowFluxes(usize),
@@ -163,7 +163,7 @@ pub fn lent_fits(g: Grid, lent: Lent) -> bool
 }
 
 // The answer of these places, and every tracer's total where all are passed.
-#[derive(Drop)]
+#[derive(Clone, Copy)]
 pub struct Tested {
     pub answer: Answer,
     pub totals: [u64; MOST_TRACERS],
@@ -247,7 +247,7 @@ pub fn common_places(g: Grid, air: &[u32], tracers: &[u32], ledger: &[u32], lent
 }
 
 // What the places of a call give: their answer; where the cells that the call names start, and a number found on the way, such as a total or a count.
-#[derive(Drop)]
+#[derive(Clone, Copy)]
 pub struct Placed {
     pub answer: Answer,
     pub first: usize,

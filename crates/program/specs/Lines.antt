@@ -1,5 +1,5 @@
 -- Document 01, "The runner program": for every list of bytes, its records and the lines that the program prints.
-use Rattle.std.specs.Prelude.{ℕ, zero, suc, ◌+◌, List, [], ◌∷◌, ◌++◌, take, drop}
+use Rattle.std.specs.Prelude.{ℕ, zero, suc, List, [], ◌∷◌, ◌++◌, take, drop}
 use Rattle.program.specs.Bytes.{decimal}
 use Rattle.program.specs.Records.{State, start, Line, Finding, none, onward, last, found, needed, outcome_of}
 

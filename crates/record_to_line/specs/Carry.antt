@@ -8,7 +8,7 @@ use Rattle.model.specs.World as model
 use Rattle.units.specs.declared.Grid as declared
 use Rattle.units.specs.Grid.{grid_of}
 use Rattle.program.specs.Records as program
-use Rattle.program.specs.Laws.Totals.{found_call}
+use Rattle.program.proofs.Laws.Totals.{found_call}
 use Rattle.stages.specs.declared.Stage.{Stage}
 use Rattle.stages.specs.declared.Stage.TheVariants.{Start, Gridded, Loaded}
 use Rattle.stages.specs.declared.Fault.{Fault}

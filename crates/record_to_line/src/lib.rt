@@ -17,7 +17,7 @@ use stages::{Stage, cells_of, fault_number, grid_of, grid_refusal, settled};
 use units::{Answer, Grid, LEDGER_BLOCK, PROGRAM_AMOUNTS, PROGRAM_CELLS, PROGRAM_LEDGER, number};
 
 // What comes of a record: nothing, a line and the next stage, or the program's last line.
-#[derive(Drop)]
+#[derive(Clone, Copy)]
 pub enum Outcome {
     Nothing,
     Next(Line, Stage),

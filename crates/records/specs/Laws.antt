@@ -5,7 +5,7 @@ use Rattle.std.proofs.Common.{sym, ◌∙◌, ap, ap₂, arith, length-drop, dro
 use Rattle.model.specs.Basic.{at}
 use Rattle.model.specs.World as model
 use Rattle.program.specs.Records as program
-use Rattle.program.specs.Laws.Records.{needed_none, needed_body, found_misplaced, found_short, found_command}
+use Rattle.program.proofs.Laws.Records.{needed_none, needed_body, found_misplaced, found_short, found_command}
 use Rattle.stages.specs.Buffers.{Buffers, empty}
 use Rattle.stages.specs.Limits.{program_body}
 use Rattle.stages.specs.declared.Stage.{Stage}

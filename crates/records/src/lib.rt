@@ -21,7 +21,7 @@ pub fn body_bytes(stage: Stage, kind: u8) -> usize
 }
 
 // What the reader finds at the start of some bytes: nothing, a fault, or a record with its whole body.
-#[derive(Drop)]
+#[derive(Clone, Copy)]
 pub enum Found {
     Nothing,
     Faulty(Fault),

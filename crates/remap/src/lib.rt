@@ -191,7 +191,7 @@ fn move_column(
 }
 
 // The steps of all walks, and exactly the pairs of an old and a new layer that share air, in all columns.
-#[derive(Drop)]
+#[derive(Clone, Copy)]
 struct Moved {
     steps: usize,
     count: u32,

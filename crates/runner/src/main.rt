@@ -1,6 +1,6 @@
 // The runner program.
 #![tactic(auto)]
 
-fn main() {
-    console::run();
+fn main(rt: HostRuntime) {
+    console::run(&rt);
 }

@@ -11,7 +11,7 @@ use units::{Air, FIXED_LIMITER, Limiter, Mismatch, POSITIVE_LIMITER, SCALE, Trac
 const TWICE_SCALE: u64 = 2 * SCALE;
 
 // What passes a face towards its high side and towards its low side; one of the two is 0.
-#[derive(Drop)]
+#[derive(Clone, Copy)]
 pub struct Flux {
     pub to_high: Air,
     pub to_low: Air,

@@ -13,7 +13,7 @@ use units::{
 };
 
 // What the records so far have set up: nothing, a grid, a world in the program's buffers.
-#[derive(Drop)]
+#[derive(Clone, Copy)]
 pub enum Stage {
     Start,
     Gridded(Grid),
@@ -21,7 +21,7 @@ pub enum Stage {
 }
 
 // The program's own refusals.
-#[derive(Drop)]
+#[derive(Clone, Copy)]
 pub enum Fault {
     Kind,
     Length,

@@ -68,28 +68,28 @@ pub const PROGRAM_FACES: usize = 2118; // of a layer that the program takes
 pub const PROGRAM_BODY: usize = 24576; // bytes of the longest body of a record
 
 // Air units and tracer units are separate counts: an amount of one is never added to an amount of the other.
-#[derive(Drop)]
+#[derive(Clone, Copy)]
 pub struct Air(pub u32);
 
-#[derive(Drop)]
+#[derive(Clone, Copy)]
 pub struct Tracer(pub u32);
 
 // Sums of air units and of tracer units, in 64 bits.
-#[derive(Drop)]
+#[derive(Clone, Copy)]
 pub struct AirSum(pub u64);
 
-#[derive(Drop)]
+#[derive(Clone, Copy)]
 pub struct TracerSum(pub u64);
 
 // A mismatch as its size and its sign.
-#[derive(Drop)]
+#[derive(Clone, Copy)]
 pub struct Mismatch {
     pub size: u64,
     pub positive: bool,
 }
 
 // A tracer's limiter: its number, 1 to 3, and its bounds, in the ratio's scale. A number that is none of these is refused where a call tests it.
-#[derive(Drop)]
+#[derive(Clone, Copy)]
 pub struct Limiter {
     pub number: u32,
     pub lo: u64,
@@ -97,7 +97,7 @@ pub struct Limiter {
 }
 
 // W columns, R rows, K layers, N tracers.
-#[derive(Drop)]
+#[derive(Clone, Copy)]
 pub struct Grid {
     pub w: u32,
     pub r: u32,
@@ -106,7 +106,7 @@ pub struct Grid {
 }
 
 // The place that refuses a call.
-#[derive(Drop)]
+#[derive(Clone, Copy)]
 pub enum Refusal {
     GridRange,
     Lengths,
@@ -130,14 +130,14 @@ pub enum Refusal {
 }
 
 // What a call answers: accepted, with its count, or refused.
-#[derive(Drop)]
+#[derive(Clone, Copy)]
 pub enum Answer {
     Accepted(u32),
     Refused(Refusal),
 }
 
 // What a call answers whose count has 64 bits.
-#[derive(Drop)]
+#[derive(Clone, Copy)]
 pub enum WideAnswer {
     Accepted(u64),
     Refused(Refusal),

@@ -8,8 +8,8 @@ use Rattle.model.proofs.OnRecord.{OnRecord, kept_on_record}
 use Rattle.program.specs.Records.{start, make, command}
 use Rattle.program.specs.Lines.{Entry, entries, lines, run}
 use Rattle.program.specs.Totals.{Since, nothing_yet, since, world_now}
-use Rattle.program.specs.Laws.Lines.{run_lines}
-use Rattle.program.specs.Laws.Totals.{all_say, total_said}
+use Rattle.program.proofs.Laws.Lines.{run_lines}
+use Rattle.program.proofs.Laws.Totals.{all_say, total_said}
 
 -- Taking a kind, then the bytes it needs or what is left, then carrying the record out, until it ends, gives exactly the defined lines
 pub program_prints : (bytes : List ℕ) (turns : ℕ) → length bytes ≤ turns → run turns start bytes ≡ lines bytes

@@ -3,7 +3,7 @@ use Rattle.std.specs.Prelude.{ℕ, zero, suc, ◌≤◌, List, [], ◌∷◌, �
 use Rattle.std.proofs.Common.{sym, ◌∙◌, ap, arith, length-drop}
 use Rattle.program.specs.Records.{State, Line, Outcome, none, onward, last, found, needed, outcome_of}
 use Rattle.program.specs.Lines.{entry, entries_from, lines_of, run}
-use Rattle.program.specs.Laws.Records.{found_taken}
+use Rattle.program.proofs.Laws.Records.{found_taken}
 
 -- ---- the first record of some bytes
 module _ (s : State) (byte : ℕ) (bytes : List ℕ) where

@@ -4,7 +4,7 @@ use Rattle.std.proofs.Common.{append_assoc, ◌∙◌, arith}
 use Rattle.std.proofs.Math.Path.{sym, ap}
 use Rattle.model.specs.World.{block, gas_total}
 use Rattle.model.specs.Books.{loaded_sum, emitted_sum, withdrawn_sum}
-use Rattle.model.specs.Step.{Call, total, Result, accepted, step}
+use Rattle.model.specs.Step.{Call, total, Result, accepted}
 use Rattle.model.specs.Lists.{history}
 use Rattle.model.proofs.Laws.Step.{step_accepted, answer_is}
 use Rattle.model.proofs.Laws.Lists.{history_append}
@@ -12,7 +12,7 @@ use Rattle.model.proofs.OnRecord.{accepted_balances}
 use Rattle.program.specs.Records.{start, make, command}
 use Rattle.program.specs.Lines.{Entry, entries, run}
 use Rattle.program.specs.Totals.{Since, nothing_yet, since, world_now}
-use Rattle.program.specs.Program.{program_prints, printed_calls, printed_totals}
+use Rattle.program.proofs.Program.{program_prints, printed_calls, printed_totals}
 
 -- institutes that run the same input get the same lines, however many turns their loops may make beyond those that the input needs
 pub same_lines_lem : (bytes : List ℕ) (turns more : ℕ) → length bytes ≤ turns → length bytes ≤ more → run turns start bytes ≡ run more start bytes

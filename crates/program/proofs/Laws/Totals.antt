@@ -14,8 +14,8 @@ use Rattle.model.proofs.Demand3.{calls_keep}
 use Rattle.model.proofs.OnRecord.{OnRecord, loaded_on_record}
 use Rattle.program.specs.Records.{Kind, unknown, grid_kind, load_kind, emission_kind, withdrawal_kind, zonal_kind, meridional_kind, remap_kind, total_kind, cell_kind, kind_of, State, start, gridded, loaded, world_of, grid_of, is_loaded, in_place, body_length, command_of, grid_refusal, Command, set_grid, set_world, make, Finding, nothing, fault, command, Line, line, after_load, Outcome, none, onward, last, found, needed, carried_out, outcome_of}
 use Rattle.program.specs.Lines.{Entry, entry, entries_from}
-use Rattle.program.specs.Laws.Lines.{first_outcome, entries_none, entries_onward, entries_last}
-use Rattle.program.specs.Laws.Records.{found_misplaced, found_short, found_command}
+use Rattle.program.proofs.Laws.Lines.{first_outcome, entries_none, entries_onward, entries_last}
+use Rattle.program.proofs.Laws.Records.{found_misplaced, found_short, found_command}
 use Rattle.program.specs.Totals.{Since, noted, since, world_now}
 
 -- ---- what is noted stands behind a state: nothing before a load; then the loaded world is reached by the noted calls, none of which is a load, and the books began with the load

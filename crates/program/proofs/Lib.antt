@@ -1,0 +1,4 @@
+pub mod Laws
+pub mod Program
+pub mod Cases
+pub mod Corollaries
