@@ -165,7 +165,7 @@ def length_name(lent):
 def proved_number(theorem):
     """The number that a theorem of the model, named as FILE NAME, ends with."""
     path, _, name = theorem.partition(" ")
-    text = open("crates/model/specs/%s.antt" % path, encoding="utf-8").read()
+    text = open("crates/model/proofs/%s.antt" % path, encoding="utf-8").read()
     found = re.search(r"^pub %s : [^\n]* ≡ (\d+)$" % re.escape(name), text, re.MULTILINE)
     return int(found.group(1)) if found else None
 
@@ -236,9 +236,9 @@ def read_stack(calls):
 def check_boundary(calls):
     """Fails unless the table and the exported functions of crates/boundary have the same names and parameters."""
     source = open("crates/boundary/src/lib.rt", encoding="utf-8").read()
-    shape = r'#\[no_mangle\]\s*pub extern "C" fn (puldeho_raw_\w+)\((.*?)\) -> (u32|u64)\n'
+    shape = r'#\[unsafe\(no_mangle\)\]\s*pub extern "C" fn (puldeho_raw_\w+)\((.*?)\) -> (u32|u64)\n'
     exported = {name: (parameters(text), returns) for name, text, returns in re.findall(shape, source, re.S)}
-    if len(exported) != source.count("#[no_mangle]"):
+    if len(exported) != source.count("#[unsafe(no_mangle)]"):
         sys.exit("crates/boundary/src/lib.rt: an exported function does not have the form that tools/bindings reads")
     grid = [Parameter(letter, "u32") for letter in GRID]
     table = {export.name: (grid + call.parameters, export.returns) for call in calls for export in exports(call)}

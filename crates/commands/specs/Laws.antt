@@ -1,4 +1,4 @@
--- Laws that the parser's proof cites: a body's length, and a command of a kind that is told.
+-- Laws of the parser: a body's length, and a command of a kind that is told.
 use Rattle.std.specs.Prelude.{ℕ, ◌≤◌, List, ◌≡◌, length}
 use Rattle.std.proofs.Common.{sym, subst}
 use Rattle.program.specs.Records as program

@@ -90,7 +90,7 @@ fn step_rows(
     rows
 }
 
-// The row of each of the first n tracers, from its part of the lent amounts: tracer t's starts at `first` past typeof.t.K.C.
+// The row of each of the first n tracers, from its part of the lent amounts: tracer t's starts at `first` past t·K·C.
 pub fn load_rows(
     tracers: &[u32],
     first: usize,

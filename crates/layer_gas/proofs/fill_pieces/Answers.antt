@@ -1,0 +1,35 @@
+-- `layer_gas::fill_pieces` meets its contract.
+use Rattle.std.proofs.Common.{◌≡◌, ◌∙◌, arith, rules}
+use Rattle.model.specs.Sweep.{layer}
+use Rattle.units.specs.Limiter.{limiter_of}
+use Rattle.substep.specs.Faces.{same_none, same_more}
+use Rattle.layer.specs.Cells.{layer_faces}
+use Rattle.layer_gas.specs.Gas.{gives_north, gives_south, piece_north, piece_south}
+use Rattle.layer_gas.proofs.fill_pieces.Goals as goal
+
+pub loop-i-init : goal.loop-i-init
+loop-i-init c = (search rules, search rules, search rules, same_none _ _)
+
+pub northward-p-requires : goal.northward-p-requires
+northward-p-requires c = gives_north (limiter_of c.args.l) c.requires.0 c.requires.1 c.loop-i.i (omega arith)
+
+pub southward-r-requires : goal.southward-r-requires
+southward-r-requires c = gives_south (limiter_of c.args.l) c.requires.0 c.requires.1 c.loop-i.i (omega arith)
+
+pub loop-i-preserved : goal.loop-i-preserved
+loop-i-preserved c =
+    let l = c.loop-i in
+    let limiter = limiter_of c.args.l in (
+      search rules,
+      search rules,
+      search rules,
+      same_more l.gasup l.gasdown (search rules) (search rules) l.invariant.3
+          (c.northward-p.ensures ∙ piece_north limiter c.requires.0 c.requires.1 l.i (omega arith))
+          (c.southward-r.ensures ∙ piece_south limiter c.requires.0 c.requires.1 l.i (omega arith)),
+    )
+
+pub returns : goal.returns
+returns c =
+    let l = c.loop-i in
+    let done : l.i ≡ (layer c.args.w c.args.rows).faces = omega (arith, layer_faces c.args.w c.args.rows) in
+    rw done at l.invariant.3
