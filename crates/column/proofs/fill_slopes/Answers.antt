@@ -6,9 +6,9 @@ use Rattle.units.specs.Limiter.{limiter_of}
 use Rattle.column.specs.Slopes.{slopes_same}
 use Rattle.column.proofs.fill_slopes.Goals as goal
 
-pub returns : goal.returns
-returns c =
+pub returns-then-l-eq-PRESENT_LIMITER : goal.returns-then-l-eq-PRESENT_LIMITER
+returns-then-l-eq-PRESENT_LIMITER c =
     let a = c.args in
     let l = limiter_of a.l in
-    let same = rule_first first_limiter refl ∙ sym (rule_first l c.if-l.true) in
+    let same = rule_first first_limiter refl ∙ sym (rule_first l c.if-l-eq-PRESENT_LIMITER.true) in
     slopes_same first_limiter l same a.cap a.k a.q.now c.fill_slopes_by.ensures

@@ -1,5 +1,5 @@
 -- The lists hold the mismatches of the layers passed.
-use Rattle.std.proofs.Common.{◌+◌, ◌-◌, ◌≡◌, ◌<◌}
+use Rattle.std.proofs.Common.{◌-◌, ◌≡◌, ◌<◌}
 use Rattle.units.specs.Limiter.{limiter_of}
 use Rattle.model.specs.Basic.{at}
 use Rattle.line.specs.Slopes.{SlopesTo}
