@@ -50,7 +50,7 @@ returns-else-air_serves c =
     let row = found (goal.at.returns-else-air_serves c).Then-number-eq0 in
     let tested = c.air_serves.ensures ∙ fits_is row.row c.args.layer c.args.row row.start in
     stop (past_turn row c.row_air-all.ensures c.fluxes_fit.ensures c.if-fluxes_fit.true) (fails tested c.if-air_serves.false)
-        c.not_placed-else-air_serves.ensures refl
+    c.not_placed-else-air_serves.ensures refl
 
 pub returns : goal.returns
 returns c =
