@@ -291,7 +291,7 @@ fn main() -> ExitCode {
     match arguments.first().map(String::as_str) {
         Some("--script") => script(number(1, 2_000)),
         Some("runner") => {
-            let program = arguments.get(2).map_or("target/bin/runner", String::as_str);
+            let program = arguments.get(2).map_or("crates/runner/out/runner", String::as_str);
             return runner::compare(number(1, 20_000), program);
         }
         Some("long-run") => std::io::stdout()

@@ -1,6 +1,5 @@
 """Proofs and builds: the prover's lines go to a log; standard error says what is done, how far it is and how long it takes."""
 import os
-import re
 import subprocess
 import sys
 import time
@@ -18,7 +17,8 @@ def crates_of(top, name):
     """The crates that a crate is proved with: itself and what it depends on; the toolchain's libraries are not counted."""
     with open(os.path.join(top, "crates.txt"), encoding="utf-8") as file:
         lines = [line.partition("#")[0].partition(":") for line in file]
-    depends = {crate.strip(): rest.split() for crate, colon, rest in lines if colon}
+    # after the name of a static library stands staticlib
+    depends = {crate.split()[0]: rest.split() for crate, colon, rest in lines if colon}
     found, left = set(), [name]
     while left:
         crate = left.pop()
@@ -57,7 +57,7 @@ class Progress:
             return
         if self.last is None:
             print(self.what, file=sys.stderr, flush=True)
-        proved = sum(1 for line in read_lines(self.log) if re.match(r"rt: \w+ proved \(", line))
+        proved = sum(1 for line in read_lines(self.log) if line.startswith("logic=proved "))
         self.say("%d of %d crates, %d s" % (proved, len(self.crates), seconds))
 
     def end(self):
@@ -78,12 +78,12 @@ def follow(child, progress):
     progress.end()
 
 
-def build(top, what, command, log, crates, prover_log=None):
-    """Runs a command that proves and builds. `what` says on standard error what it does, if that takes a while."""
+def build(top, what, command, log, crates, prover_log=None, place=None):
+    """Runs a command that proves and builds, at the top or at a place. `what` says on standard error what it does, if that takes a while."""
     os.makedirs(os.path.dirname(log), exist_ok=True)
     with open(log, "wb") as lines:
         try:
-            child = subprocess.Popen(command, cwd=top, stdin=subprocess.DEVNULL, stdout=lines, stderr=subprocess.STDOUT)
+            child = subprocess.Popen(command, cwd=place or top, stdin=subprocess.DEVNULL, stdout=lines, stderr=subprocess.STDOUT)
         except OSError as error:
             raise Failed("%s cannot be started: %s" % (command[0], error.strerror)) from None
         try:
