@@ -1,10 +1,10 @@
 -- What `emitter_place` finds: the named tracer's block, with a record that fits, and the tracer's total; and the calls that are tested so.
 -- Assumes of a call only that it lends no list of its own.
-use Rattle.std.specs.Prelude.{ℕ, suc, ◌+◌, ◌*◌, ◌-◌, ◌≤◌, ◌<◌, List, [], ◌∷◌, Bool, true, false, not, ◌||◌, ◌≡◌, ltb, leb, length}
+use Rattle.std.specs.Prelude.{ℕ, suc, ◌+◌, ◌*◌, ◌-◌, ◌≤◌, ◌<◌, List, [], ◌∷◌, Bool, true, false, not, ◌||◌, ◌≡◌, leb, length}
 use Rattle.std.proofs.Math.Path.{refl}
 use Rattle.std.proofs.Common.{sym, ap, ◌∙◌, mul-le-mul_right, arith}
-use Rattle.model.specs.Limits.{total_limit, most_emitters, block_numbers, most_tracers}
-use Rattle.model.specs.Basic.{at, part, every}
+use Rattle.model.specs.Limits.{most_emitters, block_numbers, most_tracers}
+use Rattle.model.specs.Basic.{part, every}
 use Rattle.model.specs.World.{World, world_cells, block, gas_total}
 use Rattle.model.specs.Emitters.{standing, emitter_cell, kept_units, has_id, record_fits}
 use Rattle.model.specs.Step.{Call, Place, place, absent, no_room, broken_record, meaning, first_of, own_places, lent_fits, refusal, add_emitter, remove_emitter, tick, units_a_tick}

@@ -56,7 +56,7 @@ fn long_place(
     place
 }
 
-// The row of each of the n tracers, by its own limiter, one after the other, from the row's air before the sweep: tracer t's starts at `first` past typeof.t.K.C.
+// The row of each of the n tracers, by its own limiter, one after the other, from the row's air before the sweep: tracer t's starts at `first` past t·K·C.
 fn sweep_rows(
     tracers: &mut [u32],
     ledger: &[u32],

@@ -66,21 +66,21 @@ module _ {g : Grid} {tracers ledger air : List ℕ} {flow : Flow} {first : ℕ} 
   abbrev width : ℕ
   width = layer_cells g
 
-  abbrev gas_of_lem : ℕ → List ℕ
-  gas_of_lem t = part tracers (t * all) all
+  abbrev gas_of : ℕ → List ℕ
+  gas_of t = part tracers (t * all) all
 
   length_passed : (rule : Rule) (gas : List ℕ) → length (stepped rule (layer g.W g.R) flow air gas) ≡ width
   unfolding layer
   length_passed rule gas = length_after_flow (layer g.W g.R) _ gas
 
-  length_gas_of : {t : ℕ} → t < g.N → length (gas_of_lem t) ≡ all
+  length_gas_of : {t : ℕ} → t < g.N → length (gas_of t) ≡ all
   length_gas_of h = length_gas tracers g.N all need.tracers_long h
 
   pub swept_changes : Changes tracers g.N all (swept_one g tracers ledger air flow first)
   swept_changes =
       record {
         long = need.tracers_long;
-        sized = λ t h. length_written (gas_of_lem t) _ first width all (length_gas_of h) (length_passed _ _) need.inside;
+        sized = λ t h. length_written (gas_of t) _ first width all (length_gas_of h) (length_passed _ _) need.inside;
       }
 
   -- where tracer t's layer lies
@@ -105,7 +105,7 @@ module _ {g : Grid} {tracers ledger air : List ℕ} {flow : Flow} {first : ℕ} 
     abbrev lent : List ℕ
     lent = part now (t * cells + first) (t * cells + first + wide - (t * cells + first))
 
-    lent_is : lent ≡ part (gas_of_lem t) first width
+    lent_is : lent ≡ part (gas_of t) first width
     lent_is =
         part_lent now (t * cells + first) wide ∙
         ap₂ (λ (m k : ℕ). part now (t * m + first) k) same alike ∙
@@ -120,10 +120,10 @@ module _ {g : Grid} {tracers ledger air : List ℕ} {flow : Flow} {first : ℕ} 
         rw lent_is
         (record {
           air_long = need.air_long;
-          gas_long = length_part (gas_of_lem t) first width (rw (length_gas_of h) need.inside);
+          gas_long = length_part (gas_of t) first width (rw (length_gas_of h) need.inside);
           air_in = need.air_in;
           permits = need.permits;
-          total = le_trans (part_sum_le all (gas_of_lem t) first width need.inside) (need.total t h);
+          total = le_trans (part_sum_le all (gas_of t) first width need.inside) (need.total t h);
         })
 
     -- one more, with the limiter l that was read
@@ -131,11 +131,11 @@ module _ {g : Grid} {tracers ledger air : List ℕ} {flow : Flow} {first : ℕ} 
         put_mid (t * cells + first) (t * cells + first + wide - (t * cells + first)) now new ≡ swept_up_to g tracers ledger air flow first (t + 1)
     swept_more {l} read {new} f =
         let long : length new ≡ width = ap length f ∙ length_passed (rule_for l) lent in
-        let own : new ≡ stepped (rule_for (limiter_at ledger t)) (layer g.W g.R) flow air (part (gas_of_lem t) first width) =
+        let own : new ≡ stepped (rule_for (limiter_at ledger t)) (layer g.W g.R) flow air (part (gas_of t) first width) =
         f ∙ ap₂ (λ (l : Limiter) (gas : List ℕ). stepped (rule_for l) (layer g.W g.R) flow air gas) read lent_is in
         put_back now new (t * cells + first) wide (long ∙ sym alike) ∙
         ap (λ (m : ℕ). written now (t * m + first) new) same ∙
-        part_more swept_changes h e new first (omega (arith, need.inside)) (ap (written (gas_of_lem t) first) own)
+        part_more swept_changes h e new first (omega (arith, need.inside)) (ap (written (gas_of t) first) own)
 
 -- with the room that `sweep_tracers` declares
 pub step_need : {g : Grid} → InRange g → {air gas airup airdown q gasup gasdown : List ℕ} → Rooms airup airdown → length q ≡ most_layer_cells →

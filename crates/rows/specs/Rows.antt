@@ -78,13 +78,13 @@ stored_up_to tracers first cells w t rows = stored_rows tracers first cells w t 
 
 module _ {tracers : List ℕ} {first cells w n : ℕ} {rows : List (List ℕ)} (need : StoreNeed tracers first cells w n rows) where
   -- tracer t's amounts, and with its row written
-  abbrev gas_of_lem : ℕ → List ℕ
-  gas_of_lem t = part tracers (t * cells) cells
+  abbrev gas_of : ℕ → List ℕ
+  gas_of t = part tracers (t * cells) cells
 
   abbrev stored : ℕ → List ℕ
-  stored t = written (gas_of_lem t) first (row_of w rows t)
+  stored t = written (gas_of t) first (row_of w rows t)
 
-  length_gas_of : (t : ℕ) → t < n → length (gas_of_lem t) ≡ cells
+  length_gas_of : (t : ℕ) → t < n → length (gas_of t) ≡ cells
   length_gas_of t h =
       let below : suc t * cells ≤ n * cells = mul-le-mul_right cells h in
       length_part tracers (t * cells) cells (omega (arith, need.fit.long))
@@ -98,7 +98,7 @@ module _ {tracers : List ℕ} {first cells w n : ℕ} {rows : List (List ℕ)} (
 
   length_stored : (t : ℕ) → t < n → length (stored t) ≡ cells
   length_stored t h =
-      length_written (gas_of_lem t) (row_of w rows t) first w cells (length_gas_of t h) (length_row_of t h) need.fit.row_inside
+      length_written (gas_of t) (row_of w rows t) first w cells (length_gas_of t h) (length_row_of t h) need.fit.row_inside
 
   length_stored_rows : (t : ℕ) → t ≤ n → length (stored_rows tracers first cells w t rows) ≡ t * cells
   length_stored_rows t h = length_joined cells (tab t stored) each ∙ ap (λ (m : ℕ). m * cells) (length_tab t stored)
@@ -129,15 +129,15 @@ module _ {tracers : List ℕ} {first cells w n : ℕ} {rows : List (List ℕ)} (
       put_mid (t * cells + first) (t * cells + first + w - (t * cells + first)) now new ≡ stored_up_to tracers first cells w (t + 1) rows
   stored_more t h {now} {new} e f =
       let base = length_stored_rows t (omega arith) in
-      let rest : drop (t * cells) tracers ≡ gas_of_lem t ++ drop ((t + 1) * cells) tracers =
-      sym (take-append-drop cells (drop (t * cells) tracers)) ∙ ap (λ (l : List ℕ). gas_of_lem t ++ l) (past t) in
+      let rest : drop (t * cells) tracers ≡ gas_of t ++ drop ((t + 1) * cells) tracers =
+      sym (take-append-drop cells (drop (t * cells) tracers)) ∙ ap (λ (l : List ℕ). gas_of t ++ l) (past t) in
       let copied : new ≡ row_of w rows t = f ∙ front_lent (get_or rows t []) w in
       let long : length new ≡ w = ap length copied ∙ length_row_of t h in
       put_back now new (t * cells + first) w long ∙
       ap (λ (l : List ℕ). written l (t * cells + first) new) (e ∙ ap (λ (l : List ℕ). done t ++ l) rest) ∙
-      ap (λ (k : ℕ). written (done t ++ (gas_of_lem t ++ drop ((t + 1) * cells) tracers)) (k + first) new) (sym base) ∙
-      written_middle (done t) (gas_of_lem t) (drop ((t + 1) * cells) tracers) new first (omega (arith, length_gas_of t h, need.fit.row_inside)) ∙
-      ap (λ (r : List ℕ). done t ++ (written (gas_of_lem t) first r ++ drop ((t + 1) * cells) tracers)) copied ∙
+      ap (λ (k : ℕ). written (done t ++ (gas_of t ++ drop ((t + 1) * cells) tracers)) (k + first) new) (sym base) ∙
+      written_middle (done t) (gas_of t) (drop ((t + 1) * cells) tracers) new first (omega (arith, length_gas_of t h, need.fit.row_inside)) ∙
+      ap (λ (r : List ℕ). done t ++ (written (gas_of t) first r ++ drop ((t + 1) * cells) tracers)) copied ∙
       sym (append_assoc (done t) (stored t) (drop ((t + 1) * cells) tracers)) ∙
       ap (λ (l : List ℕ). l ++ drop ((t + 1) * cells) tracers) (sym (joined_more t stored))
 

@@ -73,14 +73,14 @@ module _ {rows : List (List ℕ)} {ledger air : List ℕ} {fluxes : List ℤ} {n
     unfolding ring
     rows_may_step =
         let serving = need.serving in
-        let in_range_lem = air_after_in (row_mesh fluxes) (ring_regular _) fluxes air n need.air_in serving s (le_of_lt inside) in
+        let in_range = air_after_in (row_mesh fluxes) (ring_regular _) fluxes air n need.air_in serving s (le_of_lt inside) in
         record {
           few = need.few;
           blocks = need.blocks;
           wide_rows = reached.wide_rows;
           wide = rw reached.long need.row.wide;
           room = rw reached.long room;
-          air_in = rw (reached.long, reached.air_is) in_range_lem;
+          air_in = rw (reached.long, reached.air_is) in_range;
           permits = step_allowed;
           total = rw reached.long reached.total;
         }
