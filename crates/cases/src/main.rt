@@ -120,85 +120,69 @@ fn columns(rt: &impl Print) -> io::Result<()> {
     report(rt, b"m10", refused, &thin, &none)
 }
 
-fn marked(rt: &impl Print) -> io::Result<()> {
+fn main(rt: HostRuntime) -> io::Result<()> {
     let even = [100u32; 6];
     let peak = [0, 0, 100, 200, 100, 0];
-    case(rt, b"m1", even, peak, [0, 50, 0, 0])?;
-    case(rt, b"m2", even, peak, [0 - 50, 0, 0, 0])?;
-    case(rt, b"m3", even, peak, [0, 0, 50, 0])?;
-    case(rt, b"m4", even, peak, [0, 99, 0, 0])?;
-    case(rt, b"m5", even, peak, [0, 100, 0, 0])?;
-    case(rt, b"m6", even, [300u32; 6], [150, 150, 150, 150])?;
-    case(rt, b"m7", even, peak, [1600, 1600, 1600, 1600])?;
-    case(rt, b"m8", even, peak, [1601, 1601, 1601, 1601])?;
-    Ok(())
-}
-
-fn further(rt: &impl Print) -> io::Result<()> {
-    let even = [100u32; 6];
+    case(&rt, b"m1", even, peak, [0, 50, 0, 0])?;
+    case(&rt, b"m2", even, peak, [0 - 50, 0, 0, 0])?;
+    case(&rt, b"m3", even, peak, [0, 0, 50, 0])?;
+    case(&rt, b"m4", even, peak, [0, 99, 0, 0])?;
+    case(&rt, b"m5", even, peak, [0, 100, 0, 0])?;
+    case(&rt, b"m6", even, [300u32; 6], [150, 150, 150, 150])?;
+    case(&rt, b"m7", even, peak, [1600, 1600, 1600, 1600])?;
+    case(&rt, b"m8", even, peak, [1601, 1601, 1601, 1601])?;
     case(
-        rt,
+        &rt,
         b"x1",
         [100, 928, 314, 81, 658, 100],
         [0, 221, 496, 522, 317, 0],
         [421, 462, 475, 229],
     )?;
     case(
-        rt,
+        &rt,
         b"x2",
         even,
         [0, 3, 1, 8, 5, 0],
         [0 - 151, 0 - 151, 0 - 151, 0 - 151],
     )?;
     case(
-        rt,
+        &rt,
         b"x5",
         [100, 1, 1000, 1000, 1000, 100],
         [0u32; 6],
         [9, 0, 0, 10],
     )?;
     case(
-        rt,
+        &rt,
         b"x5",
         [100, 1, 1000, 1000, 1000, 100],
         [0u32; 6],
         [20, 0, 0, 21],
     )?;
     case(
-        rt,
+        &rt,
         b"y6-1",
         [100, 57676, 34847, 38263, 33495, 100],
         [0, 56, 34, 39, 34, 0],
         [8104, 8176, 3143, 1267],
     )?;
     case(
-        rt,
+        &rt,
         b"y6-12",
         [100, 2, 65535, 1, 5, 100],
         [0, 0, 268435455, 0, 0, 0],
         [1, 65535, 1, 0],
     )?;
-    Ok(())
-}
-
-fn sweeps(rt: &impl Print) -> io::Result<()> {
-    long_case(rt, b"y1-1", [0, 50, 0, 0])?;
-    long_case(rt, b"y1-2", [400, 400, 400, 400])?;
-    long_case(rt, b"y1-3", [0 - 400, 0 - 400, 0 - 400, 0 - 400])?;
-    long_case(rt, b"y1-4", [0 - 250, 0 - 250, 0 - 230, 0 - 270])?;
-    long_case(rt, b"y1-5", [401, 400, 400, 400])?;
-    long_case(rt, b"y1-6", [100, 0, 0, 0])?;
-    long_case(rt, b"y1-7", [401, 0, 0, 0])?;
-    limited(rt, b"y7-2", 2, 0)?;
-    limited(rt, b"y7-4", 3, 851968)?;
-    from_south(rt, b"x3", 100)?;
-    from_south(rt, b"x4", 170)?;
-    Ok(())
-}
-
-fn main(rt: HostRuntime) -> io::Result<()> {
-    marked(&rt)?;
-    further(&rt)?;
-    sweeps(&rt)?;
+    long_case(&rt, b"y1-1", [0, 50, 0, 0])?;
+    long_case(&rt, b"y1-2", [400, 400, 400, 400])?;
+    long_case(&rt, b"y1-3", [0 - 400, 0 - 400, 0 - 400, 0 - 400])?;
+    long_case(&rt, b"y1-4", [0 - 250, 0 - 250, 0 - 230, 0 - 270])?;
+    long_case(&rt, b"y1-5", [401, 400, 400, 400])?;
+    long_case(&rt, b"y1-6", [100, 0, 0, 0])?;
+    long_case(&rt, b"y1-7", [401, 0, 0, 0])?;
+    limited(&rt, b"y7-2", 2, 0)?;
+    limited(&rt, b"y7-4", 3, 851968)?;
+    from_south(&rt, b"x3", 100)?;
+    from_south(&rt, b"x4", 170)?;
     columns(&rt)
 }

@@ -21,7 +21,6 @@ use Rattle.commands.specs.Command.{command_is, kind_of_command}
 use Rattle.records.specs.Found.{reading_is, FoundWhole, IsWhole, Finds}
 use Rattle.stages.specs.Laws.{plain_state_lem, grid_any}
 use Rattle.records.specs.Laws.{take_rest}
-use Rattle.lines.specs.declared.Line as lines
 use Rattle.record_to_line.specs.declared.Outcome as code
 use Rattle.record_to_line.specs.declared.Outcome.TheVariants as outcome
 use Rattle.record_to_line.specs.Outcome.{Leaves, Carries, CarryNeed, Ready, CarriesCommand}

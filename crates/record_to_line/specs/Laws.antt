@@ -1,5 +1,5 @@
 -- Laws that the proofs of the carrying functions cite: a grid's record, a load's lists, a command by its case.
-use Rattle.std.specs.Prelude.{ℕ, zero, suc, ◌+◌, ◌*◌, ◌-◌, ◌≤◌, List, ◌≡◌, refl, length}
+use Rattle.std.specs.Prelude.{ℕ, zero, suc, ◌+◌, ◌*◌, ◌≤◌, List, ◌≡◌, refl, length}
 use Rattle.std.proofs.Common.{sym, ◌∙◌, ap, subst, arith, length-take-le}
 use Rattle.model.specs.Limits.{block_numbers, program_cells}
 use Rattle.model.specs.World as model

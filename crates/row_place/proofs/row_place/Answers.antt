@@ -1,12 +1,11 @@
 -- `row_place::row_place` meets its contract: each answer from the tests that led there.
-use Rattle.std.proofs.Common.{◌<◌, length, List, refl, sym, ◌∙◌, eqb-true}
+use Rattle.std.proofs.Common.{length, refl, sym, ◌∙◌, eqb-true}
 use Rattle.model.specs.World.{World}
-use Rattle.model.specs.Step.{Place}
 use Rattle.units.specs.Grid.{world_of}
 use Rattle.places.specs.declared.Lent.TheVariants.{RowFluxes}
-use Rattle.places.specs.Walk.{Left, next, stop, placed, there, missing, fits, fails}
+use Rattle.places.specs.Walk.{next, stop, placed, there, missing, fits, fails}
 use Rattle.places.specs.Tested.{Passed}
-use Rattle.row_place.specs.RowPlace.{SweepsRow, from_row, from_fluxes, row_begins}
+use Rattle.row_place.specs.RowPlace.{row_begins}
 use Rattle.row_place.proofs.row_place.Goals as goal
 use Rattle.row_place.proofs.row_place.Goals.{Then-number-eq0, Then-layer-g, Then-row-g}
 
