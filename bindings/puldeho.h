@@ -44,23 +44,23 @@
  *
  * What is assumed of the stack: that it has room for the call, PULDEHO_STACK bytes or, of the proved
  * function under each call (return address and libc's functions included, arguments not):
- *   puldeho_raw_load                      432
- *   puldeho_raw_emission                  816
- *   puldeho_raw_withdrawal                736
- *   puldeho_raw_zonal                  25,760
- *   puldeho_raw_count_zonal            17,552
- *   puldeho_raw_zonal_with_count       25,760
- *   puldeho_raw_long_zonal             18,672
- *   puldeho_raw_meridional             93,952
- *   puldeho_raw_remap                  17,856
- *   puldeho_raw_total                     768
- *   puldeho_raw_cell                      736
- *   puldeho_raw_add_emitter             1,056
- *   puldeho_raw_remove_emitter          1,040
- *   puldeho_raw_tick                    1,056
- *   puldeho_raw_units_a_tick            1,008
- *   puldeho_raw_units_a_tick_number     1,024
- *   puldeho_raw_set_limiter               704
+ *   puldeho_raw_load                      496
+ *   puldeho_raw_emission                  640
+ *   puldeho_raw_withdrawal                512
+ *   puldeho_raw_zonal                  30,352
+ *   puldeho_raw_count_zonal            17,616
+ *   puldeho_raw_zonal_with_count       30,352
+ *   puldeho_raw_long_zonal             18,736
+ *   puldeho_raw_meridional             93,968
+ *   puldeho_raw_remap                  17,936
+ *   puldeho_raw_total                     624
+ *   puldeho_raw_cell                      512
+ *   puldeho_raw_add_emitter               848
+ *   puldeho_raw_remove_emitter            832
+ *   puldeho_raw_tick                      848
+ *   puldeho_raw_units_a_tick              832
+ *   puldeho_raw_units_a_tick_number       832
+ *   puldeho_raw_set_limiter               496
  * A function puldeho_why_NAME wants at most PULDEHO_WHY_STACK bytes.
  */
 #ifndef PULDEHO_H
@@ -111,7 +111,7 @@
 #define PULDEHO_LEDGER_BLOCK 59
 
 /* The deepest stack of all calls, in bytes, and room enough for each function that says why one was refused. */
-#define PULDEHO_STACK 93952
+#define PULDEHO_STACK 93968
 #define PULDEHO_WHY_STACK 131072
 
 /* What a compiler that knows them warns of: a result that nobody looks at, a null pointer, and a list that is shorter
