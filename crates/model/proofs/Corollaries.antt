@@ -46,7 +46,7 @@ in_units n there air had f M T holds =
       above = (b.0, b.1, high.0, unit_above _ _ M T f (ltb-true _ _ high.1));
     }
 
--- .. after a substep, a remap and a long sweep, for all that `HoldsAt.inRange` says of them
+-- .. after a substep, a remap and a long sweep, for all that `HoldsAt.in_range` says of them
 pub substep_in_units :
     (mesh : Mesh) (air had new_air new_gas : List ℕ) (c : ℕ) → substep_in_range mesh air had new_air new_gas c ≡ true →
     InUnits mesh.cells (is_near mesh c) air had (face_count (mesh.sides c) + 1) (at new_air c) (at new_gas c)

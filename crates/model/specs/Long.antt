@@ -25,7 +25,7 @@ line_air W air j = sum j (λ i. at air (i % W))
 abbrev pub turns : ℕ
 turns = 3
 
--- "Let G be as in the remap .. and carry it round so that one full turn adds the row's total" (`Carried-first`, `carried_turn`, Laws/Long)
+-- "Let G be as in the remap .. and carry it round so that one full turn adds the row's total" (`carried_first`, `carried_turn`, Laws/Long)
 unfoldable pub carried : Rule → ℕ → List ℕ → List ℕ → ℕ → ℕ
 carried rule W air gas x = amount_above (tab (turns * W) (line_cell rule W air gas)) x
 

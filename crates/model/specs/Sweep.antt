@@ -32,7 +32,7 @@ unfoldable pub ring : ℕ → Mesh
 ring W =
     record { cells = W; faces = W; low_cell = λ i. i; high_cell = east_of W; sides = λ i. between (west_of W i) i }
 
--- The layer of W columns and R rows between two caps, n = R-as-W: "flux g·W + i crosses between rows g − 1 and g in column i .. row −1 is the south cap, row R the north cap. High side is north."
+-- The layer of W columns and R rows between two caps, n = R·W: "flux g·W + i crosses between rows g − 1 and g in column i .. row −1 is the south cap, row R the north cap. High side is north."
 -- Cell 1 + j is column i of row r with j = r·W + i; its low face is j and its high face W + j.
 abbrev pub south_of : ℕ → ℕ → ℕ
 south_of W f = elim (ltb f W) [ true ↦ 0 | false ↦ 1 + (f - W) ]

@@ -14,7 +14,7 @@ pub record Grid : Type 0 where
 abbrev pub layer_cells : Grid → ℕ
 layer_cells g = 2 + g.R * g.W
 
--- all cells of the world, K-as-C of them
+-- all cells of the world, K·C of them
 abbrev pub world_cells : Grid → ℕ
 world_cells g = g.K * layer_cells g
 

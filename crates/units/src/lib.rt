@@ -252,7 +252,7 @@ pub fn layer_cells(g: Grid) -> u32
     2 + r * w
 }
 
-// K.C, all cells of the world.
+// K·C, all cells of the world.
 pub fn world_cells(g: Grid) -> u32
     requires { InRange g }
     ensures { (result ≡ world_cells (grid_of g)) × (result ≤ most_cells) }
