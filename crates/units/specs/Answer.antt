@@ -1,11 +1,7 @@
 -- Document 01's number and count for each case of the answer enum, and what a public call promises.
-use Rattle.std.specs.Prelude.{ℕ, ◌≡◌}
+use Rattle.std.specs.Prelude.{ℕ, ◌≡◌, Result, Ok, Err}
 use Rattle.model.specs.World.{World}
 use Rattle.model.specs.Step.{Call, step}
-use Rattle.units.specs.declared.Answer.{Answer}
-use Rattle.units.specs.declared.Answer.TheVariants.{Accepted, Refused}
-use Rattle.units.specs.declared.WideAnswer.{WideAnswer}
-use Rattle.units.specs.declared.WideAnswer.TheVariants as wide
 use Rattle.units.specs.declared.Refusal.{Refusal}
 use Rattle.units.specs.declared.Refusal.TheVariants.{GridRange, Lengths, AirRange, Totals, Index, Emission, Withdrawal, Fluxes, Zonal, Meridional, Table, Remap, LongFlux, LongAir, EmitterAdded, EmitterAbsent, GivenCount, Limiters, Books}
 
@@ -32,31 +28,17 @@ refusal_number Limiters = 21
 refusal_number Books = 22
 
 -- "answer (0 if accepted)", else the refusal's number
-abbrev pub number_of : Answer → ℕ
-number_of (Accepted n) = 0
-number_of (Refused r) = refusal_number r
+abbrev pub number_of : {Count : Type 0} → Result Count Refusal → ℕ
+number_of (Ok n) = 0
+number_of (Err r) = refusal_number r
 
 -- "Each refusal returns its number with count 0"
-abbrev pub count_of : Answer → ℕ
-count_of (Accepted n) = n
-count_of (Refused r) = 0
+abbrev pub count_of : Result ℕ Refusal → ℕ
+count_of (Ok n) = n
+count_of (Err r) = 0
 
 -- What every public call promises, made in the world w and leaving the world `next`: number, count and every lent number at exit are `step`'s
-pub record Agrees (w : World) (call : Call) (answer : Answer) (next : World) : Type 0 where
+pub record Agrees (w : World) (call : Call) (answer : Result ℕ Refusal) (next : World) : Type 0 where
   pub number : number_of answer ≡ (step w call).answer
   pub count : count_of answer ≡ (step w call).count
-  pub left : next ≡ (step w call).next
-
--- The same of a call whose count has 64 bits
-abbrev pub wide_number_of : WideAnswer → ℕ
-wide_number_of (wide.Accepted n) = 0
-wide_number_of (wide.Refused r) = refusal_number r
-
-abbrev pub wide_count_of : WideAnswer → ℕ
-wide_count_of (wide.Accepted n) = n
-wide_count_of (wide.Refused r) = 0
-
-pub record AgreesWide (w : World) (call : Call) (answer : WideAnswer) (next : World) : Type 0 where
-  pub number : wide_number_of answer ≡ (step w call).answer
-  pub count : wide_count_of answer ≡ (step w call).count
   pub left : next ≡ (step w call).next

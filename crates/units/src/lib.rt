@@ -6,7 +6,9 @@ ghost use Rattle.model.specs.Limits.{most_layer_cells, most_cells};
 ghost use Rattle.model.specs.World.{layer_cells, world_cells, layer_start, row_start};
 ghost use Rattle.model.specs.Step.{grid_fits};
 ghost use Rattle.units.specs.Grid.{grid_of, InRange, LayerThere, RowThere};
-ghost use Rattle.units.specs.Answer.{refusal_number, number_of, count_of, wide_number_of, wide_count_of};
+ghost use Rattle.units.specs.Answer.{refusal_number, number_of, count_of};
+
+use std::marker::PhantomData;
 
 // The limits that the code needs, each once. Contracts tie them to the model's (crates/model/specs/Limits.antt).
 pub const SCALE: u64 = 262144; // of ratio, mismatch and piece
@@ -67,19 +69,64 @@ pub const PROGRAM_FACES: usize = 2118; // of a layer that the program takes
 
 pub const PROGRAM_BODY: usize = 24576; // bytes of the longest body of a record
 
-// Air units and tracer units are separate counts: an amount of one is never added to an amount of the other.
+// What an amount is of.
 #[derive(Clone, Copy)]
-pub struct Air(pub u32);
+pub struct OfAir;
 
 #[derive(Clone, Copy)]
-pub struct Tracer(pub u32);
+pub struct OfTracer;
 
-// Sums of air units and of tracer units, in 64 bits.
+// An amount in units. Air units and tracer units are separate counts, so their amounts have two types: no function adds an amount of one to an amount of the other.
 #[derive(Clone, Copy)]
-pub struct AirSum(pub u64);
+pub struct Amount<Of> {
+    pub units: u32,
+    of: PhantomData<Of>,
+}
 
+pub type Air = Amount<OfAir>;
+
+pub type Tracer = Amount<OfTracer>;
+
+// A sum of amounts, in 64 bits.
 #[derive(Clone, Copy)]
-pub struct TracerSum(pub u64);
+pub struct Sum<Of> {
+    pub units: u64,
+    of: PhantomData<Of>,
+}
+
+pub type AirSum = Sum<OfAir>;
+
+pub type TracerSum = Sum<OfTracer>;
+
+impl<Of: Copy> Amount<Of> {
+    pub fn new(units: u32) -> Self
+        ensures { result.units ≡ units }
+    {
+        Amount {
+            units,
+            of: PhantomData,
+        }
+    }
+}
+
+impl<Of: Copy> Sum<Of> {
+    pub fn new(units: u64) -> Self
+        ensures { result.units ≡ units }
+    {
+        Sum {
+            units,
+            of: PhantomData,
+        }
+    }
+
+    // The sum with one amount more.
+    pub fn plus(self, x: Amount<Of>) -> Self
+        requires { self.units ≤ 9223372036854775807 }
+        ensures { result.units ≡ self.units + x.units }
+    {
+        Sum::new(self.units + u64::from(x.units))
+    }
+}
 
 // A mismatch as its size and its sign.
 #[derive(Clone, Copy)]
@@ -105,130 +152,56 @@ pub struct Grid {
     pub n: u32,
 }
 
-// The place that refuses a call.
-#[derive(Clone, Copy)]
+// The place that refuses a call, by its number.
+#[derive(Clone, Copy, PartialEq, Eq, Debug)]
 pub enum Refusal {
-    GridRange,
-    Lengths,
-    AirRange,
-    Totals,
-    Index,
-    Emission,
-    Withdrawal,
-    Fluxes,
-    Zonal,
-    Meridional,
-    Table,
-    Remap,
-    LongFlux,
-    LongAir,
-    EmitterAdded,
-    EmitterAbsent,
-    GivenCount,
-    Limiters,
-    Books,
+    GridRange = 1,
+    Lengths = 2,
+    AirRange = 3,
+    Totals = 4,
+    Index = 5,
+    Emission = 6,
+    Withdrawal = 7,
+    Fluxes = 8,
+    Zonal = 9,
+    Meridional = 10,
+    Table = 11,
+    Remap = 12,
+    LongFlux = 16,
+    LongAir = 17,
+    EmitterAdded = 18,
+    EmitterAbsent = 19,
+    GivenCount = 20,
+    Limiters = 21,
+    Books = 22,
 }
 
-// What a call answers: accepted, with its count, or refused.
-#[derive(Clone, Copy)]
-pub enum Answer {
-    Accepted(u32),
-    Refused(Refusal),
-}
+impl From<Refusal> for u32 {
+    ghost from_gives = { λ r n. n ≡ refusal_number r };
 
-// What a call answers whose count has 64 bits.
-#[derive(Clone, Copy)]
-pub enum WideAnswer {
-    Accepted(u64),
-    Refused(Refusal),
-}
-
-// A sum of air with one amount more, and the same of a tracer.
-pub fn add_air(sum: AirSum, x: Air) -> AirSum
-    requires { sum.0 ≤ 9223372036854775807 }
-    ensures { result.0 ≡ sum.0 + x.0 }
-{
-    AirSum(sum.0 + (x.0 as u64))
-}
-
-pub fn add_tracer(sum: TracerSum, x: Tracer) -> TracerSum
-    requires { sum.0 ≤ 9223372036854775807 }
-    ensures { result.0 ≡ sum.0 + x.0 }
-{
-    TracerSum(sum.0 + (x.0 as u64))
-}
-
-// A number of 32 bits as one of 64.
-pub fn wide(x: u32) -> u64
-    ensures { (result ≡ x) × (result ≤ 4294967295) }
-{
-    x as u64
-}
-
-// The refusal's number.
-pub fn refusal_number(r: Refusal) -> u32
-    ensures { result ≡ refusal_number r }
-{
-    match r {
-        Refusal::GridRange => 1,
-        Refusal::Lengths => 2,
-        Refusal::AirRange => 3,
-        Refusal::Totals => 4,
-        Refusal::Index => 5,
-        Refusal::Emission => 6,
-        Refusal::Withdrawal => 7,
-        Refusal::Fluxes => 8,
-        Refusal::Zonal => 9,
-        Refusal::Meridional => 10,
-        Refusal::Table => 11,
-        Refusal::Remap => 12,
-        Refusal::LongFlux => 16,
-        Refusal::LongAir => 17,
-        Refusal::EmitterAdded => 18,
-        Refusal::EmitterAbsent => 19,
-        Refusal::GivenCount => 20,
-        Refusal::Limiters => 21,
-        Refusal::Books => 22,
+    fn from(r: Refusal) -> u32 {
+        r as u32
     }
 }
 
+// What a call answers: accepted, with its count, or refused.
+pub type Answer<Count = u32> = Result<Count, Refusal>;
+
 // The answer's number: 0, or the refusal's.
-pub fn number(a: Answer) -> u32
-    ensures { result ≡ number_of a }
+pub fn number<Count: Copy>(answer: Answer<Count>) -> u32
+    ensures { result ≡ number_of answer }
 {
-    match a {
-        Answer::Accepted(_) => 0,
-        Answer::Refused(r) => refusal_number(r),
+    match answer {
+        Ok(_) => 0,
+        Err(r) => u32::from(r),
     }
 }
 
 // The answer's count: 0 with a refusal.
-pub fn count(a: Answer) -> u32
-    ensures { result ≡ count_of a }
+pub fn count(answer: Answer) -> u32
+    ensures { result ≡ count_of answer }
 {
-    match a {
-        Answer::Accepted(n) => n,
-        Answer::Refused(_) => 0,
-    }
-}
-
-// The same of an answer of 64 bits.
-pub fn wide_number(a: WideAnswer) -> u32
-    ensures { result ≡ wide_number_of a }
-{
-    match a {
-        WideAnswer::Accepted(_) => 0,
-        WideAnswer::Refused(r) => refusal_number(r),
-    }
-}
-
-pub fn wide_count(a: WideAnswer) -> u64
-    ensures { result ≡ wide_count_of a }
-{
-    match a {
-        WideAnswer::Accepted(n) => n,
-        WideAnswer::Refused(_) => 0,
-    }
+    answer.unwrap_or(0)
 }
 
 // Place 1: whether W, R, K and N are in their ranges.
