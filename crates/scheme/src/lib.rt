@@ -1,7 +1,7 @@
 // The leaves of the scheme: ratio, mismatch, piece, the two directions of a flux, and its parts.
 #![tactic(auto)]
 
-ghost use Rattle.std.specs.Prelude.{◌≡◌, ◌≤◌, ◌<◌, ◌*◌, ◌-◌, min, max};
+ghost use Rattle.std.specs.Prelude.{◌≡◌, ◌≤◌, ◌<◌, ◌-◌, min};
 ghost use Rattle.units.specs.Limiter.{limiter_of};
 ghost use Rattle.scheme.specs.Leaves.{mismatch_of, half_limit, IsMismatch, Giver, IsPiece, IsSplit, IsFluxPart};
 ghost use Rattle.model.specs.Scheme as model;
@@ -18,45 +18,19 @@ pub struct Flux {
 }
 
 pub fn ratio(m: Air, t: Tracer) -> u64
-    requires { 0 < m.0 }
-    ensures { result ≡ model.ratio m.0 t.0 }
+    requires { 0 < m.units }
+    ensures { result ≡ model.ratio m.units t.units }
 {
-    let have = m.0 as u64;
-    let amount = t.0 as u64;
+    let have = m.units as u64;
+    let amount = t.units as u64;
     SCALE * amount / have
-}
-
-fn lesser(a: u64, b: u64) -> u64
-    ensures { result ≡ min a b }
-{
-    if a < b { a } else { b }
-}
-
-fn greater(a: u64, b: u64) -> u64
-    ensures { result ≡ max a b }
-{
-    if a < b { b } else { a }
-}
-
-// a − b, or 0 where b is greater.
-fn above(a: u64, b: u64) -> u64
-    ensures { result ≡ a - b }
-{
-    if b < a { a - b } else { 0 }
-}
-
-// The lesser of x and 2·y. Halves are compared, since 2·y may pass 64 bits.
-fn at_most_twice(x: u64, y: u64) -> u64
-    ensures { result ≡ min x (2 * y) }
-{
-    if x / 2 < y { x } else { 2 * y }
 }
 
 // The lesser of the distances from q down to `low` and up to `high`; 0 where q is outside them.
 fn between(low: u64, q: u64, high: u64) -> u64
     ensures { result ≡ min (q - low) (high - q) }
 {
-    lesser(above(q, low), above(high, q))
+    q.saturating_sub(low).min(high.saturating_sub(q))
 }
 
 // Half of a mismatch's limit: by the positive limiter the ratio itself, by the fixed one its distance to the nearer bound, by the
@@ -64,24 +38,22 @@ fn between(low: u64, q: u64, high: u64) -> u64
 fn half_limit(l: Limiter, low: u64, q: u64, high: u64) -> u64
     ensures { result ≡ half_limit (limiter_of l) low q high }
 {
-    if l.number == POSITIVE_LIMITER {
-        return q;
+    match l.number {
+        POSITIVE_LIMITER => q,
+        FIXED_LIMITER => between(l.lo, q, l.hi),
+        _ => between(low, q, high),
     }
-    if l.number == FIXED_LIMITER {
-        return between(l.lo, q, l.hi);
-    }
-    between(low, q, high)
 }
 
 // The mismatch of a cell of ratio q between neighbours of the ratios qa and qb, by its tracer's limiter.
 pub fn mismatch(l: Limiter, qa: u64, q: u64, qb: u64) -> Mismatch
     ensures { IsMismatch (limiter_of l) qa q qb result }
 {
-    let low = lesser(qa, qb);
-    let high = greater(qa, qb);
+    let low = qa.min(qb);
+    let high = qa.max(qb);
     let limit = half_limit(l, low, q, high);
     Mismatch {
-        size: at_most_twice((high - low) / 2, limit),
+        size: ((high - low) / 2).min(limit.saturating_mul(2)),
         positive: qa <= qb,
     }
 }
@@ -89,11 +61,11 @@ pub fn mismatch(l: Limiter, qa: u64, q: u64, qb: u64) -> Mismatch
 // The tracer in `m` units of air from the high end of a cell.
 pub fn high_piece(d: Mismatch, have: Air, t: Tracer, m: Air) -> Tracer
     requires { Giver d have t m }
-    ensures { IsPiece (model.high_piece (mismatch_of d) have.0 t.0 m.0) t result }
+    ensures { IsPiece (model.high_piece (mismatch_of d) have.units t.units m.units) t result }
 {
-    let air = have.0 as u64;
-    let amount = t.0 as u64;
-    let part = m.0 as u64;
+    let air = have.units as u64;
+    let amount = t.units as u64;
+    let part = m.units as u64;
     let level = TWICE_SCALE * part * amount;
     let tilt = d.size * part * (air - part);
     let numerator = if d.positive {
@@ -103,13 +75,13 @@ pub fn high_piece(d: Mismatch, have: Air, t: Tracer, m: Air) -> Tracer
     };
     let whole = numerator / TWICE_SCALE; // then mostly a division of 32 bits
     let piece = (whole / air) as u32;
-    Tracer(piece)
+    Tracer::new(piece)
 }
 
 // From the low end: the same with the opposite mismatch.
 pub fn low_piece(d: Mismatch, have: Air, t: Tracer, m: Air) -> Tracer
     requires { Giver d have t m }
-    ensures { IsPiece (model.low_piece (mismatch_of d) have.0 t.0 m.0) t result }
+    ensures { IsPiece (model.low_piece (mismatch_of d) have.units t.units m.units) t result }
 {
     let opposite = Mismatch {
         size: d.size,
@@ -118,22 +90,23 @@ pub fn low_piece(d: Mismatch, have: Air, t: Tracer, m: Air) -> Tracer
     high_piece(opposite, have, t, m)
 }
 
-// The size of a negative flux is taken in 64 bits: that of -2^31 does not fit 32 bits with a sign.
-pub fn split(f: i32) -> Flux
-    ensures { IsSplit f result }
-{
-    let wide = f as i64;
-    if wide < 0 {
-        let size = (0 - wide) as u32;
-        Flux {
-            to_high: Air(0),
-            to_low: Air(size),
-        }
-    } else {
-        let size = wide as u32;
-        Flux {
-            to_high: Air(size),
-            to_low: Air(0),
+// What a flux passes. The size of -2^31 does not fit an i32, so that its sign is not turned there.
+impl From<i32> for Flux {
+    ghost from_gives = { IsSplit };
+
+    fn from(f: i32) -> Flux {
+        let none = Air::new(0);
+        let size = Air::new(f.unsigned_abs());
+        if f < 0 {
+            Flux {
+                to_high: none,
+                to_low: size,
+            }
+        } else {
+            Flux {
+                to_high: size,
+                to_low: none,
+            }
         }
     }
 }
@@ -143,17 +116,14 @@ pub fn flux_part(n: u32, s: u32, f: Air) -> Air
     requires { (0 < s) × (s ≤ n) }
     ensures { IsFluxPart n s f result }
 {
-    if n == 1 {
-        return f;
-    }
-    if f.0 == 0 {
+    if n == 1 || f.units == 0 {
         return f;
     }
     let count = n as u64;
     let step = s as u64;
-    let size = f.0 as u64;
+    let size = f.units as u64;
     let upto = step * size / count;
     let before = (step - 1) * size / count;
     let part = (upto - before) as u32;
-    Air(part)
+    Air::new(part)
 }

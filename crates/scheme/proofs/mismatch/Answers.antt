@@ -23,7 +23,8 @@ size_is l qa q qb a b h e =
 pub returns : goal.returns
 returns c =
     let a = c.args in
-    let size = size_is (limiter_of a.l) a.qa a.q a.qb c.lesser-low.ensures c.greater-high.ensures c.half_limit-limit.ensures c.at_most_twice.ensures in
+    let half = c.half_limit-limit.ensures in
+    let size = size_is (limiter_of a.l) a.qa a.q a.qb c.min-low.ensures c.max-high.ensures half (c.min.ensures ∙ omega (arith, c.saturating_mul.ensures)) in
     let is = limiter_is (limiter_of a.l) a.qa a.q a.qb in
     record {
       is = (λ i. record { size = size i; positive = leb a.qa a.qb }) ∙ is;

@@ -1,28 +1,14 @@
 -- `substep::fill_parts` meets its contract.
-use Rattle.std.proofs.Common.{length, ◌≡◌, ◌∙◌, ap, arith, rules, to_z, of_z, w32}
+use Rattle.std.proofs.Common.{◌≡◌, ◌∙◌, ap, rules, to_z, of_z, w32}
 use Rattle.model.specs.Sweep.{forward, backward, flux, flux_part, parts}
-use Rattle.substep.specs.Faces.{same_none, same_more}
+use Rattle.substep.specs.Faces.{same_more}
 use Rattle.substep.proofs.fill_parts.Goals as goal
-
-pub loop-i-init : goal.loop-i-init
-loop-i-init c = (search rules, search rules, search rules, same_none _ _)
 
 pub loop-i-preserved : goal.loop-i-preserved
 unfolding parts
-loop-i-preserved c =
+loop-i-preserved g c =
     let l = c.loop-i in
     let x = flux c.args.fluxes.now l.i in
-    let same : to_z w32 (of_z w32 x) ≡ x = search rules in (
-      search rules,
-      search rules,
-      search rules,
-      same_more l.airup l.airdown (search rules) (search rules) l.invariant.3
-          (c.flux_part-high.ensures.is ∙ ap (flux_part _ _) (c.split-f.ensures.high ∙ ap forward same))
-          (c.flux_part-low.ensures.is ∙ ap (flux_part _ _) (c.split-f.ensures.low ∙ ap backward same)),
-    )
-
-pub returns : goal.returns
-returns c =
-    let l = c.loop-i in
-    let done : l.i ≡ length c.args.fluxes.now = omega arith in
-    rw done at l.invariant.3
+    let same : to_z w32 (of_z w32 x) ≡ x = search rules in
+    same_more l.flow.up l.flow.down (search rules) (search rules) l.invariant (c.flux_part-high.ensures.is ∙ ap (flux_part _ _) (c.from-f.ensures.high ∙ ap forward same))
+    (c.flux_part-low.ensures.is ∙ ap (flux_part _ _) (c.from-f.ensures.low ∙ ap backward same))

@@ -13,4 +13,4 @@ returns-then-m-eq0 c =
     let D = mismatch_in (limiter_of a.l) a.q.now a.a a.c a.b in
     let have = at a.air.now a.c in
     let amount = at a.gas.now a.c in
-    sym (ap (low_piece D have amount) c.if-m-eq0.true ∙ piece_none (opposite D) have amount c.requires.some)
+    c.new.ensures ∙ sym (ap (low_piece D have amount) c.if-m-eq0.true ∙ piece_none (opposite D) have amount c.requires.some)
