@@ -6,15 +6,15 @@ ghost use Rattle.model.specs.Limits.{total_limit, sum_limit, block_numbers};
 ghost use Rattle.model.specs.Basic.{at, part, every};
 ghost use Rattle.model.specs.Books.{emitted_sum, withdrawn_sum, balances, entered};
 
-use units::{BOOK_PLACE, LEDGER_BLOCK, MOST_TRACERS, SUM_LIMIT, TOTAL_LIMIT, wide};
+use units::{BOOK_PLACE, LEDGER_BLOCK, MOST_TRACERS, SUM_LIMIT, TOTAL_LIMIT};
 
 // Place 22: whether the book of a block agrees with the tracer's summed cells. Both sides are sums, so that none is negative.
 pub fn book_balances(block: &[u32], cells: u64) -> bool
     requires { (length block.now ≡ block_numbers) × (cells ≤ total_limit) }
     ensures { result ≡ balances block.now cells }
 {
-    let came = wide(block[BOOK_PLACE]) + wide(block[BOOK_PLACE + 1]);
-    let gone = wide(block[BOOK_PLACE + 2]);
+    let came = (block[BOOK_PLACE] as u64) + (block[BOOK_PLACE + 1] as u64);
+    let gone = (block[BOOK_PLACE + 2] as u64);
     came == gone + cells
 }
 
@@ -39,7 +39,7 @@ pub fn emission_fits(block: &[u32], total: u64, units: u64) -> bool
     requires { (length block.now ≡ block_numbers) × (total ≤ total_limit) }
     ensures { result ≡ leb (total + units) total_limit && leb (emitted_sum block.now + units) sum_limit }
 {
-    let emitted = wide(block[BOOK_PLACE + 1]);
+    let emitted = (block[BOOK_PLACE + 1] as u64);
     (units <= TOTAL_LIMIT - total) & (units <= SUM_LIMIT - emitted)
 }
 
@@ -48,8 +48,8 @@ pub fn withdrawal_fits(block: &[u32], had: u32, amount: u32) -> bool
     requires { length block.now ≡ block_numbers }
     ensures { result ≡ leb amount had && leb (withdrawn_sum block.now + amount) sum_limit }
 {
-    let withdrawn = wide(block[BOOK_PLACE + 2]);
-    (amount <= had) & (withdrawn + wide(amount) <= SUM_LIMIT)
+    let withdrawn = (block[BOOK_PLACE + 2] as u64);
+    (amount <= had) & (withdrawn + (amount as u64) <= SUM_LIMIT)
 }
 
 // Enters so many units emitted; and withdrawn.
