@@ -4,7 +4,7 @@
 #![tactic(auto)]
 
 use std::io::{self, Print};
-use units::{LEDGER_BLOCK, LIMITER_PLACE};
+use units::{Answer, Grid, LEDGER_BLOCK, LIMITER_PLACE};
 
 fn number(rt: &impl Print, n: u32) -> io::Result<()> {
     print!(rt; " {n}")
@@ -20,7 +20,7 @@ fn amounts(rt: &impl Print, l: &[u32]) -> io::Result<()> {
 fn report(
     rt: &impl Print,
     name: &[u8],
-    answer: units::Answer,
+    answer: Answer,
     air: &[u32],
     gas: &[u32],
 ) -> io::Result<()> {
@@ -34,8 +34,8 @@ fn report(
     rt.write_all(b"\n")
 }
 
-fn layers(k: u32) -> units::Grid {
-    units::Grid {
+fn layers(k: u32) -> Grid {
+    Grid {
         w: 4,
         r: 1,
         k,
@@ -44,7 +44,7 @@ fn layers(k: u32) -> units::Grid {
 }
 
 // The ledger of one tracer as a load leaves it, with this limiter.
-fn chosen(g: units::Grid, air: &[u32], gas: &[u32], limiter: u32, hi: u32) -> [u32; LEDGER_BLOCK] {
+fn chosen(g: Grid, air: &[u32], gas: &[u32], limiter: u32, hi: u32) -> [u32; LEDGER_BLOCK] {
     let mut ledger = [0u32; LEDGER_BLOCK];
     amounts::load(g, air, gas, &mut ledger);
     ledger[LIMITER_PLACE] = limiter;
