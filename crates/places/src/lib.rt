@@ -23,9 +23,9 @@ pub type Totals = [u64; MOST_TRACERS];
 
 // Whether a cell's air is 1 to 65,535.
 pub fn air_in_range(m: Air) -> bool
-    ensures { result ≡ air_fits m.units }
+    ensures { result ≡ air_fits m.0 }
 {
-    (1 <= m.units) & (m.units <= AIR_LIMIT)
+    (1 <= m.0) & (m.0 <= AIR_LIMIT)
 }
 
 // Place 3: whether every cell's air is in range. `all` has the bits of every cell's air.
@@ -201,11 +201,11 @@ pub fn common_places(w: World, lent: Lent) -> Answer<Totals>
 
 // Place 8: whether every flux's size is at most the limit.
 pub fn fluxes_fit(fluxes: &[i32], limit: Air) -> bool
-    ensures { result ≡ every (length fluxes.now) (λ i. leb (unsigned_abs (flux fluxes.now i)) limit.units) }
+    ensures { result ≡ every (length fluxes.now) (λ i. leb (unsigned_abs (flux fluxes.now i)) limit.0) }
 {
     let mut ok = true;
     for f in fluxes {
-        ok &= f.unsigned_abs() <= limit.units;
+        ok &= f.unsigned_abs() <= limit.0;
     }
     ok
 }
