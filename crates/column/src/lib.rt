@@ -43,16 +43,16 @@ pub fn table_fits(table: &[u32], k: usize) -> bool
 
 // The edge of the pair (a, b) in a column of p units of air.
 fn edge_of(a: u32, b: u32, p: AirSum) -> u64
-    requires { p.units ≤ table_limit }
-    ensures { result ≡ a + b * p.units / table_scale }
+    requires { p.0 ≤ table_limit }
+    ensures { result ≡ a + b * p.0 / table_scale }
 {
-    (a as u64) + (b as u64) * p.units / (TABLE_SCALE as u64)
+    (a as u64) + (b as u64) * p.0 / (TABLE_SCALE as u64)
 }
 
 // The k + 1 edges of a column of p units of air.
 pub fn fill_edges(table: &[u32], p: AirSum, k: usize, e: &mut [u64])
-    requires { EdgesNeed table.now p.units k e.old }
-    ensures { AreEdges table.now p.units k e.new }
+    requires { EdgesNeed table.now p.0 k e.old }
+    ensures { AreEdges table.now p.0 k e.new }
 {
     for j in 0..k + 1 {
         e[j] = edge_of(table[2 * j], table[2 * j + 1], p);

@@ -4,8 +4,6 @@ use Rattle.std.specs.Prelude.{ℕ, suc, ◌+◌, ◌*◌, ◌-◌, ◌%◌, ◌�
 use Rattle.std.proofs.Common.{⊎_elim, sym, ap, ap₂, ◌∙◌, le_trans, zero-add, add-zero, mod-lt, mod-eq_of_lt, add-one, arith}
 use Rattle.std.proofs.Math.Nat.{mod-add-mod, add-mod_right}
 use Rattle.units.specs.declared.Amount.{Amount}
-use Rattle.units.specs.declared.OfAir.{OfAir}
-use Rattle.units.specs.declared.OfTracer.{OfTracer}
 use Rattle.units.specs.declared.Mismatch as code
 use Rattle.line.specs.declared.Place.{Place}
 use Rattle.model.specs.Limits.{air_limit, most_columns, total_limit}
@@ -37,16 +35,16 @@ abbrev pub place : ℕ → ℕ → ℕ → ℕ → ℕ → Walk
 place i passed whole j last = record { layers = i; above = passed; amount = whole; edges = j; mark = last }
 
 abbrev pub place_of : Place → Walk
-place_of p = place p.i p.passed.units p.whole.units p.j p.last.units
+place_of p = place p.i p.passed.0 p.whole.0 p.j p.last.0
 
 -- a walk that begins: no cell and no edge is passed
 pub record AtStart (p : Place) : Type 0 where
   pub cells : p.i ≡ 0
   pub edges : p.j ≡ 0
   pub ends : p.ends ≡ 0
-  pub air : p.passed.units ≡ 0
-  pub tracer : p.whole.units ≡ 0
-  pub mark : p.last.units ≡ 0
+  pub air : p.passed.0 ≡ 0
+  pub tracer : p.whole.0 ≡ 0
+  pub mark : p.last.0 ≡ 0
 
 -- the definition's walk stands at p, and a step of it has passed each new cell up to there
 pub record Walking (n : ℕ) (air gas : List ℕ) (slopes : List code.Mismatch) (e : List ℕ) (m : ℕ) (newgas : List ℕ) (p : Place) : Type 0 where
@@ -122,7 +120,7 @@ module _
   in_turn {c} h = sym (mod-add-mod p.i n c) ∙ ap (λ (x : ℕ). (x + c) % n) need.whole ∙ rw (zero-add c) (mod-eq_of_lt h)
 
   pub turn_start :
-      (line_walk n air gas slopes e m (p.i + 0 + p.j) ≡ place (p.i + 0) p.passed.units p.whole.units p.j p.last.units)
+      (line_walk n air gas slopes e m (p.i + 0 + p.j) ≡ place (p.i + 0) p.passed.0 p.whole.0 p.j p.last.0)
       × ((t : ℕ) → t < p.j → (s : ℕ) × (s < p.i + 0 + p.j) × Passes (line_walk n air gas slopes e m) t (at newgas t) s)
       × (p.ends ≡ line_ends n air gas slopes e m (p.i + 0 + p.j))
   turn_start = rw (add-zero p.i) (need.walking.stands, need.walking.made, need.walking.ended)
@@ -250,8 +248,8 @@ module _
 
   -- the piece of a cell
   pub cell_giver :
-      {c : ℕ} {d : code.Mismatch} {have : Amount OfAir} {t : Amount OfTracer} {part : Amount OfAir} → c < n → mismatch_of d ≡ slope_in slopes c →
-      have.units ≡ at air c → t.units ≡ at gas c → part.units ≤ have.units → Giver d have t part
+      {c : ℕ} {d : code.Mismatch} {have : Amount 0} {t : Amount 1} {part : Amount 0} → c < n → mismatch_of d ≡ slope_in slopes c →
+      have.0 ≡ at air c → t.0 ≡ at gas c → part.0 ≤ have.0 → Giver d have t part
   cell_giver {c} h isSlope isAir isGas fits =
       record {
         some = rw isAir (need.least c h);

@@ -15,7 +15,7 @@ use units::{AIR_LIMIT, Air, AirSum, Amount, Mismatch, Tracer};
 // The air of the first k cells.
 pub fn air_sum(air: &[u32], k: usize) -> AirSum
     requires { AirNeed k air.now }
-    ensures { IsAirSum k air.now result.units }
+    ensures { IsAirSum k air.now result.0 }
 {
     let mut sum = AirSum::new(0);
     for i in 0..k {
@@ -46,7 +46,7 @@ pub fn edges_serve(e: &[u64], k: usize) -> bool
 // The air between two edges.
 fn air_between(low: u64, high: u64) -> Air
     requires { (low ≤ high) × (high - low ≤ air_limit) }
-    ensures { result.units ≡ high - low }
+    ensures { result.0 ≡ high - low }
 {
     Air::new((high - low) as u32)
 }
@@ -57,22 +57,22 @@ pub fn new_air(e: &[u64], k: usize, newair: &mut [u32])
     ensures { IsNewAir k e.now newair.new }
 {
     for j in 0..k {
-        newair[j] = air_between(e[j], e[j + 1]).units;
+        newair[j] = air_between(e[j], e[j + 1]).0;
     }
 }
 
-fn plus<Of: Copy>(a: Amount<Of>, b: Amount<Of>) -> Amount<Of>
-    requires { a.units + b.units ≤ 4294967295 }
-    ensures { result.units ≡ a.units + b.units }
+fn plus<const KIND: u8>(a: Amount<KIND>, b: Amount<KIND>) -> Amount<KIND>
+    requires { a.0 + b.0 ≤ 4294967295 }
+    ensures { result.0 ≡ a.entry.0 + b.entry.0 }
 {
-    Amount::new(a.units + b.units)
+    Amount::new(a.0 + b.0)
 }
 
-fn minus<Of: Copy>(a: Amount<Of>, b: Amount<Of>) -> Amount<Of>
-    requires { b.units ≤ a.units }
-    ensures { result.units ≡ a.units - b.units }
+fn minus<const KIND: u8>(a: Amount<KIND>, b: Amount<KIND>) -> Amount<KIND>
+    requires { b.0 ≤ a.0 }
+    ensures { result.0 ≡ a.entry.0 - b.entry.0 }
 {
-    Amount::new(a.units - b.units)
+    Amount::new(a.0 - b.0)
 }
 
 // Where a walk along the line stands: the cells passed, their air and their tracer, the edges passed after edge 0, the tracer up to the last of them, and how many of these edges lie where a cell ends.
@@ -149,7 +149,7 @@ fn walk_turn(
         let t = Tracer::new(gas[c]);
         let end = place.passed.plus(have);
         let edge = e[place.j + 1];
-        if end.units < edge {
+        if end.0 < edge {
             place = place.past_cell(end, plus(place.whole, t));
             c += 1;
             if c == n {
@@ -157,16 +157,16 @@ fn walk_turn(
             }
             continue;
         }
-        if end.units == edge {
+        if end.0 == edge {
             let upto = plus(place.whole, t);
-            newgas[place.j] = minus(upto, place.last).units;
+            newgas[place.j] = minus(upto, place.last).0;
             place = place.past_edge(upto);
             place.ends += 1;
             continue;
         }
-        let inside = air_between(place.passed.units, edge);
+        let inside = air_between(place.passed.0, edge);
         let next = plus(place.whole, low_piece(slopes[c], have, t, inside));
-        newgas[place.j] = minus(next, place.last).units;
+        newgas[place.j] = minus(next, place.last).0;
         place = place.past_edge(next);
     }
     place

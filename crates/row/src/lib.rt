@@ -8,7 +8,7 @@ ghost use Rattle.row.specs.Columns.{IsExchange, Passing};
 ghost use Rattle.row.specs.Substeps.{row_mesh, RowNeed, IsFound};
 
 use substep::{Flow, after, both, cell_allows, fill_parts};
-use units::{Air, Amount, MOST_COLUMNS, MOST_SUBSTEPS, OfAir, Sum};
+use units::{AIR, Air, Amount, MOST_COLUMNS, MOST_SUBSTEPS, Sum};
 
 // The columns east and west of column i in a row of w.
 pub fn east_of(w: usize, i: usize) -> usize
@@ -26,9 +26,13 @@ pub fn west_of(w: usize, i: usize) -> usize
 }
 
 // What enters column i of w through its two faces, and what leaves it.
-fn exchange<Of: Copy, const F: usize>(flow: &Flow<F>, w: usize, i: usize) -> (Sum<Of>, Sum<Of>)
+fn exchange<const KIND: u8, const F: usize>(
+    flow: &Flow<F>,
+    w: usize,
+    i: usize,
+) -> (Sum<KIND>, Sum<KIND>)
     requires { (i < w) × (w ≤ F) }
-    ensures { IsExchange w flow.now.up flow.now.down i result.0.units result.1.units }
+    ensures { IsExchange w flow.now.up flow.now.down i result.0.0 result.1.0 }
 {
     let west = west_of(w, i);
     let enters = both(Amount::new(flow.up[west]), Amount::new(flow.down[i]));
@@ -51,14 +55,14 @@ fn row_allowed<const F: usize>(air: &[u32], flow: &Flow<F>) -> bool
 }
 
 // Passes on a row's amounts, of air or of one tracer, by what passes each face.
-pub fn pass<Of: Copy, const F: usize>(amounts: &mut [u32], flow: &Flow<F>)
+pub fn pass<const KIND: u8, const F: usize>(amounts: &mut [u32], flow: &Flow<F>)
     requires { Passing F amounts.old flow.now.up flow.now.down }
     ensures { amounts.new ≡ after_flow (ring (length amounts.old)) (flow_of flow.now.up flow.now.down) amounts.old }
 {
     let w = amounts.len();
     for i in 0..w {
-        let (enters, leaves) = exchange::<Of, F>(flow, w, i);
-        amounts[i] = after(Amount::new(amounts[i]), enters, leaves).units;
+        let (enters, leaves) = exchange::<KIND, F>(flow, w, i);
+        amounts[i] = after(Amount::new(amounts[i]), enters, leaves).0;
     }
 }
 
@@ -73,7 +77,7 @@ fn serves(air: &mut [u32], fluxes: &[i32], n: u32) -> bool
         if !row_allowed(air, &flow) {
             return false;
         }
-        pass::<OfAir, MOST_COLUMNS>(air, &flow);
+        pass::<AIR, MOST_COLUMNS>(air, &flow);
     }
     true
 }

@@ -5,4 +5,4 @@ use Rattle.model.specs.Remap.{edge}
 use Rattle.column.proofs.fill_edges.Given as goal
 
 abbrev pub invariant-loop-j : goal.invariant-loop-j
-invariant-loop-j l = (t : ℕ) → t < l.j → at l.e t ≡ edge l.table l.p.units t
+invariant-loop-j l = (t : ℕ) → t < l.j → at l.e t ≡ edge l.table l.p.0 t

@@ -3,4 +3,4 @@ use Rattle.layer.specs.Cells.{SumTo}
 use Rattle.layer.proofs.cap.Given as goal
 
 abbrev pub invariant-loop-x : goal.invariant-loop-x
-invariant-loop-x g l = SumTo l.side l.first l.w l.x-index l.total.units
+invariant-loop-x g l = SumTo l.side l.first l.w l.x-index l.total.0

@@ -5,4 +5,4 @@ use Rattle.model.specs.Basic as model
 use Rattle.line.proofs.air_sum.Given as goal
 
 abbrev pub invariant-loop-i : goal.invariant-loop-i
-invariant-loop-i l = (l.sum.units ≡ model.sum l.i (model.at l.air)) × (l.sum.units ≤ air_limit * l.i)
+invariant-loop-i l = (l.sum.0 ≡ model.sum l.i (model.at l.air)) × (l.sum.0 ≤ air_limit * l.i)

@@ -12,7 +12,7 @@ use Rattle.row.proofs.row_allowed.Goals.{After-cell_allows}
 test_is :
     {g : _} (c : After-cell_allows g) →
     c.cell_allows.result ≡ cell_allowed (ring (length c.args.air.now)) (flow_of c.args.flow.now.up c.args.flow.now.down) c.args.air.now c.loop-i.i
-test_is c = c.cell_allows.ensures ∙ ap (λ (m : ℕ). may_pass m c.exchange.result.0.units c.exchange.result.1.units) c.new.ensures ∙ cell_allows c.exchange.ensures.cell c.args.air.now
+test_is c = c.cell_allows.ensures ∙ ap (λ (m : ℕ). may_pass m c.exchange.result.0.0 c.exchange.result.1.0) c.new.ensures ∙ cell_allows c.exchange.ensures.cell c.args.air.now
 
 pub loop-i-init : goal.loop-i-init
 loop-i-init g c = every_none _
