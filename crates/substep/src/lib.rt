@@ -32,7 +32,7 @@ impl<const F: usize> Flow<F> {
 
 // Part s of n of each flux: the air that passes its face towards the high side, and towards the low side.
 pub fn fill_parts<const F: usize>(fluxes: &[i32], n: u32, s: u32, flow: &mut Flow<F>)
-    requires { PartsNeed (length fluxes.now) n s (length flow.old.up) (length flow.old.down) }
+    requires { PartsNeed (length fluxes.now) n s F F }
     ensures { AreParts fluxes.now n s flow.new.up flow.new.down }
 {
     for i in 0..fluxes.len() {
