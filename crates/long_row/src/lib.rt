@@ -21,13 +21,13 @@ const MOST_STRETCHES: usize = MOST_COLUMNS + 1; // between them
 
 // Where the air at a face comes from: x − F, for the air x before the face and its flux F.
 fn departure_of(x: AirSum, f: i32) -> u64
-    requires { (x.units ≤ 4294967295) × (forward f ≤ x.units + backward f) }
-    ensures { result ≡ x.units + backward f - forward f }
+    requires { (x.0 ≤ 4294967295) × (forward f ≤ x.0 + backward f) }
+    ensures { result ≡ x.0 + backward f - forward f }
 {
     let flow = Flux::from(f);
     let low = flow.to_low;
     let high = flow.to_high;
-    x.units + (low.units as u64) - (high.units as u64)
+    x.0 + (low.0 as u64) - (high.0 as u64)
 }
 
 // The line's start, then the departure of each face, from the west face of column 0 to the east face of the last.

@@ -12,7 +12,7 @@ ghost use Rattle.rows.specs.Swept.{SweepNeed, AreSwept};
 use limiters::limiter_at;
 use row::{east_of, pass, west_of};
 use substep::{Flow, fill_parts, fill_ratios, high_end, low_end};
-use units::{Air, Limiter, MOST_COLUMNS, MOST_TRACERS, OfAir, OfTracer};
+use units::{AIR, Air, Limiter, MOST_COLUMNS, MOST_TRACERS, TRACER};
 
 // The rows of all tracers: the first w amounts of each of the first n are used.
 pub type Rows = [[u32; MOST_COLUMNS]; MOST_TRACERS];
@@ -47,8 +47,8 @@ fn fill_pieces(
         let westward = Air::new(flow.down[i]);
         let p = high_end(l, air, gas, q, west, i, east, eastward);
         let r = low_end(l, air, gas, q, i, east, next, westward);
-        pieces.up[i] = p.units;
-        pieces.down[i] = r.units;
+        pieces.up[i] = p.0;
+        pieces.down[i] = r.0;
     }
 }
 
@@ -61,7 +61,7 @@ fn step_gas(l: Limiter, gas: &mut [u32], air: &[u32], flow: &Flow<MOST_COLUMNS>)
     let mut pieces = Flow::none();
     fill_ratios(air, gas, air.len(), &mut q);
     fill_pieces(l, air, gas, &q, flow, &mut pieces);
-    pass::<OfTracer, MOST_COLUMNS>(gas, &pieces);
+    pass::<TRACER, MOST_COLUMNS>(gas, &pieces);
 }
 
 // The rows of the first `tracers` tracers after one substep, each with the limiter of its block of the ledger.
@@ -121,7 +121,7 @@ pub fn sweep_rows(
     for s in 0..n {
         fill_parts(fluxes, n, s + 1, &mut flow);
         step_rows(&mut rows, ledger, air, &flow, tracers);
-        pass::<OfAir, MOST_COLUMNS>(air, &flow);
+        pass::<AIR, MOST_COLUMNS>(air, &flow);
     }
     rows
 }

@@ -24,14 +24,14 @@ departure_of-requires-in-loop-j c =
     let l = c.loop-j in
     let f : ℤ = slice_index_or c.args.fluxes.now l.j (pos 0) in
     let same : to_z w32 (of_z w32 f) ≡ f = search rules in
-    departs c.requires.0 (suc l.j) (omega arith) (before_next c.requires.0 l.j l.invariant.before (c.plus-x.ensures ∙ ap (λ (n : ℕ). l.x.units + n) c.new.ensures)) same
+    departs c.requires.0 (suc l.j) (omega arith) (before_next c.requires.0 l.j l.invariant.before (c.plus-x.ensures ∙ ap (λ (n : ℕ). l.x.0 + n) c.new.ensures)) same
 
 pub loop-j-preserved : goal.loop-j-preserved
 loop-j-preserved c =
     let l = c.loop-j in
     let f : ℤ = slice_index_or c.args.fluxes.now l.j (pos 0) in
     let same : to_z w32 (of_z w32 f) ≡ f = search rules in
-    let before = before_next c.requires.0 l.j l.invariant.before (c.plus-x.ensures ∙ ap (λ (n : ℕ). l.x.units + n) c.new.ensures) in
+    let before = before_next c.requires.0 l.j l.invariant.before (c.plus-x.ensures ∙ ap (λ (n : ℕ). l.x.0 + n) c.new.ensures) in
     record {
       before = rw add-one before;
       edges = edges_more c.requires.0 l.e l.j (omega (arith, simp length-set at l.auto.e)) l.invariant.edges (departure_at c.requires.0 (suc l.j) (omega arith) before same c.departure_of-in-loop-j.ensures);

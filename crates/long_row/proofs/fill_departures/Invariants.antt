@@ -6,6 +6,6 @@ use Rattle.long_row.proofs.fill_departures.Given as goal
 
 abbrev pub invariant-loop-j : goal.invariant-loop-j
 invariant-loop-j l = record {
-  before : l.x.units ≡ air_above l.air (length l.air) + air_above l.air l.j;
+  before : l.x.0 ≡ air_above l.air (length l.air) + air_above l.air l.j;
   edges : EdgesTo l.air l.fluxes l.e (l.j + 2);
 }
