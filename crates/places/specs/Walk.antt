@@ -1,6 +1,7 @@
 -- The walk through a call's places: the refusal is the first of the places left that applies, and so far none did. What a function that tests places gives.
-use Rattle.std.specs.Prelude.{◌≡◌, ℕ, ◌<◌, ◌≤◌, Bool, true, false, not, List, [], ◌∷◌, ◌++◌, nat_lt, refl, Result, Ok, Err}
+use Rattle.std.specs.Prelude.{◌≡◌, ℕ, ◌<◌, ◌≤◌, Bool, true, false, not, List, [], ◌∷◌, ◌++◌, nat_lt, refl, Result, Ok, Err, IsErrAnd}
 use Rattle.std.proofs.Common.{append_assoc, append-nil, sym, ap, ◌∙◌, lt-ltb, le-ltb}
+use Rattle.std.proofs.lemmas.Result.{err_from_is_err_and}
 use Rattle.model.specs.World.{World}
 use Rattle.model.specs.Step.{Call, Place, meaning, first_of, lent_fits, refusal}
 use Rattle.model.proofs.Laws.Step.{passes, stops}
@@ -20,6 +21,13 @@ Refuses w Calls r = (call : Call) (rest : List Place) → Calls call rest → Ag
 abbrev pub IsPlaced : {Found : Type 0} → World → (Call → List Place → Type 0) → (Found → Type 0) → Result Found Refusal → Type 0
 IsPlaced w Calls Tells (Ok found) = Tells found
 IsPlaced w Calls Tells (Err r) = Refuses w Calls r
+
+-- a call that `?` ends answers that refusal
+pub hands_on : {w : World} {Calls : Call → List Place → Type 0} {call : Call} {rest : List Place} {r : Refusal} {result : Result ℕ Refusal} →
+    IsErrAnd result (λ y. y ≡ r) → Refuses w Calls r → Calls call rest → Agrees w call result w
+hands_on {call = call} {rest = rest} {result = result} ended refused asks =
+    let p = err_from_is_err_and result ended in
+    rw (p.1, p.2) (refused call rest asks)
 
 -- ---- one place: it does not apply, or it refuses
 module _ {w : World} {Calls : Call → List Place → Type 0} {p : Place} {ps : List Place} (left : Left w Calls (p ∷ ps)) where
