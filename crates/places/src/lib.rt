@@ -78,25 +78,14 @@ fn block_total(gas: &[u32]) -> u64
     (first as u64) + (second as u64) + rest
 }
 
-// Where the block that starts at entry a of n ends.
-fn block_end(a: usize, n: usize) -> usize
-    requires { a < n }
-    ensures { (a < result) × (result ≤ n) × (result ≤ a + 8192) }
-{
-    if n - a < 8192 { n } else { a + 8192 }
-}
-
 // A tracer's sum over all cells.
 pub fn gas_total(gas: &[u32]) -> u64
     requires { length gas.now ≤ most_cells }
     ensures { (result ≡ sum (length gas.now) (at gas.now)) × (result < 562949953421312) }
 {
     let mut sum: u64 = 0;
-    let mut a = 0;
-    while a < gas.len() {
-        let e = block_end(a, gas.len());
-        sum += block_total(&gas[a..e]);
-        a = e;
+    for block in gas.chunks(8192) {
+        sum += block_total(block);
     }
     sum
 }
