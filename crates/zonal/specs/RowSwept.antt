@@ -1,5 +1,5 @@
 -- A row swept in the air and in all tracers: what the sweep needs, and that it leaves the model's `swept`, for the single sweep and for the sweep with a given count.
-use Rattle.std.specs.Prelude.{ℕ, suc, ◌+◌, ◌*◌, ◌-◌, ◌≤◌, ◌<◌, true, not, ◌≡◌, refl, ◌≢◌, ℤ}
+use Rattle.std.specs.Prelude.{ℕ, suc, ◌+◌, ◌*◌, ◌-◌, ◌≤◌, ◌<◌, true, not, ◌≡◌, refl, ◌≢◌, ℤ, Ok, Err}
 use mathlib.Core.List.{List}
 use Rattle.std.proofs.Common.{sym, ◌∙◌, le_trans, mul-le-mul_right, arith, eq-eqb, ne_eqb}
 use Rattle.std.proofs.Math.Path.{ap, ap₂}
@@ -19,11 +19,9 @@ use Rattle.model.proofs.Laws.Zonal.{zonal_sweeps}
 use Rattle.model.proofs.Laws.Entries.{joined_ext, part_part, part_sum_le}
 use Rattle.model.proofs.Laws.Substep.{AirIn}
 use Rattle.units.specs.Limiter.{limiter_at}
-use Rattle.units.specs.declared.Answer.TheVariants.{Accepted, Refused}
 use Rattle.units.specs.declared.Refusal.TheVariants.{GivenCount}
 use Rattle.units.specs.Answer.{Agrees}
 use Rattle.units.specs.Agrees.{accepted_agrees}
-use Rattle.places.specs.declared.Placed.{Placed}
 use Rattle.places.specs.Walk.{none, next, resume, refuse}
 use Rattle.units.specs.Lent.{put_back}
 use Rattle.row.specs.Substeps.{row_mesh, RowNeed, chain}
@@ -31,6 +29,7 @@ use Rattle.row_place.specs.RowPlace.{lent_row, row_in_air, row_lent}
 use Rattle.rows.specs.Gas.{row_of}
 use Rattle.rows.specs.Rows.{RowsFit, AreRows, StoreNeed, stored_rows}
 use Rattle.rows.specs.Swept.{SweepNeed, AreSwept}
+use Rattle.zonal.specs.declared.ZonalRow.{ZonalRow}
 use Rattle.zonal.specs.ZonalPlace.{ZonalFound, given_like, row_need}
 
 -- tracer t's amounts
@@ -137,14 +136,14 @@ module _
           }
 
 -- ---- the call, once its row is found
-module _ {w : World} {k r : ℕ} {fluxes : List ℤ} {p : Placed} (found : ZonalFound w k r fluxes p) where
+module _ {w : World} {k r : ℕ} {fluxes : List ℤ} {z : ZonalRow} (found : ZonalFound w k r fluxes z) where
   sweeps : Sweeps w (ring w.grid.W) (row_start w.grid k r) fluxes (zonal_count w k r fluxes)
   sweeps = zonal_sweeps k r fluxes w (none found.left)
 
-  lent_is : lent_row w p.first ≡ row_air w k r
+  lent_is : lent_row w z.first ≡ row_air w k r
   lent_is = row_lent found.row k r found.start
 
-  pub row_ready : RowReady w.grid w.air w.tracers w.ledger p.first fluxes p.found
+  pub row_ready : RowReady w.grid w.air w.tracers w.ledger z.first fluxes z.substeps
   unfolding ring
   row_ready =
       record {
@@ -157,7 +156,7 @@ module _ {w : World} {k r : ℕ} {fluxes : List ℤ} {p : Placed} (found : Zonal
         inside = found.row.inside;
         most = found.most;
         serving =
-            ap₂ (λ (m : ℕ) (l : List ℕ). serves (ring m) fluxes l p.found) found.row.long lent_is ∙
+            ap₂ (λ (m : ℕ) (l : List ℕ). serves (ring m) fluxes l z.substeps) found.row.long lent_is ∙
             (rw found.count sweeps.serving);
         air_in =
             rw (lent_is, found.row.long)
@@ -165,30 +164,30 @@ module _ {w : World} {k r : ℕ} {fluxes : List ℤ} {p : Placed} (found : Zonal
         total = found.row.fits.totals;
       }
 
-  module _ {air after : List ℕ} (done : IsSwept w.grid w.air w.tracers w.ledger p.first fluxes p.found air after) where
+  module _ {air after : List ℕ} (done : IsSwept w.grid w.air w.tracers w.ledger z.first fluxes z.substeps air after) where
     -- the world afterwards is the model's
     row_swept_lem : with_amounts w air after ≡ swept w (ring w.grid.W) (row_start w.grid k r) fluxes (zonal_count w k r fluxes)
     unfolding swept ring
     row_swept_lem =
         ap₂ (with_amounts w)
         (done.air_is ∙
-        ap₂ (λ (i n : ℕ). written w.air i (air_after (ring (length fluxes)) fluxes n (lent_row w p.first) n)) found.start found.count ∙
+        ap₂ (λ (i n : ℕ). written w.air i (air_after (ring (length fluxes)) fluxes n (lent_row w z.first) n)) found.start found.count ∙
         ap₂ (λ (m : ℕ) (l : List ℕ). written w.air (row_start w.grid k r) (air_after (ring m) fluxes (zonal_count w k r fluxes) l (zonal_count w k r fluxes))) found.row.long lent_is)
         (done.tracers_are ∙
-        ap₂ (λ (i n : ℕ). swept_tracers w.grid w.tracers w.ledger (lent_row w p.first) i fluxes n) found.start found.count ∙
+        ap₂ (λ (i n : ℕ). swept_tracers w.grid w.tracers w.ledger (lent_row w z.first) i fluxes n) found.start found.count ∙
         ap (λ (l : List ℕ). swept_tracers w.grid w.tracers w.ledger l (row_start w.grid k r) fluxes (zonal_count w k r fluxes)) lent_is)
 
-    pub zonal_agrees : Agrees w (zonal k r fluxes) (Accepted p.found) (with_amounts w air after)
+    pub zonal_agrees : Agrees w (zonal k r fluxes) (Ok z.substeps) (with_amounts w air after)
     zonal_agrees = accepted_agrees (none found.left) refl found.count row_swept_lem
 
     -- and that of the sweep with a given count, if the count found was given
-    pub given_agrees : {n : ℕ} → n ≡ p.found → Agrees w (zonal_with_count k r n fluxes) (Accepted n) (with_amounts w air after)
+    pub given_agrees : {n : ℕ} → n ≡ z.substeps → Agrees w (zonal_with_count k r n fluxes) (Ok n) (with_amounts w air after)
     given_agrees {n} same =
         let is = same ∙ found.count in
         accepted_agrees (none (next (resume found.left given_like) (ap not (eq-eqb n _ is)))) refl refl
         (row_swept_lem ∙ ap (swept w (ring w.grid.W) (row_start w.grid k r) fluxes) (sym is))
 
   -- another count is refused
-  pub given_refused : {n : ℕ} → n ≢ p.found → Agrees w (zonal_with_count k r n fluxes) (Refused GivenCount) w
+  pub given_refused : {n : ℕ} → n ≢ z.substeps → Agrees w (zonal_with_count k r n fluxes) (Err GivenCount) w
   given_refused {n} other =
       refuse (resume found.left given_like) (ap not (ne_eqb n _ (λ same. other (same ∙ sym found.count)))) refl
