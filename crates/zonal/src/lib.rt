@@ -49,16 +49,16 @@ fn sweep_row(
         n: g.n as usize,
     };
     let end = part.first + part.w;
-    let mut rows = load_rows(tracers, part);
-    sweep_rows(
-        &mut rows,
+    let rows = load_rows(tracers, part);
+    let swept = sweep_rows(
+        rows,
         ledger,
         &mut air[part.first..end],
         fluxes,
         row.substeps,
         part.n,
     );
-    store_rows(&rows, tracers, part);
+    store_rows(&swept, tracers, part);
 }
 
 // Sweeps one row in one layer, in the air and in all tracers.
