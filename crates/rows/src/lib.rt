@@ -1,4 +1,4 @@
-// The row of every tracer: loaded from the lent amounts, carried through a sweep's substeps as an array of 72 amounts for each, written back.
+// The row of every tracer: loaded from the lent amounts, carried through a sweep's substeps as an array of 8 arrays of 72 amounts, written back.
 // Every piece of a tracer is taken into a list before any amount changes.
 #![tactic(auto)]
 
@@ -68,9 +68,9 @@ fn step_rows(rows: &mut [Row], ledger: &[u32], air: &[u32], flow: &Flow<MOST_COL
     requires { StepsNeed (length rows.old) rows.old ledger.now air.now flow.now.up flow.now.down }
     ensures { AreSteps (length rows.old) rows.old ledger.now air.now flow.now.up flow.now.down rows.new }
 {
-    for (t, gas) in rows.iter_mut().enumerate() {
+    for t in 0..rows.len() {
         let l = limiter_at(ledger, t);
-        step_gas(l, &mut gas[0..air.len()], air, flow);
+        step_gas(l, &mut rows[t][0..air.len()], air, flow);
     }
 }
 
@@ -79,9 +79,9 @@ pub fn load_rows(tracers: &[u32], part: RowPart, rows: &mut [Row])
     requires { RowsFit tracers.now part.first part.cells part.w (length rows.old) }
     ensures { AreRows tracers.now part.first part.cells part.w (length rows.old) rows.new }
 {
-    for (t, row) in rows.iter_mut().enumerate() {
+    for t in 0..rows.len() {
         let a = t * part.cells + part.first;
-        row[0..part.w].copy_from_slice(&tracers[a..a + part.w]);
+        rows[t][0..part.w].copy_from_slice(&tracers[a..a + part.w]);
     }
 }
 
