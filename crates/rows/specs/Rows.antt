@@ -1,7 +1,8 @@
 -- The rows of all tracers as they stand in the lent amounts, loaded and written back.
-use Rattle.std.specs.Prelude.{ℕ, suc, ◌+◌, ◌*◌, ◌-◌, ◌≤◌, ◌<◌, List, [], ◌++◌, ◌≡◌, length, get_or, set, drop}
-use Rattle.std.proofs.Common.{length-set, append_assoc, append-nil, sym, ap, ◌∙◌, mul-le-mul, mul-le-mul_right, arith, length-append, length-drop, take-append-drop, drop_of_length-le, drop-drop}
+use Rattle.std.specs.Prelude.{ℕ, suc, ◌+◌, ◌*◌, ◌-◌, ◌≤◌, ◌<◌, List, [], ◌++◌, ◌≡◌, length, get_or, set, drop, replicate}
+use Rattle.std.proofs.Common.{refl, length-set, append_assoc, append-nil, sym, ap, ◌∙◌, mul-le-mul, mul-le-mul_right, arith, length-append, length-drop, take-append-drop, drop_of_length-le, drop-drop}
 use Rattle.std.proofs.Math.Nat.{zero-mul}
+use Rattle.std.proofs.lemmas.List.{get_or-replicate}
 use borrow.Rule.Slice.PartMut.{put_mid}
 use Rattle.model.specs.Limits.{most_cells, most_tracers, most_amounts}
 use Rattle.model.specs.Basic.{part, written, joined, tab_from, tab}
@@ -44,45 +45,53 @@ row_room {tracers} {first} {cells} {w} {n} fit t h =
     (omega arith, omega arith)
 
 -- ---- loaded, as a loop over the tracers meets them: none yet, and one more
--- of n rows the first t are loaded, and each has room
-pub record Loading (tracers : List ℕ) (first cells w n t : ℕ) (rows : List (List ℕ)) : Type 0 where
-  pub some : length rows ≡ n
-  pub room : Wide n rows
+-- the rows of the first t tracers are loaded, and each row has room
+pub record Loading (tracers : List ℕ) (first cells w t : ℕ) (rows : List (List ℕ)) : Type 0 where
+  pub some : length rows ≡ 8
+  pub room : Wide 8 rows
   pub loaded : AreRows tracers first cells w t rows
 
-module _ {tracers : List ℕ} {first cells w n : ℕ} {rows : List (List ℕ)} where
-  pub loading_none : length rows ≡ n → Wide n rows → Loading tracers first cells w n 0 rows
-  loading_none some room =
-      record { some = some; room = room; loaded = record { wide_rows = λ t h. absurd (omega arith); each = λ t h. absurd (omega arith) } }
+abbrev empty_row : List ℕ
+empty_row = replicate 72 0
 
-  module _ {t : ℕ} (fit : RowsFit tracers first cells w n) (h : t < n) (loading : Loading tracers first cells w n t rows) where
-    -- what is lent of tracer t's amounts
-    abbrev lent : List ℕ
-    lent = part tracers (t * cells + first) (t * cells + first + w - (t * cells + first))
+pub loading_none : {tracers : List ℕ} {first cells w : ℕ} → Loading tracers first cells w 0 (replicate 8 empty_row)
+loading_none =
+    record {
+      some = refl;
+      room = λ t h. ap length (get_or-replicate 8 t empty_row [] h);
+      loaded = record { wide_rows = λ t h. absurd (omega arith); each = λ t h. absurd (omega arith) };
+    }
 
-    length_lent : length lent ≡ w
-    length_lent =
-        ap length (part_lent tracers (t * cells + first) w) ∙ length_part tracers (t * cells + first) w (row_room fit t h).0
+module _ {tracers : List ℕ} {first cells w n t : ℕ} (fit : RowsFit tracers first cells w n) (h : t < n)
+    {rows : List (List ℕ)} (loading : Loading tracers first cells w t rows) where
+  -- what is lent of tracer t's amounts
+  abbrev lent : List ℕ
+  lent = part tracers (t * cells + first) (t * cells + first + w - (t * cells + first))
 
-    pub loading_more : {new : List ℕ} → new ≡ lent → Loading tracers first cells w n (t + 1) (set rows t (put_mid 0 (w - 0) (get_or rows t []) new))
-    loading_more {new} is =
-        let old : List ℕ = get_or rows t [] in
-        let row : List ℕ = put_mid 0 (w - 0) old new in
-        let room : t < length rows = omega (arith, loading.some) in
-        let long : length new ≡ w = ap length is ∙ length_lent in
-        let size : length old ≡ 72 = loading.room t h in
-        let wide : length row ≡ 72 = length_front old new w long (omega (arith, fit.few_columns)) ∙ size in
-        record {
-          some = length-set rows t row ∙ loading.some;
-          room = wide_set n rows t row room wide loading.room;
-          loaded =
-              record {
-                wide_rows = entries_more [] rows t row (λ k r. length r ≡ 72) room loading.loaded.wide_rows wide;
-                each =
-                    entries_more [] rows t row (λ k r. part r 0 w ≡ part tracers (k * cells + first) w) room loading.loaded.each
-                    (front_back old new w long ∙ is ∙ part_lent tracers (t * cells + first) w);
-              };
-        }
+  length_lent : length lent ≡ w
+  length_lent =
+      ap length (part_lent tracers (t * cells + first) w) ∙ length_part tracers (t * cells + first) w (row_room fit t h).0
+
+  pub loading_more : {new : List ℕ} → new ≡ lent → Loading tracers first cells w (t + 1) (set rows t (put_mid 0 (w - 0) (get_or rows t []) new))
+  loading_more {new} is =
+      let old : List ℕ = get_or rows t [] in
+      let row : List ℕ = put_mid 0 (w - 0) old new in
+      let few : t < 8 = omega (arith, fit.few_tracers) in
+      let room : t < length rows = omega (arith, loading.some) in
+      let long : length new ≡ w = ap length is ∙ length_lent in
+      let size : length old ≡ 72 = loading.room t few in
+      let wide : length row ≡ 72 = length_front old new w long (omega (arith, fit.few_columns)) ∙ size in
+      record {
+        some = length-set rows t row ∙ loading.some;
+        room = wide_set 8 rows t row room wide loading.room;
+        loaded =
+            record {
+              wide_rows = entries_more [] rows t row (λ k r. length r ≡ 72) room loading.loaded.wide_rows wide;
+              each =
+                  entries_more [] rows t row (λ k r. part r 0 w ≡ part tracers (k * cells + first) w) room loading.loaded.each
+                  (front_back old new w long ∙ is ∙ part_lent tracers (t * cells + first) w);
+            };
+      }
 
 -- ---- written back
 -- the amounts with the rows of the first t tracers written

@@ -2,7 +2,7 @@
 // Every piece of a tracer is taken into a list before any amount changes.
 #![tactic(auto)]
 
-ghost use Rattle.std.specs.Prelude.{◌≡◌, length};
+ghost use Rattle.std.specs.Prelude.{◌≡◌};
 ghost use Rattle.units.specs.Limiter.{limiter_of};
 ghost use Rattle.substep.specs.Faces.{flow_of};
 ghost use Rattle.rows.specs.Gas.{StepNeed, PiecesNeed, ArePieces, row_stepped, StepsNeed, AreSteps};
@@ -12,17 +12,18 @@ ghost use Rattle.rows.specs.Swept.{SweepNeed, AreSwept};
 use limiters::limiter_at;
 use row::{east_of, pass, west_of};
 use substep::{Flow, fill_parts, fill_ratios, high_end, low_end};
-use units::{Air, Limiter, MOST_COLUMNS, OfAir, OfTracer};
+use units::{Air, Limiter, MOST_COLUMNS, MOST_TRACERS, OfAir, OfTracer};
 
-// Room for a tracer's amounts in a row: the first w are used.
-pub type Row = [u32; MOST_COLUMNS];
+// The rows of all tracers: the first w amounts of each of the first n are used.
+pub type Rows = [[u32; MOST_COLUMNS]; MOST_TRACERS];
 
-// Where a row lies in the lent amounts of tracers of `cells` cells each: w cells of each tracer, from its cell `first` on.
+// Where a row lies in the lent amounts of n tracers of `cells` cells each: w cells of each tracer, from its cell `first` on.
 #[derive(Clone, Copy)]
 pub struct RowPart {
     pub first: usize,
     pub w: usize,
     pub cells: usize,
+    pub n: usize,
 }
 
 // The pieces through each face i: from column i's high end, and from the low end of the column east of it; l is the tracer's limiter.
@@ -63,48 +64,63 @@ fn step_gas(l: Limiter, gas: &mut [u32], air: &[u32], flow: &Flow<MOST_COLUMNS>)
     pass::<OfTracer, MOST_COLUMNS>(gas, &pieces);
 }
 
-// The rows of all tracers after one substep, each with the limiter of its block of the ledger.
-fn step_rows(rows: &mut [Row], ledger: &[u32], air: &[u32], flow: &Flow<MOST_COLUMNS>)
-    requires { StepsNeed (length rows.old) rows.old ledger.now air.now flow.now.up flow.now.down }
-    ensures { AreSteps (length rows.old) rows.old ledger.now air.now flow.now.up flow.now.down rows.new }
+// The rows of the first `tracers` tracers after one substep, each with the limiter of its block of the ledger.
+fn step_rows(
+    rows: &mut Rows,
+    ledger: &[u32],
+    air: &[u32],
+    flow: &Flow<MOST_COLUMNS>,
+    tracers: usize,
+)
+    requires { StepsNeed tracers rows.old ledger.now air.now flow.now.up flow.now.down }
+    ensures { AreSteps tracers rows.old ledger.now air.now flow.now.up flow.now.down rows.new }
 {
-    for t in 0..rows.len() {
+    for t in 0..tracers {
         let l = limiter_at(ledger, t);
         step_gas(l, &mut rows[t][0..air.len()], air, flow);
     }
 }
 
 // The row of each tracer, from its part of the lent amounts: tracer t's starts at `first` past t·K·C.
-pub fn load_rows(tracers: &[u32], part: RowPart, rows: &mut [Row])
-    requires { RowsFit tracers.now part.first part.cells part.w (length rows.old) }
-    ensures { AreRows tracers.now part.first part.cells part.w (length rows.old) rows.new }
+pub fn load_rows(tracers: &[u32], part: RowPart) -> Rows
+    requires { RowsFit tracers.now part.first part.cells part.w part.n }
+    ensures { AreRows tracers.now part.first part.cells part.w part.n result }
 {
-    for t in 0..rows.len() {
+    let mut rows = [[0; MOST_COLUMNS]; MOST_TRACERS];
+    for t in 0..part.n {
         let a = t * part.cells + part.first;
         rows[t][0..part.w].copy_from_slice(&tracers[a..a + part.w]);
     }
+    rows
 }
 
 // Writes the row of each tracer back to its part.
-pub fn store_rows(rows: &[Row], tracers: &mut [u32], part: RowPart)
-    requires { StoreNeed tracers.old part.first part.cells part.w (length rows.now) rows.now }
-    ensures { tracers.new ≡ stored_rows tracers.old part.first part.cells part.w (length rows.now) rows.now }
+pub fn store_rows(rows: &Rows, tracers: &mut [u32], part: RowPart)
+    requires { StoreNeed tracers.old part.first part.cells part.w part.n rows.now }
+    ensures { tracers.new ≡ stored_rows tracers.old part.first part.cells part.w part.n rows.now }
 {
-    for (t, row) in rows.iter().enumerate() {
+    for t in 0..part.n {
         let a = t * part.cells + part.first;
-        tracers[a..a + part.w].copy_from_slice(&row[..part.w]);
+        tracers[a..a + part.w].copy_from_slice(&rows[t][..part.w]);
     }
 }
 
-// The rows of all tracers after n substeps; these are made in the row's lent air too.
-pub fn sweep_rows(rows: &mut [Row], ledger: &[u32], air: &mut [u32], fluxes: &[i32], n: u32)
-    requires { SweepNeed rows.old ledger.now air.old fluxes.now n (length rows.old) }
-    ensures { AreSwept rows.old ledger.now air.old fluxes.now n (length rows.old) air.new rows.new }
+// The rows of the first `tracers` tracers after n substeps; these are made in the row's lent air too.
+pub fn sweep_rows(
+    rows: &mut Rows,
+    ledger: &[u32],
+    air: &mut [u32],
+    fluxes: &[i32],
+    n: u32,
+    tracers: usize,
+)
+    requires { SweepNeed rows.old ledger.now air.old fluxes.now n tracers }
+    ensures { AreSwept rows.old ledger.now air.old fluxes.now n tracers air.new rows.new }
 {
     let mut flow = Flow::none();
     for s in 0..n {
         fill_parts(fluxes, n, s + 1, &mut flow);
-        step_rows(rows, ledger, air, &flow);
+        step_rows(rows, ledger, air, &flow, tracers);
         pass::<OfAir, MOST_COLUMNS>(air, &flow);
     }
 }

@@ -7,13 +7,11 @@ pub loop-s-init : goal.loop-s-init
 loop-s-init c = after_none c.requires
 
 pub step_rows-requires : goal.step_rows-requires
-step_rows-requires c = rw c.loop-s.auto.rows (rows_may_step c.requires c.loop-s.invariant (omega arith) _ _ c.fill_parts.ensures)
+step_rows-requires c = rows_may_step c.requires c.loop-s.invariant (omega arith) _ _ c.fill_parts.ensures
 
 pub pass-requires : goal.pass-requires
 pass-requires c = (search rules, air_may_pass c.requires c.loop-s.invariant (omega arith) _ _ c.fill_parts.ensures)
 
 pub loop-s-preserved : goal.loop-s-preserved
 loop-s-preserved c =
-    let parts = c.fill_parts.new.flow in
-    after_more c.requires c.loop-s.invariant (omega arith) parts.up parts.down c.fill_parts.ensures c.pass.ensures
-    (rw c.loop-s.auto.rows at c.step_rows.ensures)
+    after_more c.requires c.loop-s.invariant (omega arith) c.fill_parts.new.flow.up c.fill_parts.new.flow.down c.fill_parts.ensures c.pass.ensures c.step_rows.ensures

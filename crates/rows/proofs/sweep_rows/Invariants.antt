@@ -1,7 +1,6 @@
 -- `rows::sweep_rows`: the air and every tracer after s substeps.
-use Rattle.std.proofs.Common.{length}
 use Rattle.rows.specs.Swept.{SweptSoFar}
 use Rattle.rows.proofs.sweep_rows.Given as goal
 
 abbrev pub invariant-loop-s : goal.invariant-loop-s
-invariant-loop-s l = SweptSoFar l.fn.rows l.ledger l.fn.air l.fluxes l.n (length l.fn.rows) l.s l.air l.rows
+invariant-loop-s l = SweptSoFar l.fn.rows l.ledger l.fn.air l.fluxes l.n l.tracers l.s l.air l.rows
