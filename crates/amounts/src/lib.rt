@@ -1,94 +1,87 @@
-// The calls that move no air: load, emission, withdrawal, and the readings of a total and of a cell.
+// The calls that move no air: load, emission, withdrawal, and the readings of a total and of a cell. Each takes the grid and the lent buffers one by one, as its C function does, so that its signature says which of them it writes.
 #![tactic(auto)]
 
 ghost use Rattle.model.specs.Step.{load as load_call, emission as emission_call, withdrawal as withdrawal_call, total as total_call, cell as cell_call};
-ghost use Rattle.units.specs.Grid.{world_of};
+ghost use Rattle.units.specs.Grid.{world_of, world_in};
 ghost use Rattle.units.specs.Answer.{Agrees};
 ghost use Rattle.amounts.specs.Amount.{IsCellPlace};
 
 use books::{emission_fits, enter_emitted, enter_withdrawn, withdrawal_fits};
 use ledger::renew;
-use places::{Lent, Placed, common_places, not_placed, world_places};
-use units::{Answer, Grid, LEDGER_BLOCK, Refusal, number, wide, world_cells};
+use limiters::{block_at, put_block};
+use places::{Lent, common_places, world_places};
+use units::{Answer, Grid, Refusal, World, world_cells};
 
 // Tests lent air and tracers, and leaves for every tracer no emitter, the first limiter, and its total in its book.
 pub fn load(g: Grid, air: &[u32], tracers: &[u32], ledger: &mut [u32]) -> Answer
     ensures { Agrees (world_of g air.now tracers.now ledger.old) load_call result (world_of g air.now tracers.now ledger.new) }
 {
-    let loaded = world_places(g, air, tracers, ledger, Lent::Nothing);
-    let answer = loaded.answer;
-    if number(answer) == 0 {} else {
-        return answer;
-    }
-    let sums = loaded.totals;
-    renew(ledger, sums, g.n as usize);
-    answer
+    let w = World {
+        grid: g,
+        air,
+        tracers,
+        ledger,
+    };
+    let totals = world_places(w, Lent::Nothing)?;
+    renew(ledger, totals, g.n as usize);
+    Ok(0)
 }
 
 // A tracer's total.
 pub fn total(g: Grid, air: &[u32], tracers: &[u32], ledger: &[u32], tracer: u32) -> Answer
     ensures { Agrees (world_of g air.now tracers.now ledger.now) (total_call tracer) result (world_of g air.now tracers.now ledger.now) }
 {
-    let tested = common_places(g, air, tracers, ledger, Lent::Nothing);
-    let answer = tested.answer;
-    if number(answer) == 0 {} else {
-        return answer;
+    let w = World {
+        grid: g,
+        air,
+        tracers,
+        ledger,
+    };
+    let totals = common_places(w, Lent::Nothing)?;
+    if tracer >= g.n {
+        return Err(Refusal::Index);
     }
-    if tracer < g.n {} else {
-        return Answer::Refused(Refusal::Index);
-    }
-    let which = tracer as usize;
-    let sums = tested.totals;
-    let sum = sums[which] as u32;
-    Answer::Accepted(sum)
+    Ok(totals[tracer as usize] as u32)
 }
 
-// Places 1 to 5 of a call that names a tracer and a cell: where the cell's amount stands, and the tracer's total.
-fn amount_place(
-    g: Grid,
-    air: &[u32],
-    tracers: &[u32],
-    ledger: &[u32],
-    tracer: u32,
-    cell: u32,
-) -> Placed
-    ensures { IsCellPlace (world_of g air.now tracers.now ledger.now) tracer cell result }
+// A cell's amount of a tracer: where it stands among the amounts of all tracers, and the tracer's total.
+#[derive(Clone, Copy)]
+struct CellPlace {
+    index: usize,
+    total: u64,
+}
+
+// Places 1 to 5 of a call that names a tracer and a cell.
+fn amount_place(w: World, tracer: u32, cell: u32) -> Answer<CellPlace>
+    ensures { IsCellPlace (world_in w.entry) tracer cell result }
 {
-    let tested = common_places(g, air, tracers, ledger, Lent::Nothing);
-    let answer = tested.answer;
-    if number(answer) == 0 {} else {
-        return not_placed(answer);
+    let totals = common_places(w, Lent::Nothing)?;
+    if tracer >= w.grid.n {
+        return Err(Refusal::Index);
     }
-    if tracer < g.n {} else {
-        return not_placed(Answer::Refused(Refusal::Index));
-    }
-    let cells = world_cells(g);
-    if cell < cells {} else {
-        return not_placed(Answer::Refused(Refusal::Index));
+    let cells = world_cells(w.grid);
+    if cell >= cells {
+        return Err(Refusal::Index);
     }
     let t = tracer as usize;
-    let first = t * (cells as usize) + (cell as usize);
-    let sums = tested.totals;
-    let total = sums[t];
-    Placed {
-        answer: Answer::Accepted(0),
-        first,
-        found: total,
-    }
+    Ok(CellPlace {
+        index: t * (cells as usize) + (cell as usize),
+        total: totals[t],
+    })
 }
 
 // A cell's amount of a tracer, the cell numbered over all layers.
 pub fn cell(g: Grid, air: &[u32], tracers: &[u32], ledger: &[u32], tracer: u32, cell: u32) -> Answer
     ensures { Agrees (world_of g air.now tracers.now ledger.now) (cell_call tracer cell) result (world_of g air.now tracers.now ledger.now) }
 {
-    let place = amount_place(g, air, tracers, ledger, tracer, cell);
-    let answer = place.answer;
-    if number(answer) == 0 {} else {
-        return answer;
-    }
-    let i = place.first;
-    let amount = tracers[i];
-    Answer::Accepted(amount)
+    let w = World {
+        grid: g,
+        air,
+        tracers,
+        ledger,
+    };
+    let place = amount_place(w, tracer, cell)?;
+    Ok(tracers[place.index])
 }
 
 // Adds an amount of a tracer in one cell, and enters it in the tracer's book.
@@ -103,20 +96,22 @@ pub fn emission(
 ) -> Answer
     ensures { Agrees (world_of g air.now tracers.old ledger.old) (emission_call tracer cell amount) result (world_of g air.now tracers.new ledger.new) }
 {
-    let place = amount_place(g, air, tracers, ledger, tracer, cell);
-    let answer = place.answer;
-    if number(answer) == 0 {} else {
-        return answer;
+    let w = World {
+        grid: g,
+        air,
+        tracers,
+        ledger,
+    };
+    let place = amount_place(w, tracer, cell)?;
+    let t = tracer as usize;
+    let mut block = *block_at(ledger, t);
+    if !emission_fits(&block, place.total, u64::from(amount)) {
+        return Err(Refusal::Emission);
     }
-    let a = (tracer as usize) * LEDGER_BLOCK;
-    let e = a + LEDGER_BLOCK;
-    if emission_fits(&ledger[a..e], place.found, wide(amount)) {} else {
-        return Answer::Refused(Refusal::Emission);
-    }
-    let i = place.first;
-    tracers[i] = tracers[i] + amount;
-    enter_emitted(&mut ledger[a..e], amount);
-    Answer::Accepted(0) // counts not named are 0
+    tracers[place.index] += amount;
+    enter_emitted(&mut block, amount);
+    put_block(ledger, t, &block);
+    Ok(0) // counts not named are 0
 }
 
 // Takes an amount of a tracer from one cell, and enters it in the tracer's book.
@@ -131,19 +126,21 @@ pub fn withdrawal(
 ) -> Answer
     ensures { Agrees (world_of g air.now tracers.old ledger.old) (withdrawal_call tracer cell amount) result (world_of g air.now tracers.new ledger.new) }
 {
-    let place = amount_place(g, air, tracers, ledger, tracer, cell);
-    let answer = place.answer;
-    if number(answer) == 0 {} else {
-        return answer;
+    let w = World {
+        grid: g,
+        air,
+        tracers,
+        ledger,
+    };
+    let place = amount_place(w, tracer, cell)?;
+    let had = tracers[place.index];
+    let t = tracer as usize;
+    let mut block = *block_at(ledger, t);
+    if !withdrawal_fits(&block, had, amount) {
+        return Err(Refusal::Withdrawal);
     }
-    let i = place.first;
-    let had = tracers[i];
-    let a = (tracer as usize) * LEDGER_BLOCK;
-    let e = a + LEDGER_BLOCK;
-    if withdrawal_fits(&ledger[a..e], had, amount) {} else {
-        return Answer::Refused(Refusal::Withdrawal);
-    }
-    tracers[i] = had - amount;
-    enter_withdrawn(&mut ledger[a..e], amount);
-    Answer::Accepted(0)
+    tracers[place.index] = had - amount;
+    enter_withdrawn(&mut block, amount);
+    put_block(ledger, t, &block);
+    Ok(0)
 }

@@ -10,38 +10,22 @@ use units::Grid;
 
 // What a record asks for, but for its lists, which stay in its body.
 #[derive(Clone, Copy)]
-pub struct RowOf {
-    pub layer: u32,
-    pub row: u32,
-}
-
-#[derive(Clone, Copy)]
-pub struct LayerOf {
-    pub layer: u32,
-}
-
-#[derive(Clone, Copy)]
-pub struct TracerOf {
-    pub tracer: u32,
-}
-
-#[derive(Clone, Copy)]
-pub struct CellOf {
-    pub tracer: u32,
-    pub cell: u32,
-}
-
-#[derive(Clone, Copy)]
 pub enum Command {
     Grid(Grid),
     Load,
+    Call(Call),
+}
+
+// A call in the loaded world.
+#[derive(Clone, Copy)]
+pub enum Call {
     Emission(Amount),
     Withdrawal(Amount),
-    Zonal(RowOf),
-    Meridional(LayerOf),
+    Zonal { layer: u32, row: u32 },
+    Meridional { layer: u32 },
     Remap,
-    Total(TracerOf),
-    Cell(CellOf),
+    Total { tracer: u32 },
+    Cell { tracer: u32, cell: u32 },
 }
 
 // What a record with its whole body asks for.
@@ -49,26 +33,26 @@ pub fn parse(kind: Kind, body: &[u8]) -> Command
     requires { ParseNeed (kind_is kind) body.now }
     ensures { Parses (kind_is kind) body.now result }
 {
-    match kind {
-        Kind::Unknown => Command::Load, // never: an unknown kind is out of place
-        Kind::Grid => Command::Grid(parse_grid(body)),
-        Kind::Load => Command::Load,
-        Kind::Emission => Command::Emission(parse_amount(body)),
-        Kind::Withdrawal => Command::Withdrawal(parse_amount(body)),
-        Kind::Zonal => Command::Zonal(RowOf {
+    let call = match kind {
+        Kind::Grid => return Command::Grid(parse_grid(body)),
+        Kind::Load => return Command::Load,
+        Kind::Emission => Call::Emission(parse_amount(body)),
+        Kind::Withdrawal => Call::Withdrawal(parse_amount(body)),
+        Kind::Zonal => Call::Zonal {
             layer: number_1(body, 0),
             row: number_1(body, 1),
-        }),
-        Kind::Meridional => Command::Meridional(LayerOf {
+        },
+        Kind::Meridional => Call::Meridional {
             layer: number_1(body, 0),
-        }),
-        Kind::Remap => Command::Remap,
-        Kind::Total => Command::Total(TracerOf {
+        },
+        Kind::Remap => Call::Remap,
+        Kind::Total => Call::Total {
             tracer: number_1(body, 0),
-        }),
-        Kind::Cell => Command::Cell(CellOf {
+        },
+        Kind::Cell => Call::Cell {
             tracer: number_1(body, 0),
             cell: number_2(body, 1),
-        }),
-    }
+        },
+    };
+    Command::Call(call)
 }

@@ -14,21 +14,21 @@ pub fn number_1(bytes: &[u8], at: usize) -> u32
     requires { at < length bytes.now }
     ensures { (result ≡ byte_at bytes.now at) × (result < 256) }
 {
-    bytes[at] as u32
+    u32::from(bytes[at])
 }
 
 pub fn number_2(bytes: &[u8], at: usize) -> u32
     requires { at + 1 < length bytes.now }
     ensures { (result ≡ number_at bytes.now at 2) × (result < 65536) }
 {
-    number_1(bytes, at) + 256 * number_1(bytes, at + 1)
+    u32::from(u16::from_le_bytes([bytes[at], bytes[at + 1]]))
 }
 
 pub fn number_4(bytes: &[u8], at: usize) -> u32
     requires { at + 3 < length bytes.now }
     ensures { result ≡ number_at bytes.now at 4 }
 {
-    number_2(bytes, at) + 65536 * number_2(bytes, at + 2)
+    u32::from_le_bytes([bytes[at], bytes[at + 1], bytes[at + 2], bytes[at + 3]])
 }
 
 #[derive(Clone, Copy)]

@@ -7,14 +7,13 @@ ghost use Rattle.units.specs.Grid.{grid_of};
 ghost use Rattle.stages.specs.Buffers.{empty};
 ghost use Rattle.stages.specs.Limits.{program_body};
 ghost use Rattle.stages.specs.Stage.{plain_state, SmallGrid};
-ghost use Rattle.kinds.specs.Kind.{kind_is};
+ghost use Rattle.kinds.specs.Kind.{kind_is, known_or_not};
 
 use stages::{Stage, cells_of};
 use units::Grid;
 
-#[derive(Clone, Copy)]
+#[derive(Clone, Copy, PartialEq, Eq, Debug)]
 pub enum Kind {
-    Unknown,
     Grid,
     Load,
     Emission,
@@ -27,10 +26,10 @@ pub enum Kind {
 }
 
 // The kind that a byte names.
-pub fn kind_of(byte: u8) -> Kind
-    ensures { kind_is result ≡ kind_of byte }
+pub fn kind_of(byte: u8) -> Option<Kind>
+    ensures { known_or_not result ≡ kind_of byte }
 {
-    match byte {
+    Some(match byte {
         1 => Kind::Grid,
         2 => Kind::Load,
         3 => Kind::Emission,
@@ -40,28 +39,20 @@ pub fn kind_of(byte: u8) -> Kind
         7 => Kind::Remap,
         8 => Kind::Total,
         9 => Kind::Cell,
-        _ => Kind::Unknown,
-    }
+        _ => return None,
+    })
 }
 
 fn is_start(stage: Stage) -> bool
     ensures { result ≡ is_start (plain_state stage empty) }
 {
-    match stage {
-        Stage::Start => true,
-        Stage::Gridded(_) => false,
-        Stage::Loaded(_) => false,
-    }
+    matches!(stage, Stage::Start)
 }
 
 fn is_loaded(stage: Stage) -> bool
     ensures { result ≡ is_loaded (plain_state stage empty) }
 {
-    match stage {
-        Stage::Start => false,
-        Stage::Gridded(_) => false,
-        Stage::Loaded(_) => true,
-    }
+    matches!(stage, Stage::Loaded(_))
 }
 
 // Place 13: whether a record of this kind may come now.
@@ -69,16 +60,15 @@ pub fn in_place(stage: Stage, kind: Kind) -> bool
     ensures { result ≡ in_place (plain_state stage empty) (kind_is kind) }
 {
     match kind {
-        Kind::Unknown => false,
         Kind::Grid => is_start(stage),
         Kind::Load => !is_start(stage),
-        Kind::Emission => is_loaded(stage),
-        Kind::Withdrawal => is_loaded(stage),
-        Kind::Zonal => is_loaded(stage),
-        Kind::Meridional => is_loaded(stage),
-        Kind::Remap => is_loaded(stage),
-        Kind::Total => is_loaded(stage),
-        Kind::Cell => is_loaded(stage),
+        Kind::Emission
+        | Kind::Withdrawal
+        | Kind::Zonal
+        | Kind::Meridional
+        | Kind::Remap
+        | Kind::Total
+        | Kind::Cell => is_loaded(stage),
     }
 }
 
@@ -93,11 +83,9 @@ pub fn body_length(g: Grid, kind: Kind) -> usize
     let n = g.n as usize;
     let cells = cells_of(g);
     match kind {
-        Kind::Unknown => 0,
         Kind::Grid => 4,
         Kind::Load => 4 * (cells + n * cells),
-        Kind::Emission => 7,
-        Kind::Withdrawal => 7,
+        Kind::Emission | Kind::Withdrawal => 7,
         Kind::Zonal => 2 + 4 * w,
         Kind::Meridional => 1 + 4 * (w * (r + 1)),
         Kind::Remap => 4 * (2 * (k + 1)),

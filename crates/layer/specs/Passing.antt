@@ -1,5 +1,5 @@
 -- A layer's amounts, of air or of a tracer, as they are passed on: the south cap, the rows in a loop, the north cap.
-use Rattle.std.specs.Prelude.{ℕ, ◌+◌, ◌*◌, ◌-◌, ◌≤◌, ◌<◌, List, ◌≡◌, refl, length, set}
+use Rattle.std.specs.Prelude.{ℕ, ◌+◌, ◌*◌, ◌-◌, ◌≤◌, ◌<◌, List, ◌≡◌, length, set}
 use Rattle.std.proofs.Common.{◌∙◌, arith, length-set}
 use Rattle.model.specs.Basic.{at}
 use Rattle.model.specs.Sweep.{Mesh, Flow, layer, after_flow}
@@ -30,7 +30,7 @@ PassedRows w rows l up down after =
 
 -- as many amounts as before
 pub still_fit : {w rows : ℕ} {l after up down : List ℕ} → length after ≡ length l → Fit w rows l up down → Fit w rows after up down
-still_fit long fit = record { size = fit.size; long = long ∙ fit.long; faces = fit.faces }
+still_fit long fit = record { long = long ∙ fit.long; faces = fit.faces }
 
 -- ---- the south cap
 module _ {w rows : ℕ} {l up down : List ℕ} (passing : Passing w rows l up down) {e o : ℕ} (enters : IsSum down 0 w e)
@@ -54,9 +54,6 @@ pub record RowsMoved (w rows : ℕ) (before up down l : List ℕ) (j : ℕ) : Ty
   pub long : length l ≡ length before
   pub moved : MovedOn (layer w rows) (flow_of up down) before 1 l (1 + j)
 
-pub rows_none : {w rows : ℕ} {l up down : List ℕ} → RowsMoved w rows l up down l 0
-rows_none = record { reached = omega arith; long = refl; moved = λ b. b.moved }
-
 module _ {w rows : ℕ} {before up down l : List ℕ} {j : ℕ} (sofar : RowsMoved w rows before up down l j) where
   -- the cell whose turn it is
   module _ {e o : ℕ} (h : j < rows * w) (enters : e ≡ at up j + at down (w + j)) (leaves : o ≡ at down j + at up (w + j)) where
@@ -72,11 +69,6 @@ module _ {w rows : ℕ} {before up down l : List ℕ} {j : ℕ} (sofar : RowsMov
           long = length-set l (1 + j) x ∙ sofar.long;
           moved = λ b. rw next at (moved_more b.moves (sofar.moved b) (row_cell_lem w rows up down j h enters leaves) is);
         }
-
-  pub rows_all : rows * w ≤ j → PassingRows w rows before up down → PassedRows w rows before up down l
-  rows_all h (fit, begun) =
-      let done : j ≡ rows * w = omega arith in
-      (still_fit sofar.long fit, λ b. rw done at (sofar.moved b))
 
 -- ---- the north cap
 module _ {w rows : ℕ} {before up down l : List ℕ} (passing : PassingRows w rows before up down) (passed : PassedRows w rows before up down l)

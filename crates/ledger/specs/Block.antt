@@ -1,65 +1,65 @@
--- What the functions over a tracer's block need and give: the entries that a loop reads, the search for an id, the block after a removal, and a block whose sum is kept.
+-- What the functions over a tracer's block need and give: the search for an id, the block after a removal, and a block whose sum is kept.
 -- Assumes nothing of the block but what each says.
-use Rattle.std.specs.Prelude.{ℕ, zero, suc, ◌+◌, ◌*◌, ◌-◌, ◌≤◌, ◌<◌, List, ◌++◌, Bool, not, ◌&&◌, ◌||◌, ◌≡◌, refl, leb, ltb, length}
-use Rattle.std.proofs.Common.{append-nil, ap, ◌∙◌, add-zero, add-one, arith, drop_of_length-le}
+use Rattle.std.specs.Prelude.{ℕ, zero, suc, ◌+◌, ◌*◌, ◌≤◌, ◌<◌, List, ◌++◌, Bool, not, ◌&&◌, ◌||◌, ◌≡◌, refl, ltb, length, Option, Some, None}
+use Rattle.std.proofs.Common.{append-nil, ap, ◌∙◌, add-zero, add-one, arith, drop_of_length-le, ext_get_or}
+use Rattle.std.proofs.Math.ListN.{replicate}
+use Rattle.std.proofs.lemmas.List.{length-replicate, get_or-replicate}
 use Rattle.std.proofs.Math.Bool.{true, false, or-true, or-false}
 use Rattle.std.proofs.Math.Path.{sym, ap₂}
-use borrow.Rule.Slice.PartMut.{put_mid}
-use borrow.Author.Tests.{lt-ltb, lt-leb, le-leb, ltb-true, ltb-false, eq-eqb, ne_eqb}
+use borrow.Author.Tests.{lt-leb, le-leb, eq-eqb, ne_eqb}
 use Rattle.std.proofs.Math.Dec.{eqb}
 use Rattle.model.specs.Limits.{most_emitters, block_numbers}
-use Rattle.model.specs.Basic.{at, part, written, sum, every, some}
-use Rattle.model.proofs.Laws.Basic.{sum_le, sum_same, term_le_sum}
+use Rattle.model.specs.Basic.{at, part, written, zeros, sum, every, some}
+use Rattle.model.proofs.Laws.Basic.{sum_le, sum_same, term_le_sum, length_zeros, at_zeros}
 use Rattle.model.proofs.Laws.Emitters.{record_fitting, none_sound}
-use Rattle.model.specs.Emitters.{standing, emitter_id, emitter_cell, emitter_units, half, kept_units, present_units, has_id, record_fits, with_head, with_emitter, emitter_added, place_of, removed_at, emitter_removed}
+use Rattle.model.specs.Emitters.{standing, emitter_id, emitter_cell, emitter_units, half, kept_units, present_units, record_fits, place_of, removed_at, emitter_removed}
 use Rattle.model.specs.Books.{fresh_block}
 use Rattle.units.specs.EachTracer.{Changes, changed_up_to, length_gas, part_more}
-use Rattle.units.specs.Lent.{put_back}
-
--- a whole block, of which the first n emitters are read
-pub record Entries (b : List ℕ) (n : ℕ) : Type 0 where
-  pub long : length b ≡ block_numbers
-  pub few : n ≤ most_emitters
 
 -- a block in which at most 16 stand, with their sum
 pub record Kept (b : List ℕ) : Type 0 where
-  pub long : length b ≡ block_numbers
   pub few : standing b ≤ most_emitters
   pub sum : kept_units b ≡ present_units b
 
--- what a search for an id among the first n gives: a place below 16 where one of them has it, the last of those
-pub record Searched (b : List ℕ) (id n place : ℕ) : Type 0 where
-  pub has : some n (λ i. eqb (emitter_id b i) id) ≡ ltb place most_emitters
-  pub inside : place < most_emitters → place < n
-  pub is : place < most_emitters → place_of b id n ≡ place
+-- what a search for an id among the first n gives: none where none of them has it, else the place of the last that has it
+pub record FoundAt (b : List ℕ) (id n place : ℕ) : Type 0 where
+  pub has : some n (λ i. eqb (emitter_id b i) id) ≡ true
+  pub inside : place < n
+  pub is : place_of b id n ≡ place
+
+abbrev pub Searched : List ℕ → ℕ → ℕ → Option ℕ → Type 0
+Searched b id n None = some n (λ i. eqb (emitter_id b i) id) ≡ false
+Searched b id n (Some place) = FoundAt b id n place
 
 pub removed_is : (b : List ℕ) (id i : ℕ) → place_of b id (standing b) ≡ i → removed_at b i ≡ emitter_removed b id
 removed_is b id i e = ap (removed_at b) (sym e)
 
 -- ---- the search, one entry after the other
-pub searched_none : {b : List ℕ} {id : ℕ} → Searched b id 0 most_emitters
+pub searched_none : (b : List ℕ) (id : ℕ) → Searched b id 0 None
 unfolding some
-searched_none = record { has = refl; inside = λ h. absurd (omega arith); is = λ h. absurd (omega arith) }
+searched_none b id = refl
 
-module _ {b : List ℕ} {id n place : ℕ} (old : Searched b id n place) where
-  pub searched_here : n < most_emitters → emitter_id b n ≡ id → Searched b id (n + 1) n
+module _ (b : List ℕ) (id n : ℕ) where
+  pub searched_here : emitter_id b n ≡ id → Searched b id (n + 1) (Some n)
   unfolding some place_of
-  searched_here few e =
+  searched_here e =
       let same : eqb (emitter_id b n) id ≡ true = eq-eqb _ _ e in
       record {
-        has = rw (add-one, some, same) (or-true (some n (λ i. eqb (emitter_id b i) id)) ∙ sym (lt-ltb n most_emitters few));
-        inside = λ h. omega arith;
-        is = λ h. rw (add-one, place_of, same);
+        has = rw (add-one, some, same) (or-true (some n (λ i. eqb (emitter_id b i) id)));
+        inside = omega arith;
+        is = rw (add-one, place_of, same);
       }
 
-  pub searched_past : (emitter_id b n ≡ id → ⊥) → Searched b id (n + 1) place
+  pub searched_past : (place : Option ℕ) → Searched b id n place → (emitter_id b n ≡ id → ⊥) → Searched b id (n + 1) place
   unfolding some place_of
-  searched_past ne =
+  searched_past None old ne =
+      rw (add-one, some, ne_eqb (emitter_id b n) id ne) (or-false (some n (λ i. eqb (emitter_id b i) id)) ∙ old)
+  searched_past (Some place) old ne =
       let other : eqb (emitter_id b n) id ≡ false = ne_eqb _ _ ne in
       record {
         has = rw (add-one, some, other) (or-false (some n (λ i. eqb (emitter_id b i) id)) ∙ old.has);
-        inside = λ h. omega (arith, old.inside h);
-        is = λ h. rw (add-one, place_of, other) (old.is h);
+        inside = omega (arith, old.inside);
+        is = rw (add-one, place_of, other) old.is;
       }
 
 -- where p holds at some number, `not p` does not hold at every one
@@ -72,14 +72,6 @@ none_has (suc n) p = ap (λ (b : Bool). b && not (p n)) (none_has n p) ∙ both 
     both true b = refl
     both false b = refl
 
--- a place of 16 says that none of the first n has the id
-pub searched_absent : {b : List ℕ} {id n place : ℕ} → Searched b id n place → leb most_emitters place ≡ not (some n (λ i. eqb (emitter_id b i) id))
-searched_absent {b} {id} {n} {place} found = go (ltb place most_emitters) refl ∙ ap not (sym found.has)
-  where
-    go : (t : Bool) → ltb place most_emitters ≡ t → leb most_emitters place ≡ not (ltb place most_emitters)
-    go true e = lt-leb most_emitters place (ltb-true place most_emitters e) ∙ ap not (sym e)
-    go false e = le-leb most_emitters place (ltb-false place most_emitters e) ∙ ap not (sym e)
-
 -- ---- the units of n emitters, each below 2^32, and of one of them
 units_most : (b : List ℕ) (n : ℕ) → ((k : ℕ) → at b k < half) → sum n (emitter_units b) ≤ n * 4294967295
 units_most b n fit =
@@ -91,15 +83,6 @@ module _ {b : List ℕ} (kept : Kept b) where
 
   pub units_kept : {i : ℕ} → i < standing b → emitter_units b i ≤ kept_units b
   units_kept {i} h = omega (arith, kept.sum, term_le_sum (standing b) (emitter_units b) i h)
-
--- ---- an emitter may be added
-pub room_takes : {b : List ℕ} {id n place : ℕ} → Searched b id n place → n ≡ standing b →
-    ltb n most_emitters && leb most_emitters place ≡ not (leb most_emitters (standing b) || has_id b id)
-room_takes {b} {id} {n} {place} found same = rw (← same) (ap (λ (t : Bool). ltb n most_emitters && t) (searched_absent found) ∙ go (ltb n most_emitters) refl)
-  where
-    go : (t : Bool) → ltb n most_emitters ≡ t → ltb n most_emitters && not (some n (λ i. eqb (emitter_id b i) id)) ≡ not (leb most_emitters n || some n (λ i. eqb (emitter_id b i) id))
-    go true e = rw (e, lt-leb most_emitters n (ltb-true n most_emitters e))
-    go false e = rw (e, le-leb most_emitters n (ltb-false n most_emitters e))
 
 -- ---- the test of a record: more than 16 stand, or what the other three tests give
 module _ (cells : ℕ) (b : List ℕ) {n : ℕ} (same : n ≡ standing b) where
@@ -116,19 +99,11 @@ module _ (cells : ℕ) (b : List ℕ) {n : ℕ} (same : n ≡ standing b) where
       ap₂ (λ (x y : Bool). x && y) (ap₂ (λ (x y : Bool). x && y) (rw same at a) (rw same at d)) (ap₂ eqb k (rw same at p)) ∙
       sym (rw (record_fits, le-leb (standing b) most_emitters (rw same at few)))
 
--- ---- the block that `add` and `remove` leave, from what they write one after the other
-pub added_is : (b : List ℕ) (id c units : ℕ) {n kept : ℕ} {head last : List ℕ} →
-    n ≡ standing b → kept ≡ kept_units b → head ≡ with_head b (n + 1) (kept + units) → last ≡ with_emitter head n id c units →
-    last ≡ emitter_added b id c units
-added_is b id c units e k h l = rw (l, h, k, e)
-
-pub removed_leaves : (b : List ℕ) (i : ℕ) {n kept gone : ℕ} {head moved last : List ℕ} →
-    n ≡ standing b → kept ≡ kept_units b → gone ≡ emitter_units b i → head ≡ with_head b (n - 1) (kept - gone) →
-    moved ≡ with_emitter head i (emitter_id b (n - 1)) (emitter_cell b (n - 1)) (emitter_units b (n - 1)) →
-    last ≡ with_emitter moved (n - 1) 0 0 0 → last ≡ removed_at b i
-removed_leaves b i e k g h m l = rw (l, m, h, g, k, e)
-
 -- ---- the ledger that a load leaves, block after block
+pub replicate_zeros : (n : ℕ) → replicate n 0 ≡ zeros n
+replicate_zeros n =
+    ext_get_or 0 (replicate n 0) (zeros n) (length-replicate {A = ℕ} n 0 ∙ sym (length_zeros n)) (λ k h. let few : k < n = rw (length-replicate {A = ℕ} n 0) at h in get_or-replicate n k 0 0 few ∙ sym (at_zeros n k))
+
 pub length_fresh : (total : ℕ) → length (fresh_block total) ≡ block_numbers
 length_fresh total = (none_sound total 0).many
 
@@ -144,18 +119,16 @@ module _ (ledger totals : List ℕ) {n : ℕ} (long : length ledger ≡ n * bloc
 
   -- one more
   pub renewed_more : {t : ℕ} → t < n → {now new : List ℕ} → now ≡ changed_up_to ledger block_numbers (renewed totals) t → new ≡ renewed totals t →
-      put_mid (t * block_numbers) (t * block_numbers + block_numbers - t * block_numbers) now new ≡ changed_up_to ledger block_numbers (renewed totals) (t + 1)
+      written now (t * block_numbers) new ≡ changed_up_to ledger block_numbers (renewed totals) (t + 1)
   renewed_more {t} h {now} {new} e f =
       let size : length new ≡ block_numbers = ap length f ∙ length_fresh (at totals t) in
       let whole : written (part ledger (t * block_numbers) block_numbers) 0 new ≡ renewed totals t =
       written_all (part ledger (t * block_numbers) block_numbers) new (size ∙ sym (length_gas ledger n block_numbers long h)) ∙ f in
-      put_back now new (t * block_numbers) block_numbers size ∙
       ap (λ (a : ℕ). written now a new) (sym (add-zero (t * block_numbers))) ∙
       part_more renews h e new 0 (omega arith) whole
 
 -- ---- what a record that passed its test tells
-pub record_kept : (cells : ℕ) (b : List ℕ) → length b ≡ block_numbers → record_fits cells b ≡ true →
-    Kept b × ((i : ℕ) → i < standing b → emitter_cell b i < cells)
-record_kept cells b long e =
+pub record_kept : (cells : ℕ) (b : List ℕ) → record_fits cells b ≡ true → Kept b × ((i : ℕ) → i < standing b → emitter_cell b i < cells)
+record_kept cells b e =
     let fitting = record_fitting cells b e in
-    (record { long = long; few = fitting.few; sum = fitting.sum }, fitting.there)
+    (record { few = fitting.few; sum = fitting.sum }, fitting.there)

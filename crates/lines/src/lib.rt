@@ -6,7 +6,7 @@ ghost use Rattle.program.specs.Bytes.{decimal};
 ghost use Rattle.program.specs.Records.{line};
 ghost use Rattle.lines.specs.Text.{IsPut, IsText};
 
-#[derive(Clone, Copy)]
+#[derive(Clone, Copy, PartialEq, Eq, Debug)]
 pub struct Line {
     pub kind: u32,
     pub answer: u32,
@@ -23,6 +23,7 @@ fn put_byte(b: u8, out: &mut [u8], end: usize) -> usize
     at
 }
 
+// Not std's `write!` in an `impl Display`: it may answer Err, and line_text may not; and into a slice it says nothing of the bytes.
 fn put_decimal(n: u32, out: &mut [u8], end: usize) -> usize
     requires { (10 ≤ end) × (end ≤ length out.old) }
     ensures { IsPut 10 (decimal n) end out.old out.new result }
@@ -40,6 +41,7 @@ fn put_decimal(n: u32, out: &mut [u8], end: usize) -> usize
 }
 
 // Writes the line with its end into the last bytes of `out`, and returns where it starts.
+// Not the text as a slice of `out`: a slice that borrows `out` cannot say, as IsText does, what `out` holds at exit.
 // 33: three numbers of at most 10 digits, two spaces and the line's end.
 pub fn line_text(l: Line, out: &mut [u8; 33]) -> usize
     ensures { IsText (line l.kind l.answer l.count) out.new result }

@@ -1,5 +1,5 @@
 -- What `world_places` and `common_places` give: the first of places 1 to 4, and then of 21, where the call tests it, and 22, that applies, and, where none does, what they tell of the world.
-use Rattle.std.specs.Prelude.{◌≡◌, ℕ, ◌+◌, ◌*◌, ◌<◌, ◌≤◌, Bool, true, false, not, ◌&&◌, List, [], ◌∷◌, ◌++◌, length, ◌==◌, ◌≢◌, nat_le}
+use Rattle.std.specs.Prelude.{◌≡◌, ℕ, ◌+◌, ◌*◌, ◌<◌, ◌≤◌, Bool, true, false, not, ◌&&◌, List, [], ◌∷◌, ◌++◌, length, ◌==◌, nat_le, Result}
 use Rattle.std.proofs.Common.{append_assoc, true≢false, sym, ap₂, ◌∙◌, le_of_eq, eqb-true, leb-true, le-leb}
 use Rattle.std.proofs.Math.Bool.{and-eq-true_iff}
 use Rattle.std.proofs.Math.Path.{refl, ap}
@@ -11,14 +11,11 @@ use Rattle.model.specs.Books.{balances}
 use Rattle.model.specs.Step.{Call, Place, place, broken_limiter, broken_book, meaning, first_of, common_places, place_if, limiter_places, book_places, own_places, refusal, grid_fits, lengths_fit, lent_fits}
 use Rattle.model.proofs.Laws.Basic.{every_at, every_true, every_ext}
 use Rattle.model.proofs.Laws.Step.{Fits}
-use Rattle.units.specs.declared.Answer.{Answer}
-use Rattle.units.specs.declared.Answer.TheVariants.{Refused}
+use Rattle.units.specs.declared.Refusal.{Refusal}
 use Rattle.units.specs.declared.Refusal.TheVariants.{Limiters}
 use Rattle.units.specs.Limiter.{limiter_at}
-use Rattle.units.specs.Answer.{number_of, count_of, Agrees}
 use Rattle.places.specs.Totals.{TracersFit, AreTotals}
-use Rattle.places.specs.Walk.{Left, IsPlaced, next, stop, Like}
-use Rattle.places.specs.declared.Tested as declared
+use Rattle.places.specs.Walk.{Left, Refuses, IsPlaced, next, stop, Like}
 use Rattle.places.specs.declared.Lent.{Lent}
 use Rattle.places.specs.declared.Lent.TheVariants.{Nothing, RowFluxes, LayerFluxes, Table}
 
@@ -147,56 +144,47 @@ module _ {w : World} {Calls : Call → List Place → Type 0} where
       go true left e = next left (ap not e)
       go false left e = left
 
-  pub stop_limiters : {answer : Answer} {Found : Type 0} (lent : Lent) → Left w Calls (from_limiters lent) →
-      limiters_serve w lent ≡ false → answer ≡ Refused Limiters → IsPlaced w Calls answer Found
-  stop_limiters {answer} {Found} lent = go (limiters_tested lent)
+  pub stop_limiters : (lent : Lent) → Left w Calls (from_limiters lent) → limiters_serve w lent ≡ false → Refuses w Calls Limiters
+  stop_limiters lent = go (limiters_tested lent)
     where
       go : (tests : Bool) → Left w Calls (place_if tests broken_limiter ++ (broken_book ∷ [])) →
-          elim tests [ true ↦ limiters_fit w | false ↦ true ] ≡ false → answer ≡ Refused Limiters → IsPlaced w Calls answer Found
-      go true left e is = stop left (ap not e) is refl
-      go false left e is = absurd (true≢false e)
+          elim tests [ true ↦ limiters_fit w | false ↦ true ] ≡ false → Refuses w Calls Limiters
+      go true left e = stop left (ap not e) refl
+      go false left e = absurd (true≢false e)
 
 -- what places 1 to 4 tell of a world, with its totals
-pub record WorldPassed (w : World) (lent : Lent) (tested : declared.Tested) : Type 0 where
+pub record WorldPassed (w : World) (lent : Lent) (totals : List ℕ) : Type 0 where
   pub left : Left w (LendsList w lent) []
   pub fits : Fits w
   pub lent_fit : lent_serves w.grid lent ≡ true
-  pub count : count_of tested.answer ≡ 0
-  pub total : (t : ℕ) → t < w.grid.N → at tested.totals t ≡ gas_total w t
+  pub total : (t : ℕ) → t < w.grid.N → at totals t ≡ gas_total w t
 
-abbrev pub IsWorldTested : World → Lent → declared.Tested → Type 0
-IsWorldTested w lent tested = IsPlaced w (LendsList w lent) tested.answer (WorldPassed w lent tested)
+abbrev pub IsWorldTested : World → Lent → Result (List ℕ) Refusal → Type 0
+IsWorldTested w lent = IsPlaced w (LendsList w lent) (WorldPassed w lent)
 
 -- the totals are within their limit, and the test of the books with them is place 22's
-module _ {w : World} {lent : Lent} {tested : declared.Tested} (passed : WorldPassed w lent tested) where
-  pub small_totals : every w.grid.N (λ t. nat_le (at tested.totals t) total_limit) ≡ true
+module _ {w : World} {lent : Lent} {totals : List ℕ} (passed : WorldPassed w lent totals) where
+  pub small_totals : every w.grid.N (λ t. nat_le (at totals t) total_limit) ≡ true
   small_totals = every_true _ _ (λ t h. rw (passed.total t h) (le-leb _ _ (passed.fits.totals t h)))
 
-  pub books_test_lem : every w.grid.N (λ t. balances (block w t) (at tested.totals t)) ≡ books_test w
+  pub books_test_lem : every w.grid.N (λ t. balances (block w t) (at totals t)) ≡ books_test w
   books_test_lem = every_ext w.grid.N _ _ (λ t h. ap (balances (block w t)) (passed.total t h))
 
 -- .. and what all these places tell
-pub record Passed (w : World) (lent : Lent) (tested : declared.Tested) : Type 0 where
+pub record Passed (w : World) (lent : Lent) (totals : List ℕ) : Type 0 where
   pub left : Left w (Lends w lent) []
   pub fits : Fits w
   pub lent_fit : lent_serves w.grid lent ≡ true
   pub limiters : limiters_serve w lent ≡ true
-  pub count : count_of tested.answer ≡ 0
-  pub total : (t : ℕ) → t < w.grid.N → at tested.totals t ≡ gas_total w t
+  pub total : (t : ℕ) → t < w.grid.N → at totals t ≡ gas_total w t
 
 -- refused by places 1 to 4
-pub world_refused : {w : World} {lent : Lent} {tested : declared.Tested} {Found : Type 0} → IsWorldTested w lent tested →
-    (number_of tested.answer ≢ 0) → IsPlaced w (Lends w lent) tested.answer Found
-world_refused is refused =
-    record {
-      refused =
-          λ _ call rest lends.
-          is.refused refused call (limiter_places call ++ (book_places call ++ own_places call)) (record { fit = lends.fit; behind = refl });
-      found = λ z. absurd (refused z);
-    }
+pub world_refused : {w : World} {lent : Lent} {r : Refusal} → Refuses w (LendsList w lent) r → Refuses w (Lends w lent) r
+world_refused refused call rest lends =
+    refused call (limiter_places call ++ (book_places call ++ own_places call)) (record { fit = lends.fit; behind = refl })
 
-abbrev pub IsTested : World → Lent → declared.Tested → Type 0
-IsTested w lent tested = IsPlaced w (Lends w lent) tested.answer (Passed w lent tested)
+abbrev pub IsTested : World → Lent → Result (List ℕ) Refusal → Type 0
+IsTested w lent = IsPlaced w (Lends w lent) (Passed w lent)
 
 -- what the passed lengths tell
 pub record Lengths (w : World) (lent : Lent) : Type 0 where
@@ -249,8 +237,8 @@ module _ (w : World) (cells : ℕ) (e : cells ≡ world_cells w.grid) (sums : Li
       (λ t h. ap (λ (x : ℕ). nat_le x total_limit) (gas_totals t h))
 
 -- ---- a call that is lent such a list: its own places are left, or it is refused by those before them
-module _ {w : World} {lent : Lent} {tested : declared.Tested} {call : Call} where
-  pub own_left : Passed w lent tested → lent_fits w.grid call ≡ lent_serves w.grid lent → (meaning call).limiters ≡ limiters_tested lent →
+module _ {w : World} {lent : Lent} {call : Call} where
+  pub own_left : {totals : List ℕ} → Passed w lent totals → lent_fits w.grid call ≡ lent_serves w.grid lent → (meaning call).limiters ≡ limiters_tested lent →
       (meaning call).books ≡ true → Left w (Like w call) (meaning call).places
   unfolding own_places
   own_left passed e l b =
@@ -261,19 +249,7 @@ module _ {w : World} {lent : Lent} {tested : declared.Tested} {call : Call} wher
             ap (λ (l : List Place). first_of l w) like.places;
       }
 
-  pub common_refused : IsTested w lent tested → (number_of tested.answer ≢ 0) →
-      lent_fits w.grid call ≡ lent_serves w.grid lent → (meaning call).limiters ≡ limiters_tested lent → (meaning call).books ≡ true →
-      Agrees w call tested.answer w
-  common_refused is refused e l b = is.refused refused call (own_places call) (record { fit = e; limiters = l; books = b; own = refl })
-
-  pub common_placed : {answer : Answer} {Found : Type 0} → IsTested w lent tested → (number_of tested.answer ≢ 0) →
-      lent_fits w.grid call ≡ lent_serves w.grid lent → (meaning call).limiters ≡ limiters_tested lent → (meaning call).books ≡ true →
-      answer ≡ tested.answer →
-      IsPlaced w (Like w call) answer Found
-  common_placed is refused e l b same =
-      record {
-        refused =
-            λ _ other rest like.
-            rw same (is.refused refused other (own_places other) (record { fit = like.lent ∙ e; limiters = like.limiters ∙ l; books = like.books ∙ b; own = refl }));
-        found = λ z. absurd (refused (rw same at z));
-      }
+  pub common_refused : {r : Refusal} → Refuses w (Lends w lent) r → lent_fits w.grid call ≡ lent_serves w.grid lent →
+      (meaning call).limiters ≡ limiters_tested lent → (meaning call).books ≡ true → Refuses w (Like w call) r
+  common_refused refused e l b other rest like =
+      refused other (own_places other) (record { fit = like.lent ∙ e; limiters = like.limiters ∙ l; books = like.books ∙ b; own = refl })

@@ -1,42 +1,41 @@
 -- The walk through a call's places: the refusal is the first of the places left that applies, and so far none did. What a function that tests places gives.
-use Rattle.std.specs.Prelude.{◌≡◌, ℕ, ◌<◌, ◌≤◌, Bool, true, false, not, List, [], ◌∷◌, ◌++◌, ◌≢◌, nat_lt, refl}
+use Rattle.std.specs.Prelude.{◌≡◌, ℕ, ◌<◌, ◌≤◌, Bool, true, false, not, List, [], ◌∷◌, ◌++◌, nat_lt, refl, Result, Ok, Err, IsErrAnd}
 use Rattle.std.proofs.Common.{append_assoc, append-nil, sym, ap, ◌∙◌, lt-ltb, le-ltb}
+use Rattle.std.proofs.lemmas.Result.{err_from_is_err_and}
 use Rattle.model.specs.World.{World}
 use Rattle.model.specs.Step.{Call, Place, meaning, first_of, lent_fits, refusal}
 use Rattle.model.proofs.Laws.Step.{passes, stops}
-use Rattle.units.specs.declared.Answer.{Answer}
-use Rattle.units.specs.declared.Answer.TheVariants.{Refused}
 use Rattle.units.specs.declared.Refusal.{Refusal}
-use Rattle.units.specs.Answer.{refusal_number, number_of, Agrees}
-use Rattle.units.specs.Agrees.{refusal_nonzero, refused_agrees}
+use Rattle.units.specs.Answer.{refusal_number, Agrees}
+use Rattle.units.specs.Agrees.{refused_agrees}
 
 -- the places that are left to test, of `Calls`: calls that are tested alike, each with the places that it has behind these
 pub record Left (w : World) (Calls : Call → List Place → Type 0) (ps : List Place) : Type 0 where
   pub is : (call : Call) (rest : List Place) → Calls call rest → refusal w call ≡ first_of (ps ++ rest) w
 
--- what a function that tests places gives: a refusal, which is `step`'s to each of the calls, or what it found
-pub record IsPlaced (w : World) (Calls : Call → List Place → Type 0) (answer : Answer) (Found : Type 0) : Type 0 where
-  pub refused : (number_of answer ≢ 0) → (call : Call) (rest : List Place) → Calls call rest → Agrees w call answer w
-  pub found : number_of answer ≡ 0 → Found
+-- a refusal is `step`'s to each of the calls
+abbrev pub Refuses : World → (Call → List Place → Type 0) → Refusal → Type 0
+Refuses w Calls r = (call : Call) (rest : List Place) → Calls call rest → Agrees w call (Err r) w
+
+-- what a function that tests places gives: such a refusal, or what it found, of which `Tells` tells
+abbrev pub IsPlaced : {Found : Type 0} → World → (Call → List Place → Type 0) → (Found → Type 0) → Result Found Refusal → Type 0
+IsPlaced w Calls Tells (Ok found) = Tells found
+IsPlaced w Calls Tells (Err r) = Refuses w Calls r
+
+-- a call that `?` ends answers that refusal
+pub hands_on : {w : World} {Calls : Call → List Place → Type 0} {call : Call} {rest : List Place} {r : Refusal} {result : Result ℕ Refusal} →
+    IsErrAnd result (λ y. y ≡ r) → Refuses w Calls r → Calls call rest → Agrees w call result w
+hands_on {call = call} {rest = rest} {result = result} ended refused asks =
+    let p = err_from_is_err_and result ended in
+    rw (p.1, p.2) (refused call rest asks)
 
 -- ---- one place: it does not apply, or it refuses
 module _ {w : World} {Calls : Call → List Place → Type 0} {p : Place} {ps : List Place} (left : Left w Calls (p ∷ ps)) where
   pub next : p.applies w ≡ false → Left w Calls ps
   next e = record { is = λ call rest asks. left.is call rest asks ∙ passes p (ps ++ rest) w e }
 
-  pub stop : {answer : Answer} {r : Refusal} {Found : Type 0} → p.applies w ≡ true → answer ≡ Refused r →
-      refusal_number r ≡ p.number → IsPlaced w Calls answer Found
-  stop {answer} {r} e is number =
-      record {
-        refused =
-            λ _ call rest asks.
-            rw is (refused_agrees (left.is call rest asks ∙ stops p (ps ++ rest) w e ∙ sym number));
-        found = λ z. absurd (refusal_nonzero r (rw is at z));
-      }
-
--- none applies
-pub placed : {w : World} {Calls : Call → List Place → Type 0} {answer : Answer} {Found : Type 0} → number_of answer ≡ 0 → Found → IsPlaced w Calls answer Found
-placed accepted found = record { refused = λ refused. absurd (refused accepted); found = λ z. found }
+  pub stop : {r : Refusal} → p.applies w ≡ true → refusal_number r ≡ p.number → Refuses w Calls r
+  stop e number call rest asks = refused_agrees (left.is call rest asks ∙ stops p (ps ++ rest) w e ∙ sym number)
 
 -- a place's test: what is named is there or missing, what is tested fits or not
 pub there : {i n : ℕ} → i < n → not (nat_lt i n) ≡ false
@@ -83,11 +82,6 @@ module _ {w : World} {call : Call} where
 
   -- refused by a place of its own
   pub refuse : {p : Place} {ps : List Place} {r : Refusal} → Left w (Like w call) (p ∷ ps) → p.applies w ≡ true →
-      refusal_number r ≡ p.number → Agrees w call (Refused r) w
+      refusal_number r ≡ p.number → Agrees w call (Err r) w
   refuse {p} {ps} {r} left e number =
       refused_agrees (left.is call [] itself ∙ stops p (ps ++ []) w e ∙ sym number)
-
--- what a function that tests places refuses
-pub refuses : {w : World} {call other : Call} {rest : List Place} {answer : Answer} {Found : Type 0} →
-    IsPlaced w (Like w call) answer Found → (number_of answer ≢ 0) → Like w call other rest → Agrees w other answer w
-refuses {w} {call} {other} {rest} placed refused like = placed.refused refused other rest like

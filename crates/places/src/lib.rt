@@ -2,29 +2,30 @@
 // The tests of whole buffers have no early exit, so that the compiler can vectorise them, and each buffer is read once.
 #![tactic(auto)]
 
-ghost use Rattle.std.specs.Prelude.{◌≡◌, ◌+◌, ◌*◌, ◌<◌, ◌≤◌, leb, length, nat_le, unsigned_abs};
+ghost use Rattle.std.specs.Prelude.{◌≡◌, ◌+◌, ◌*◌, ◌<◌, ◌≤◌, leb, length, unsigned_abs};
 ghost use Rattle.model.specs.Limits.{total_limit, most_cells, block_numbers};
 ghost use Rattle.model.specs.Basic.{at, sum, every};
 ghost use Rattle.model.specs.World.{air_fits};
 ghost use Rattle.model.specs.Sweep.{flux};
-ghost use Rattle.units.specs.Grid.{grid_of, world_of, InRange};
+ghost use Rattle.units.specs.Grid.{grid_of, world_in, InRange};
 ghost use Rattle.places.specs.Totals.{IsTotal, TracersFit, AreTotals};
 ghost use Rattle.places.specs.Tested.{lent_serves, lengths_serve, ledger_serves, IsWorldTested, IsTested};
 
 use books::books_balance;
 use limiters::limiters_fit;
-use scheme::split;
-use std::num::wrapping_add_u32;
 use units::{
-    AIR_LIMIT, Air, Answer, Grid, LEDGER_BLOCK, MOST_TRACERS, Refusal, TOTAL_LIMIT, grid_fits,
-    number, world_cells,
+    AIR_LIMIT, Air, Answer, Grid, LEDGER_BLOCK, MOST_TRACERS, Refusal, TOTAL_LIMIT, World,
+    grid_fits, world_cells,
 };
+
+// Every tracer's total; 0 for tracers that a grid does not have.
+pub type Totals = [u64; MOST_TRACERS];
 
 // Whether a cell's air is 1 to 65,535.
 pub fn air_in_range(m: Air) -> bool
-    ensures { result ≡ air_fits m.0 }
+    ensures { result ≡ air_fits m.units }
 {
-    (1 <= m.0) & (m.0 <= AIR_LIMIT)
+    (1 <= m.units) & (m.units <= AIR_LIMIT)
 }
 
 // Place 3: whether every cell's air is in range. `all` has the bits of every cell's air.
@@ -33,12 +34,9 @@ pub fn air_fits(air: &[u32]) -> bool
 {
     let mut all: u32 = 0;
     let mut some = true;
-    let mut i = 0;
-    while i < air.len() {
-        let m = air[i];
-        all = all | m;
-        some = some & (1 <= m);
-        i += 1;
+    for m in air {
+        all |= *m;
+        some &= 1 <= *m;
     }
     some & (all <= AIR_LIMIT)
 }
@@ -49,10 +47,8 @@ fn wide_total(gas: &[u32]) -> u64
     ensures { IsTotal gas.now result }
 {
     let mut sum: u64 = 0;
-    let mut i = 0;
-    while i < gas.len() {
-        sum += gas[i] as u64;
-        i += 1;
+    for x in gas {
+        sum += *x as u64;
     }
     sum
 }
@@ -67,29 +63,19 @@ fn block_total(gas: &[u32]) -> u64
     let mut all: u32 = 0;
     let mut first: u32 = 0;
     let mut second: u32 = 0;
-    let mut i = 0;
-    while i < half {
+    for i in 0..half {
         let x = gas[i];
         let y = gas[half + i];
         all = all | x | y;
-        first = wrapping_add_u32(first, x);
-        second = wrapping_add_u32(second, y);
-        i += 1;
+        first = first.wrapping_add(x);
+        second = second.wrapping_add(y);
     }
-    if all < 1048576 {} else {
+    if all >= 1048576 {
         return wide_total(gas);
     }
     let end = half + half;
     let rest = wide_total(&gas[end..]); // one amount, or none
     (first as u64) + (second as u64) + rest
-}
-
-// Where the block that starts at entry a of n ends.
-fn block_end(a: usize, n: usize) -> usize
-    requires { a < n }
-    ensures { (a < result) × (result ≤ n) × (result ≤ a + 8192) }
-{
-    if n - a < 8192 { n } else { a + 8192 }
 }
 
 // A tracer's sum over all cells.
@@ -98,41 +84,34 @@ pub fn gas_total(gas: &[u32]) -> u64
     ensures { (result ≡ sum (length gas.now) (at gas.now)) × (result < 562949953421312) }
 {
     let mut sum: u64 = 0;
-    let mut a = 0;
-    while a < gas.len() {
-        let e = block_end(a, gas.len());
-        sum += block_total(&gas[a..e]);
-        a = e;
+    for block in gas.chunks(8192) {
+        sum += block_total(block);
     }
     sum
 }
 
 // The totals of the first n tracers, each over `cells` cells; 0 for the others.
-pub fn totals(tracers: &[u32], cells: usize, n: usize) -> [u64; MOST_TRACERS]
+pub fn totals(tracers: &[u32], cells: usize, n: usize) -> Totals
     requires { TracersFit tracers.now cells n }
     ensures { AreTotals tracers.now cells n result }
 {
     let mut sums = [0u64; MOST_TRACERS];
-    let mut t = 0;
-    while t < n {
+    for t in 0..n {
         let a = t * cells;
         let e = a + cells;
         sums[t] = gas_total(&tracers[a..e]);
-        t += 1;
     }
     sums
 }
 
 // Place 4: whether the totals of the first n tracers are at most 268,435,455.
-pub fn totals_fit(sums: [u64; MOST_TRACERS], n: usize) -> bool
+pub fn totals_fit(sums: Totals, n: usize) -> bool
     requires { n ≤ 8 }
     ensures { result ≡ every n (λ t. leb (at sums t) total_limit) }
 {
     let mut ok = true;
-    let mut t = 0;
-    while t < n {
-        ok = ok & (sums[t] <= TOTAL_LIMIT);
-        t += 1;
+    for t in 0..n {
+        ok &= sums[t] <= TOTAL_LIMIT;
     }
     ok
 }
@@ -162,31 +141,15 @@ pub fn lent_fits(g: Grid, lent: Lent) -> bool
     }
 }
 
-// The answer of these places, and every tracer's total where all are passed.
-#[derive(Clone, Copy)]
-pub struct Tested {
-    pub answer: Answer,
-    pub totals: [u64; MOST_TRACERS],
-}
-
-fn refused(place: Refusal) -> Tested
-    ensures { result.answer ≡ Answer.Refused place }
-{
-    Tested {
-        answer: Answer::Refused(place),
-        totals: [0u64; MOST_TRACERS],
-    }
-}
-
 // Place 2: whether the lent lengths are the grid's.
-pub fn lengths_fit(g: Grid, air: &[u32], tracers: &[u32], ledger: &[u32], lent: Lent) -> bool
-    requires { InRange g }
-    ensures { result ≡ lengths_serve (world_of g air.now tracers.now ledger.now) lent }
+pub fn lengths_fit(w: World, lent: Lent) -> bool
+    requires { InRange w.grid }
+    ensures { result ≡ lengths_serve (world_in w.entry) lent }
 {
-    let cells = world_cells(g) as usize;
-    let n = g.n as usize;
-    let amounts = (air.len() == cells) & (tracers.len() == n * cells);
-    amounts & (ledger.len() == n * LEDGER_BLOCK) & lent_fits(g, lent)
+    let cells = world_cells(w.grid) as usize;
+    let n = w.grid.n as usize;
+    let amounts = (w.air.len() == cells) & (w.tracers.len() == n * cells);
+    amounts & (w.ledger.len() == n * LEDGER_BLOCK) & lent_fits(w.grid, lent)
 }
 
 // Place 21: whether the limiters of the first n tracers are sound, in a call that is lent fluxes or a table; other calls do not test them.
@@ -196,95 +159,53 @@ pub fn limiters_serve(ledger: &[u32], n: usize, lent: Lent) -> bool
 {
     match lent {
         Lent::Nothing => true,
-        Lent::RowFluxes(_) => limiters_fit(ledger, n),
-        Lent::LayerFluxes(_) => limiters_fit(ledger, n),
-        Lent::Table(_) => limiters_fit(ledger, n),
+        Lent::RowFluxes(_) | Lent::LayerFluxes(_) | Lent::Table(_) => limiters_fit(ledger, n),
     }
 }
 
-// Places 1 to 4, in this order: all that a load tests.
-pub fn world_places(g: Grid, air: &[u32], tracers: &[u32], ledger: &[u32], lent: Lent) -> Tested
-    ensures { IsWorldTested (world_of g air.now tracers.now ledger.now) lent result }
+// Places 1 to 4, in this order: all that a load tests. They give every tracer's total.
+pub fn world_places(w: World, lent: Lent) -> Answer<Totals>
+    ensures { IsWorldTested (world_in w.entry) lent result }
 {
-    if grid_fits(g) {} else {
-        return refused(Refusal::GridRange);
+    if !grid_fits(w.grid) {
+        return Err(Refusal::GridRange);
     }
-    if lengths_fit(g, air, tracers, ledger, lent) {} else {
-        return refused(Refusal::Lengths);
+    if !lengths_fit(w, lent) {
+        return Err(Refusal::Lengths);
     }
-    if air_fits(air) {} else {
-        return refused(Refusal::AirRange);
+    if !air_fits(w.air) {
+        return Err(Refusal::AirRange);
     }
-    let n = g.n as usize;
-    let sums = totals(tracers, world_cells(g) as usize, n);
-    if totals_fit(sums, n) {} else {
-        return refused(Refusal::Totals);
+    let n = w.grid.n as usize;
+    let sums = totals(w.tracers, world_cells(w.grid) as usize, n);
+    if !totals_fit(sums, n) {
+        return Err(Refusal::Totals);
     }
-    Tested {
-        answer: Answer::Accepted(0),
-        totals: sums,
-    }
+    Ok(sums)
 }
 
 // Places 1 to 4, where the call tests it 21, and 22, in this order, of every call but a load. The sums of place 4 serve for 22.
-pub fn common_places(g: Grid, air: &[u32], tracers: &[u32], ledger: &[u32], lent: Lent) -> Tested
-    ensures { IsTested (world_of g air.now tracers.now ledger.now) lent result }
+pub fn common_places(w: World, lent: Lent) -> Answer<Totals>
+    ensures { IsTested (world_in w.entry) lent result }
 {
-    let tested = world_places(g, air, tracers, ledger, lent);
-    let answer = tested.answer;
-    if number(answer) == 0 {} else {
-        return tested;
+    let sums = world_places(w, lent)?;
+    let n = w.grid.n as usize;
+    if !limiters_serve(w.ledger, n, lent) {
+        return Err(Refusal::Limiters);
     }
-    let n = g.n as usize;
-    if limiters_serve(ledger, n, lent) {} else {
-        return refused(Refusal::Limiters);
+    if !books_balance(w.ledger, sums, n) {
+        return Err(Refusal::Books);
     }
-    let sums = tested.totals;
-    if books_balance(ledger, sums, n) {} else {
-        return refused(Refusal::Books);
-    }
-    tested
-}
-
-// What the places of a call give: their answer; where the cells that the call names start, and a number found on the way, such as a total or a count.
-#[derive(Clone, Copy)]
-pub struct Placed {
-    pub answer: Answer,
-    pub first: usize,
-    pub found: u64,
-}
-
-// A call that was refused.
-pub fn not_placed(answer: Answer) -> Placed
-    ensures { result.answer ≡ answer }
-{
-    Placed {
-        answer,
-        first: 0,
-        found: 0,
-    }
-}
-
-// Whether a flux's size is at most the limit.
-fn flux_fits(f: i32, limit: Air) -> bool
-    ensures { result ≡ nat_le (unsigned_abs f) limit.0 }
-{
-    let flow = split(f);
-    let high = flow.to_high;
-    let low = flow.to_low;
-    (high.0 <= limit.0) & (low.0 <= limit.0)
+    Ok(sums)
 }
 
 // Place 8: whether every flux's size is at most the limit.
 pub fn fluxes_fit(fluxes: &[i32], limit: Air) -> bool
-    ensures { result ≡ every (length fluxes.now) (λ i. leb (unsigned_abs (flux fluxes.now i)) limit.0) }
+    ensures { result ≡ every (length fluxes.now) (λ i. leb (unsigned_abs (flux fluxes.now i)) limit.units) }
 {
     let mut ok = true;
-    let mut i = 0;
-    while i < fluxes.len() {
-        let f = fluxes[i];
-        ok = ok & flux_fits(f, limit);
-        i += 1;
+    for f in fluxes {
+        ok &= f.unsigned_abs() <= limit.units;
     }
     ok
 }

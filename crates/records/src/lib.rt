@@ -1,47 +1,48 @@
 // The runner's reader: the bytes that a record needs, and the record at the start of some bytes.
 #![tactic(auto)]
 
-ghost use Rattle.records.specs.Found.{NeedsBytes, Finds};
+ghost use Rattle.stages.specs.Buffers.{empty};
+ghost use Rattle.stages.specs.Stage.{plain_state};
+ghost use Rattle.records.specs.Found.{IsPlaced, NeedsBytes, Finds};
 
 use commands::{Command, parse};
-use kinds::{body_length, in_place, kind_of};
-use stages::{Fault, Stage, grid_of, settled};
+use kinds::{Kind, body_length, in_place, kind_of};
+use stages::{Fault, Stage};
+
+// The kind that a byte names, where a record of it may come now.
+fn placed(stage: Stage, byte: u8) -> Option<Kind>
+    ensures { IsPlaced (plain_state stage empty) byte result }
+{
+    let kind = kind_of(byte)?;
+    if in_place(stage, kind) {
+        Some(kind)
+    } else {
+        None
+    }
+}
 
 // The bytes of a body that a kind needs: none where 13 follows.
 pub fn body_bytes(stage: Stage, kind: u8) -> usize
     ensures { NeedsBytes stage kind result }
 {
-    let known = kind_of(kind);
-    let sound = settled(stage);
-    if in_place(sound, known) {
-        body_length(grid_of(sound), known)
-    } else {
-        0
+    let sound = stage.settled();
+    match placed(sound, kind) {
+        Some(known) => body_length(sound.grid(), known),
+        None => 0,
     }
 }
 
-// What the reader finds at the start of some bytes: nothing, a fault, or a record with its whole body.
-#[derive(Clone, Copy)]
-pub enum Found {
-    Nothing,
-    Faulty(Fault),
-    Record(Command),
-}
-
-// The record at the start of some bytes: kind before length, length before its body is handed to the parser.
-pub fn read(stage: Stage, input: &[u8]) -> Found
+// The record at the start of some bytes, with its whole body; none where there is no byte. Kind before length, length before its body is handed to the parser.
+pub fn read(stage: Stage, input: &[u8]) -> Result<Option<Command>, Fault>
     ensures { Finds stage input.now result }
 {
-    if input.len() == 0 {
-        return Found::Nothing;
+    let Some((&byte, body)) = input.split_first() else {
+        return Ok(None);
+    };
+    let sound = stage.settled();
+    let kind = placed(sound, byte).ok_or(Fault::Kind)?;
+    if body.len() < body_length(sound.grid(), kind) {
+        return Err(Fault::Length);
     }
-    let kind = kind_of(input[0]);
-    let sound = settled(stage);
-    if in_place(sound, kind) {} else {
-        return Found::Faulty(Fault::Kind);
-    }
-    if body_length(grid_of(sound), kind) <= input.len() - 1 {} else {
-        return Found::Faulty(Fault::Length);
-    }
-    Found::Record(parse(kind, &input[1..]))
+    Ok(Some(parse(kind, body)))
 }

@@ -1,5 +1,5 @@
 -- The places that all sweeps of a row have before their own, and what `row_place` finds: where the row starts.
-use Rattle.std.specs.Prelude.{ℕ, ◌+◌, ◌-◌, ◌≤◌, true, ◌≡◌, eqb, ℤ, length}
+use Rattle.std.specs.Prelude.{ℕ, ◌+◌, ◌-◌, ◌≤◌, true, ◌≡◌, eqb, ℤ, length, Result}
 use mathlib.Core.List.{List, [], ◌∷◌, ◌++◌, append_assoc}
 use Rattle.std.proofs.Math.Path.{refl, ap}
 use Rattle.std.proofs.Common.{◌∙◌, le_trans}
@@ -10,13 +10,10 @@ use Rattle.model.specs.Step.{Call, absent, Place, meaning, first_of, own_places,
 use Rattle.model.proofs.Laws.Basic.{length_part}
 use Rattle.model.proofs.Laws.Grid.{in_range_lem, cells_most_lem}
 use Rattle.model.proofs.Laws.Step.{Fits}
-use Rattle.units.specs.declared.Answer.{Answer}
-use Rattle.units.specs.Answer.{number_of, count_of}
-use Rattle.places.specs.declared.Placed.{Placed}
-use Rattle.places.specs.declared.Tested.{Tested}
+use Rattle.units.specs.declared.Refusal.{Refusal}
 use Rattle.places.specs.declared.Lent.TheVariants.{RowFluxes}
-use Rattle.places.specs.Walk.{Left, IsPlaced, Like}
-use Rattle.places.specs.Tested.{IsTested, Passed}
+use Rattle.places.specs.Walk.{Left, Refuses, IsPlaced, Like}
+use Rattle.places.specs.Tested.{Lends, Passed}
 use Rattle.units.specs.Lent.{part_lent}
 
 -- the layer, the row and the fluxes
@@ -61,37 +58,29 @@ module _ {w : World} {fluxes : List ℤ} {first : ℕ} (row : RowIn w fluxes fir
   row_lent k r start = part_lent w.air first w.grid.W ∙ ap (λ (n : ℕ). part w.air n w.grid.W) start
 
 -- ---- what `row_place` finds
-pub record RowFound (w : World) (k r : ℕ) (fluxes : List ℤ) (p : Placed) : Type 0 where
+pub record RowFound (w : World) (k r : ℕ) (fluxes : List ℤ) (first : ℕ) : Type 0 where
   pub left : Left w (SweepsRow w k r fluxes) []
-  pub row : RowIn w fluxes p.first
-  pub start : p.first ≡ row_start w.grid k r
-  pub count : count_of p.answer ≡ 0
+  pub row : RowIn w fluxes first
+  pub start : first ≡ row_start w.grid k r
 
-abbrev pub IsRowPlace : World → ℕ → ℕ → List ℤ → Placed → Type 0
-IsRowPlace w k r fluxes p = IsPlaced w (SweepsRow w k r fluxes) p.answer (RowFound w k r fluxes p)
+abbrev pub IsRowPlace : World → ℕ → ℕ → List ℤ → Result ℕ Refusal → Type 0
+IsRowPlace w k r fluxes = IsPlaced w (SweepsRow w k r fluxes) (RowFound w k r fluxes)
 
 module _ {w : World} {k r : ℕ} {fluxes : List ℤ} where
   -- the walk behind places 1 to 4, and their refusal
-  module _ {tested : Tested} where
-    pub row_begins : Passed w (RowFluxes (length fluxes)) tested → Left w (SweepsRow w k r fluxes) (row_places k r fluxes)
-    unfolding own_places
-    row_begins passed =
-        record {
-          is =
-              λ call rest sweeps.
-              passed.left.is call (own_places call) (record { fit = sweeps.lent; limiters = sweeps.limiters; books = sweeps.books; own = refl }) ∙
-              ap (λ (l : List Place). first_of l w) sweeps.places;
-        }
+  pub row_begins : {totals : List ℕ} → Passed w (RowFluxes (length fluxes)) totals → Left w (SweepsRow w k r fluxes) (row_places k r fluxes)
+  unfolding own_places
+  row_begins passed =
+      record {
+        is =
+            λ call rest sweeps.
+            passed.left.is call (own_places call) (record { fit = sweeps.lent; limiters = sweeps.limiters; books = sweeps.books; own = refl }) ∙
+            ap (λ (l : List Place). first_of l w) sweeps.places;
+      }
 
-    pub row_common : {answer : Answer} {Found : Type 0} → IsTested w (RowFluxes (length fluxes)) tested → (number_of tested.answer ≡ 0 → ⊥) →
-        answer ≡ tested.answer → IsPlaced w (SweepsRow w k r fluxes) answer Found
-    row_common is refused same =
-        record {
-          refused =
-              λ _ call rest sweeps.
-              rw same (is.refused refused call (own_places call) (record { fit = sweeps.lent; limiters = sweeps.limiters; books = sweeps.books; own = refl }));
-          found = λ z. absurd (refused (rw same at z));
-        }
+  pub row_common : {refusal : Refusal} → Refuses w (Lends w (RowFluxes (length fluxes))) refusal → Refuses w (SweepsRow w k r fluxes) refusal
+  row_common refused call rest sweeps =
+      refused call (own_places call) (record { fit = sweeps.lent; limiters = sweeps.limiters; books = sweeps.books; own = refl })
 
   -- a call goes on behind these places, or is refused by them
   module _ {call : Call} {rest : List Place} (own : SweepsRow w k r fluxes call rest) where
@@ -108,9 +97,5 @@ module _ {w : World} {k r : ℕ} {fluxes : List ℤ} where
     pub row_left : Left w (SweepsRow w k r fluxes) [] → Left w (Like w call) rest
     row_left left = record { is = λ other more like. left.is other (rest ++ more) (onward like) }
 
-    pub row_refuses : {p : Placed} {Found : Type 0} → IsRowPlace w k r fluxes p → (number_of p.answer ≡ 0 → ⊥) → IsPlaced w (Like w call) p.answer Found
-    row_refuses is refused =
-        record {
-          refused = λ _ other more like. is.refused refused other (rest ++ more) (onward like);
-          found = λ z. absurd (refused z);
-        }
+    pub row_refuses : {refusal : Refusal} → Refuses w (SweepsRow w k r fluxes) refusal → Refuses w (Like w call) refusal
+    row_refuses refused other more like = refused other (rest ++ more) (onward like)

@@ -105,22 +105,23 @@ pub fn store_rows(rows: &Rows, tracers: &mut [u32], part: RowPart)
     }
 }
 
-// The rows of the first `tracers` tracers after n substeps; these are made in the row's lent air too.
+// The rows of the first `tracers` tracers after n substeps, carried by value; the substeps are made in the row's lent air too.
 pub fn sweep_rows(
-    rows: &mut Rows,
+    mut rows: Rows,
     ledger: &[u32],
     air: &mut [u32],
     fluxes: &[i32],
     n: u32,
     tracers: usize,
-)
-    requires { SweepNeed rows.old ledger.now air.old fluxes.now n tracers }
-    ensures { AreSwept rows.old ledger.now air.old fluxes.now n tracers air.new rows.new }
+) -> Rows
+    requires { SweepNeed rows ledger.now air.old fluxes.now n tracers }
+    ensures { AreSwept rows ledger.now air.old fluxes.now n tracers air.new result }
 {
     let mut flow = Flow::none();
     for s in 0..n {
         fill_parts(fluxes, n, s + 1, &mut flow);
-        step_rows(rows, ledger, air, &flow, tracers);
+        step_rows(&mut rows, ledger, air, &flow, tracers);
         pass::<OfAir, MOST_COLUMNS>(air, &flow);
     }
+    rows
 }

@@ -1,14 +1,17 @@
 -- The code's faults and stages as the model's, and the grids that the program takes.
 -- A stage whose grid the program does not take stands for the start.
-use Rattle.std.specs.Prelude.{ℕ, zero, suc, ◌≤◌, ◌≡◌}
+use Rattle.std.specs.Prelude.{ℕ, zero, suc, ◌≤◌, ◌≡◌, Result, Ok, Err}
 use Rattle.model.specs.Limits.{most_columns, most_rows, most_layers, program_cells, program_tracers}
 use Rattle.model.specs.World as model
 use Rattle.units.specs.declared.Grid as declared
+use Rattle.units.specs.Answer.{refusal_number}
 use Rattle.units.specs.Grid.{grid_of}
 use Rattle.program.specs.Records as program
 use Rattle.stages.specs.Buffers.{Buffers, empty, held}
 use Rattle.stages.specs.declared.Fault.{Fault}
 use Rattle.stages.specs.declared.Fault.TheVariants as fault
+use Rattle.stages.specs.declared.GridRefusal.{GridRefusal}
+use Rattle.stages.specs.declared.GridRefusal.TheVariants.{Call, Program}
 use Rattle.stages.specs.declared.Stage.{Stage}
 use Rattle.stages.specs.declared.Stage.TheVariants.{Start, Gridded, Loaded}
 
@@ -17,6 +20,15 @@ abbrev pub fault_number : Fault → ℕ
 fault_number fault.Kind = 13
 fault_number fault.Length = 14
 fault_number fault.ProgramGrid = 15
+
+-- the number of a grid's refusal, and of the whole answer: 0 where the program takes the grid
+abbrev pub refused_number : GridRefusal → ℕ
+refused_number (Call r) = refusal_number r
+refused_number (Program f) = fault_number f
+
+abbrev pub refusal_of : {A : Type 0} → Result A GridRefusal → ℕ
+refusal_of (Ok x) = 0
+refusal_of (Err r) = refused_number r
 
 -- the state of a stage whose grid the program takes
 abbrev pub plain_state : Stage → Buffers → program.State

@@ -6,11 +6,9 @@ ghost use Rattle.model.specs.Limits.{program_cells};
 ghost use Rattle.model.specs.World.{world_cells};
 ghost use Rattle.program.specs.Records.{grid_refusal};
 ghost use Rattle.units.specs.Grid.{grid_of};
-ghost use Rattle.stages.specs.Stage.{grid_of_stage, fault_number, IsSettled, SmallGrid};
+ghost use Rattle.stages.specs.Stage.{grid_of_stage, fault_number, refused_number, refusal_of, IsSettled, SmallGrid};
 
-use units::{
-    Grid, PROGRAM_CELLS, PROGRAM_TRACERS, Refusal, grid_fits, refusal_number, world_cells,
-};
+use units::{Grid, PROGRAM_CELLS, PROGRAM_TRACERS, Refusal, grid_fits, world_cells};
 
 // What the records so far have set up: nothing, a grid, a world in the program's buffers.
 #[derive(Clone, Copy)]
@@ -20,78 +18,77 @@ pub enum Stage {
     Loaded(Grid),
 }
 
-// The program's own refusals.
-#[derive(Clone, Copy)]
+// The program's own refusals, by their number.
+#[derive(Clone, Copy, PartialEq, Eq, Debug)]
 pub enum Fault {
-    Kind,
-    Length,
-    ProgramGrid,
+    Kind = 13,
+    Length = 14,
+    ProgramGrid = 15,
 }
 
-// The fault's number.
-pub fn fault_number(f: Fault) -> u32
-    ensures { result ≡ fault_number f }
-{
-    match f {
-        Fault::Kind => 13,
-        Fault::Length => 14,
-        Fault::ProgramGrid => 15,
+impl From<Fault> for u32 {
+    ghost from_gives = { λ f n. n ≡ fault_number f };
+
+    fn from(f: Fault) -> u32 {
+        f as u32
     }
 }
 
-// The refusal of a grid, 0 where the program takes it: 15 after 1.
-pub fn grid_refusal(g: Grid) -> u32
-    ensures { result ≡ grid_refusal (grid_of g) }
-{
-    if grid_fits(g) {} else {
-        return refusal_number(Refusal::GridRange);
-    }
-    let cells = world_cells(g);
-    if cells <= PROGRAM_CELLS as u32 {} else {
-        return fault_number(Fault::ProgramGrid);
-    }
-    if g.n <= PROGRAM_TRACERS as u32 {} else {
-        return fault_number(Fault::ProgramGrid);
-    }
-    0
+// Why the program does not take a grid: a call's place refuses it, or it is larger than the program's buffers.
+#[derive(Clone, Copy, PartialEq, Eq, Debug)]
+pub enum GridRefusal {
+    Call(Refusal),
+    Program(Fault),
 }
 
-// The same stage, or the start where its grid is one that the program does not take.
-pub fn settled(stage: Stage) -> Stage
-    ensures { IsSettled stage result }
-{
-    match stage {
-        Stage::Start => Stage::Start,
-        Stage::Gridded(g) => {
-            if grid_refusal(g) == 0 {
-                Stage::Gridded(g)
-            } else {
-                Stage::Start
-            }
-        }
-        Stage::Loaded(g) => {
-            if grid_refusal(g) == 0 {
-                Stage::Loaded(g)
-            } else {
-                Stage::Start
-            }
+impl From<GridRefusal> for u32 {
+    ghost from_gives = { λ r n. n ≡ refused_number r };
+
+    fn from(r: GridRefusal) -> u32 {
+        match r {
+            GridRefusal::Call(place) => u32::from(place),
+            GridRefusal::Program(fault) => u32::from(fault),
         }
     }
 }
 
-// The grid of a stage; one of no cells at the start.
-pub fn grid_of(stage: Stage) -> Grid
-    ensures { grid_of result ≡ grid_of_stage stage }
+// Whether the program takes a grid: 15 after 1.
+pub fn grid_refusal(g: Grid) -> Result<(), GridRefusal>
+    ensures { refusal_of result ≡ grid_refusal (grid_of g) }
 {
-    match stage {
-        Stage::Start => Grid {
-            w: 0,
-            r: 0,
-            k: 0,
-            n: 0,
-        },
-        Stage::Gridded(g) => g,
-        Stage::Loaded(g) => g,
+    if !grid_fits(g) {
+        return Err(GridRefusal::Call(Refusal::GridRange));
+    }
+    if world_cells(g) > PROGRAM_CELLS as u32 || g.n > PROGRAM_TRACERS as u32 {
+        return Err(GridRefusal::Program(Fault::ProgramGrid));
+    }
+    Ok(())
+}
+
+impl Stage {
+    // The same stage, or the start where its grid is one that the program does not take.
+    pub fn settled(self) -> Self
+        ensures { IsSettled self result }
+    {
+        match self {
+            Stage::Gridded(g) | Stage::Loaded(g) if grid_refusal(g).is_err() => Stage::Start,
+            _ => self,
+        }
+    }
+
+    // The stage's grid; one of no cells at the start, as the document's state has it.
+    pub fn grid(self) -> Grid
+        ensures { grid_of result ≡ grid_of_stage self }
+    {
+        match self {
+            Stage::Start => Grid {
+                w: 0,
+                r: 0,
+                k: 0,
+                n: 0,
+            },
+            Stage::Gridded(g) | Stage::Loaded(g) => g,
+        }
     }
 }
 

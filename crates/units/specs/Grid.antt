@@ -4,6 +4,7 @@ use Rattle.model.specs.World as model
 use Rattle.model.specs.Step.{grid_fits}
 use Rattle.model.proofs.Laws.Grid as bounds
 use Rattle.units.specs.declared.Grid as declared
+use Rattle.units.specs.declared.World as declared_world
 
 abbrev pub grid_of : declared.Grid → model.Grid
 grid_of g = record { W = g.w; R = g.r; K = g.k; N = g.n }
@@ -11,6 +12,10 @@ grid_of g = record { W = g.w; R = g.r; K = g.k; N = g.n }
 -- the world of a call: the grid, and the lent lists
 abbrev pub world_of : declared.Grid → (air tracers ledger : List ℕ) → model.World
 world_of g air tracers ledger = record { grid = grid_of g; air = air; tracers = tracers; ledger = ledger }
+
+-- .. that a call reads
+abbrev pub world_in : declared_world.World → model.World
+world_in w = world_of w.grid w.air.now w.tracers.now w.ledger.now
 
 -- W, R, K and N are in their ranges
 abbrev pub InRange : declared.Grid → Type 0

@@ -152,6 +152,15 @@ pub struct Grid {
     pub n: u32,
 }
 
+// The world of a call, to be read: the grid, and the lent buffers.
+#[derive(Clone, Copy)]
+pub struct World<'a> {
+    pub grid: Grid,
+    pub air: &'a [u32],
+    pub tracers: &'a [u32],
+    pub ledger: &'a [u32],
+}
+
 // The place that refuses a call, by its number.
 #[derive(Clone, Copy, PartialEq, Eq, Debug)]
 pub enum Refusal {

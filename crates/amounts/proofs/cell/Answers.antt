@@ -1,11 +1,10 @@
 -- `amounts::cell` meets its contract: the amount where `amount_place` found it.
-use Rattle.std.proofs.Common.{sym, ◌∙◌}
-use Rattle.places.specs.Walk.{itself, refuses}
+use Rattle.places.specs.Walk.{itself, hands_on}
 use Rattle.amounts.specs.Amount.{cell_agrees}
 use Rattle.amounts.proofs.cell.Goals as goal
 
-pub returns-else-number-eq0 : goal.returns-else-number-eq0
-returns-else-number-eq0 c = refuses c.amount_place-place.ensures (λ z. c.if-number-eq0.false (c.number.ensures ∙ z)) itself
+pub returns-in_err-place : goal.returns-in_err-place
+returns-in_err-place c = hands_on c.from_residual.ensures.1 c.in_err-place.ensures itself
 
 pub returns : goal.returns
-returns c = cell_agrees (c.amount_place-place.ensures.found (sym c.number.ensures ∙ c.if-number-eq0.true))
+returns c = cell_agrees c.in_ok-place.ensures

@@ -1,18 +1,16 @@
 -- `amounts::withdrawal` meets its contract: what is taken is at most the cell's amount, and the entry is within its limit.
-use Rattle.std.proofs.Common.{sym, ◌∙◌}
-use Rattle.places.specs.Walk.{refuses}
+use Rattle.places.specs.Walk.{hands_on}
 use Rattle.amounts.specs.Amount.{withdrawal_like, withdrawal_refused, withdrawal_agrees}
 use Rattle.amounts.proofs.withdrawal.Goals as goal
 
-pub returns-else-number-eq0 : goal.returns-else-number-eq0
-returns-else-number-eq0 c = refuses c.amount_place-place.ensures (λ z. c.if-number-eq0.false (c.number.ensures ∙ z)) withdrawal_like
+pub returns-in_err-place : goal.returns-in_err-place
+returns-in_err-place c = hands_on c.from_residual.ensures.1 c.in_err-place.ensures withdrawal_like
 
-pub returns-else-withdrawal_fits : goal.returns-else-withdrawal_fits
-returns-else-withdrawal_fits c =
-    let found = c.amount_place-place.ensures.found (sym c.number.ensures ∙ c.if-number-eq0.true) in
-    withdrawal_refused found c.args.amount c.withdrawal_fits.ensures c.if-withdrawal_fits.false
+pub returns-then-not-withdrawal_fits : goal.returns-then-not-withdrawal_fits
+returns-then-not-withdrawal_fits c =
+    withdrawal_refused c.in_ok-place.ensures c.args.amount (rw c.block_at.ensures at c.withdrawal_fits.ensures) c.if-not-withdrawal_fits.true
 
 pub returns : goal.returns
 returns c =
-    let found = c.amount_place-place.ensures.found (sym c.number.ensures ∙ c.if-number-eq0.true) in
-    withdrawal_agrees found c.args.amount c.withdrawal_fits.ensures c.if-withdrawal_fits.true c.enter_withdrawn.ensures
+    let is = rw c.block_at.ensures at c.withdrawal_fits.ensures in
+    rw (c.put_block.ensures, c.enter_withdrawn.ensures, c.block_at.ensures) (withdrawal_agrees c.in_ok-place.ensures c.args.amount is c.if-not-withdrawal_fits.false)

@@ -8,9 +8,9 @@ use Rattle.column.proofs.edge_of.Goals as goal
 pub overflow_mul-result : goal.overflow_mul-result
 overflow_mul-result c =
     let a = c.args in
-    omega (arith, product_fits a.b a.p.0 (omega arith) (omega arith))
+    omega (arith, product_fits a.b a.p.units (omega arith) (omega arith))
 
 pub overflow_add-result : goal.overflow_add-result
 overflow_add-result c =
     let a = c.args in
-    omega (arith, product_fits a.b a.p.0 (omega arith) (omega arith), div-le_self (a.b * a.p.0) table_scale)
+    omega (arith, product_fits a.b a.p.units (omega arith) (omega arith), div-le_self (a.b * a.p.units) table_scale)

@@ -1,19 +1,16 @@
--- `ledger::ids_apart` meets its contract: none before emitter i has its id.
-use Rattle.std.proofs.Common.{◌&&◌, not, eqb, sym, ◌∙◌, ap₂, arith}
-use Rattle.model.specs.Basic.{every}
-use Rattle.model.proofs.Laws.Basic.{every_none, every_more}
+-- `ledger::ids_apart` meets its contract: `all` over the emitters is `every`, and that not one before has the id is that each has another.
+use Rattle.std.proofs.Common.{ℕ, List, Bool, not, eqb, rules, tests, sym, ◌∙◌}
+use Rattle.model.specs.Basic.{some}
 use Rattle.model.specs.Emitters.{emitter_id}
-use Rattle.ledger.specs.Block.{none_has, searched_absent}
+use Rattle.model.proofs.Laws.Basic.{every_ext}
+use Rattle.limiters.specs.Every.{every_from_all}
+use Rattle.ledger.specs.Block.{none_has}
 use Rattle.ledger.proofs.ids_apart.Goals as goal
 
-pub loop-i-init : goal.loop-i-init
-loop-i-init c = (omega arith, sym (every_none _))
+abbrev same : List ℕ → ℕ → ℕ → Bool
+same b i j = eqb (emitter_id b j) (emitter_id b i)
 
-pub loop-i-preserved : goal.loop-i-preserved
-loop-i-preserved c =
-    let block = c.args.block.now in
-    let i = c.loop-i.i in
-    let own = searched_absent c.place_among.ensures ∙ sym (none_has i (λ j. eqb (emitter_id block j) (emitter_id block i))) in (
-      omega arith,
-      ap₂ ◌&&◌ c.loop-i.invariant.1 own ∙ sym (every_more i (λ i. every i (λ j. not (eqb (emitter_id block j) (emitter_id block i))))),
-    )
+pub returns : goal.returns
+returns c =
+    every_from_all c.args.n (λ i. not (some i (same c.args.block.now i))) c.all.ensures.ran (λ x b q k. search (rules, tests)) ∙
+    every_ext c.args.n _ _ (λ i h. sym (none_has i (same c.args.block.now i)))

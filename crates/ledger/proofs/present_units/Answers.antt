@@ -5,9 +5,10 @@ use Rattle.model.specs.Emitters.{emitter_units}
 use Rattle.ledger.proofs.present_units.Goals as goal
 
 pub loop-i-init : goal.loop-i-init
-loop-i-init c = (omega arith, sym (sum_none _), omega arith)
+loop-i-init c = record { sum = sym (sum_none _); fits = omega arith }
 
 pub loop-i-preserved : goal.loop-i-preserved
-loop-i-preserved c =
-    let more = sum_more c.loop-i.i (emitter_units c.args.block.now) in
-    (omega arith, omega (arith, more, c.wide-units.ensures.0), omega (arith, c.wide-units.ensures.1))
+loop-i-preserved c = record {
+  sum = grind (arith, sum_more c.loop-i.i (emitter_units c.args.block.now));
+  fits = grind arith;
+}

@@ -4,4 +4,4 @@ use Rattle.ledger.specs.Block.{units_kept}
 use Rattle.ledger.proofs.remove.Goals as goal
 
 pub overflow_sub-sum : goal.overflow_sub-sum
-overflow_sub-sum c = omega (arith, units_kept c.requires.0 c.requires.1, c.kept_units-kept.ensures, c.wide.ensures.0)
+overflow_sub-sum c = grind (arith, units_kept c.requires.0 c.requires.1)
