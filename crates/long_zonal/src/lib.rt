@@ -21,9 +21,9 @@ use units::{Air, Answer, Grid, Refusal, World, world_cells};
 // The row's air.
 fn row_air(air: &[u32]) -> Air
     requires { AirNeed (length air.now) air.now }
-    ensures { result.units ≡ air_above air.now (length air.now) }
+    ensures { result.0 ≡ air_above air.now (length air.now) }
 {
-    Air::new(air_sum(air, air.len()).units as u32)
+    Air::new(air_sum(air, air.len()).0 as u32)
 }
 
 // Places 1 to 4, 21, 5, 8, 16 and 17, and then where the row starts.
