@@ -55,14 +55,19 @@ fn sweep_row(
     ensures { IsSwept (grid_of g) tracers.old ledger.now air.old first fluxes.now air.new tracers.new }
 {
     let cells = world_cells(g) as usize;
-    let mut e = [0; MOST_DEPARTURES];
-    fill_departures(air, fluxes, &mut e);
+    let mut departures = [0; MOST_DEPARTURES];
+    fill_departures(air, fluxes, &mut departures);
     for t in 0..g.n as usize {
         let a = t * cells + first;
         let end = a + air.len();
-        move_gas(limiter_at(ledger, t), &mut tracers[a..end], air, &e);
+        move_gas(
+            limiter_at(ledger, t),
+            &mut tracers[a..end],
+            air,
+            &departures,
+        );
     }
-    move_air(&e, air);
+    move_air(&departures, air);
 }
 
 // Sweeps one row in one layer without substeps, in the air and in all tracers.
