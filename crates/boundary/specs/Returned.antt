@@ -1,8 +1,8 @@
 -- What an exported call returns: the model's answer and count, in one number or one of the two, and every lent list at exit.
-use Rattle.std.specs.Prelude.{ℕ, ◌+◌, ◌*◌, List, ◌≡◌}
+use Rattle.std.specs.Prelude.{ℕ, ◌+◌, ◌*◌, List, ◌≡◌, Result}
 use Rattle.model.specs.World.{World}
 use Rattle.model.specs.Step.{Call, step}
-use Rattle.units.specs.declared.Answer.{Answer}
+use Rattle.units.specs.declared.Refusal.{Refusal}
 use Rattle.units.specs.Answer.{number_of, count_of}
 use Rattle.units.specs.Grid.{world_of}
 
@@ -11,7 +11,7 @@ abbrev pub lent_world : ℕ → ℕ → ℕ → ℕ → (air tracers ledger : Li
 lent_world w r k n = world_of (record { w = w; r = r; k = k; n = n })
 
 -- answer · 2^32 + count
-abbrev pub packed_of : Answer → ℕ
+abbrev pub packed_of : Result ℕ Refusal → ℕ
 packed_of a = number_of a * 4294967296 + count_of a
 
 -- what an exported call made in the world w promises, which leaves the world `next`

@@ -1,4 +1,5 @@
 // The public calls for C and Rust. Each takes the grid's four numbers and the lent buffers, and returns one number: answer · 2^32 + count.
+// An export's parameters are those of its C declaration, one by one, so each stands here in full, though many are alike.
 // The reading of the units a tick has a count of 64 bits, so it has two exports: one for the answer, one for the count.
 #![tactic(auto)]
 
@@ -6,7 +7,7 @@ ghost use Rattle.std.specs.Prelude.{◌≡◌};
 ghost use Rattle.model.specs.Step.{load, emission, withdrawal, zonal, long_zonal, meridional, remap, total, cell as cell_call, add_emitter, remove_emitter, tick, units_a_tick, count_zonal, zonal_with_count, set_limiter};
 ghost use Rattle.boundary.specs.Returned.{packed_of, Returns, Answers, Counts, lent_world};
 
-use units::{Answer, Grid, count, number, wide_count, wide_number};
+use units::{Answer, Grid, count, number};
 
 // Answer · 2^32 + count, so that a refusal changes no lent number.
 fn packed(a: Answer) -> u64
@@ -246,7 +247,7 @@ pub extern "C" fn puldeho_raw_units_a_tick(
     ensures { Answers (lent_world w r k n air.now tracers.now ledger.now) (units_a_tick tracer) result (lent_world w r k n air.now tracers.now ledger.now) }
 {
     let g = Grid { w, r, k, n };
-    wide_number(emitters::units_a_tick(g, air, tracers, ledger, tracer))
+    number(emitters::units_a_tick(g, air, tracers, ledger, tracer))
 }
 
 #[unsafe(no_mangle)]
@@ -263,7 +264,7 @@ pub extern "C" fn puldeho_raw_units_a_tick_number(
     ensures { Counts (lent_world w r k n air.now tracers.now ledger.now) (units_a_tick tracer) result (lent_world w r k n air.now tracers.now ledger.now) }
 {
     let g = Grid { w, r, k, n };
-    wide_count(emitters::units_a_tick(g, air, tracers, ledger, tracer))
+    emitters::units_a_tick(g, air, tracers, ledger, tracer).unwrap_or(0)
 }
 
 #[unsafe(no_mangle)]

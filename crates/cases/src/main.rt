@@ -4,38 +4,33 @@
 #![tactic(auto)]
 
 use std::io::{self, Print};
-use units::{LEDGER_BLOCK, LIMITER_PLACE};
-
-fn number(rt: &impl Print, n: u32) -> io::Result<()> {
-    print!(rt; " {n}")
-}
+use units::{Answer, Grid, LEDGER_BLOCK, LIMITER_PLACE};
 
 fn amounts(rt: &impl Print, l: &[u32]) -> io::Result<()> {
     for n in l {
-        number(rt, *n)?;
+        print!(rt; " {n}")?;
     }
     Ok(())
 }
 
 fn report(
     rt: &impl Print,
-    name: &[u8],
-    answer: units::Answer,
+    name: &str,
+    answer: Answer,
     air: &[u32],
     gas: &[u32],
 ) -> io::Result<()> {
-    rt.write_all(name)?;
-    number(rt, units::number(answer))?;
-    number(rt, units::count(answer))?;
-    rt.write_all(b" air")?;
+    let number = units::number(answer);
+    let count = units::count(answer);
+    print!(rt; "{name} {number} {count} air")?;
     amounts(rt, air)?;
-    rt.write_all(b" tracer")?;
+    print!(rt; " tracer")?;
     amounts(rt, gas)?;
-    rt.write_all(b"\n")
+    println!(rt; "")
 }
 
-fn layers(k: u32) -> units::Grid {
-    units::Grid {
+fn layers(k: u32) -> Grid {
+    Grid {
         w: 4,
         r: 1,
         k,
@@ -44,16 +39,16 @@ fn layers(k: u32) -> units::Grid {
 }
 
 // The ledger of one tracer as a load leaves it, with this limiter.
-fn chosen(g: units::Grid, air: &[u32], gas: &[u32], limiter: u32, hi: u32) -> [u32; LEDGER_BLOCK] {
+fn chosen(g: Grid, air: &[u32], gas: &[u32], limiter: u32, hi: u32) -> [u32; LEDGER_BLOCK] {
     let mut ledger = [0u32; LEDGER_BLOCK];
-    amounts::load(g, air, gas, &mut ledger);
+    let _ = amounts::load(g, air, gas, &mut ledger); // a refused load leaves the limiter to what follows
     ledger[LIMITER_PLACE] = limiter;
     ledger[LIMITER_PLACE + 3] = hi;
     ledger
 }
 
 // Row tracer 0, 300, 200, 50 by a limiter whose lower bound is 0.
-fn limited(rt: &impl Print, name: &[u8], limiter: u32, hi: u32) -> io::Result<()> {
+fn limited(rt: &impl Print, name: &str, limiter: u32, hi: u32) -> io::Result<()> {
     let mut air = [100u32; 6];
     let mut gas = [0, 0, 300, 200, 50, 0];
     let ledger = chosen(layers(1), &air, &gas, limiter, hi);
@@ -63,7 +58,7 @@ fn limited(rt: &impl Print, name: &[u8], limiter: u32, hi: u32) -> io::Result<()
 
 fn case(
     rt: &impl Print,
-    name: &[u8],
+    name: &str,
     from: [u32; 6],
     had: [u32; 6],
     fluxes: [i32; 4],
@@ -75,7 +70,7 @@ fn case(
     report(rt, name, answer, &air, &gas)
 }
 
-fn long_case(rt: &impl Print, name: &[u8], fluxes: [i32; 4]) -> io::Result<()> {
+fn long_case(rt: &impl Print, name: &str, fluxes: [i32; 4]) -> io::Result<()> {
     let mut air = [100u32; 6];
     let mut gas = [0, 0, 100, 200, 100, 0];
     let ledger = chosen(layers(1), &air, &gas, 1, 0);
@@ -84,11 +79,11 @@ fn long_case(rt: &impl Print, name: &[u8], fluxes: [i32; 4]) -> io::Result<()> {
 }
 
 // A meridional sweep with fluxes out of the south cap, and none into the north cap.
-fn from_south(rt: &impl Print, name: &[u8], south: u32) -> io::Result<()> {
+fn from_south(rt: &impl Print, name: &str, south: u32) -> io::Result<()> {
     let mut air = [south, 200, 200, 200, 200, 200];
     let mut gas = [50, 10, 20, 30, 40, 5];
     let ledger = chosen(layers(1), &air, &gas, 1, 0);
-    let fluxes = [60, 60, 0 - 50, 0, 0, 0, 0, 0];
+    let fluxes = [60, 60, -50, 0, 0, 0, 0, 0];
     let answer = meridional::meridional(layers(1), &mut air, &mut gas, &ledger, 0, &fluxes);
     report(rt, name, answer, &air, &gas)
 }
@@ -106,7 +101,7 @@ fn columns(rt: &impl Print) -> io::Result<()> {
         &ledger,
         &[0, 0, 0, 32768, 200, 0, 0, 65536],
     );
-    report(rt, b"m9", answer, &air, &gas)?;
+    report(rt, "m9", answer, &air, &gas)?;
     let mut thin = [1u32; 12];
     let mut none = [0u32; 12];
     let empty = chosen(layers(2), &thin, &none, 1, 0);
@@ -117,72 +112,72 @@ fn columns(rt: &impl Print) -> io::Result<()> {
         &empty,
         &[0, 0, 0, 16384, 0, 65536],
     );
-    report(rt, b"m10", refused, &thin, &none)
+    report(rt, "m10", refused, &thin, &none)
 }
 
 fn main(rt: HostRuntime) -> io::Result<()> {
     let even = [100u32; 6];
     let peak = [0, 0, 100, 200, 100, 0];
-    case(&rt, b"m1", even, peak, [0, 50, 0, 0])?;
-    case(&rt, b"m2", even, peak, [0 - 50, 0, 0, 0])?;
-    case(&rt, b"m3", even, peak, [0, 0, 50, 0])?;
-    case(&rt, b"m4", even, peak, [0, 99, 0, 0])?;
-    case(&rt, b"m5", even, peak, [0, 100, 0, 0])?;
-    case(&rt, b"m6", even, [300u32; 6], [150, 150, 150, 150])?;
-    case(&rt, b"m7", even, peak, [1600, 1600, 1600, 1600])?;
-    case(&rt, b"m8", even, peak, [1601, 1601, 1601, 1601])?;
+    case(&rt, "m1", even, peak, [0, 50, 0, 0])?;
+    case(&rt, "m2", even, peak, [-50, 0, 0, 0])?;
+    case(&rt, "m3", even, peak, [0, 0, 50, 0])?;
+    case(&rt, "m4", even, peak, [0, 99, 0, 0])?;
+    case(&rt, "m5", even, peak, [0, 100, 0, 0])?;
+    case(&rt, "m6", even, [300u32; 6], [150, 150, 150, 150])?;
+    case(&rt, "m7", even, peak, [1600, 1600, 1600, 1600])?;
+    case(&rt, "m8", even, peak, [1601, 1601, 1601, 1601])?;
     case(
         &rt,
-        b"x1",
+        "x1",
         [100, 928, 314, 81, 658, 100],
         [0, 221, 496, 522, 317, 0],
         [421, 462, 475, 229],
     )?;
     case(
         &rt,
-        b"x2",
+        "x2",
         even,
         [0, 3, 1, 8, 5, 0],
-        [0 - 151, 0 - 151, 0 - 151, 0 - 151],
+        [-151, -151, -151, -151],
     )?;
     case(
         &rt,
-        b"x5",
+        "x5",
         [100, 1, 1000, 1000, 1000, 100],
         [0u32; 6],
         [9, 0, 0, 10],
     )?;
     case(
         &rt,
-        b"x5",
+        "x5",
         [100, 1, 1000, 1000, 1000, 100],
         [0u32; 6],
         [20, 0, 0, 21],
     )?;
     case(
         &rt,
-        b"y6-1",
+        "y6-1",
         [100, 57676, 34847, 38263, 33495, 100],
         [0, 56, 34, 39, 34, 0],
         [8104, 8176, 3143, 1267],
     )?;
     case(
         &rt,
-        b"y6-12",
+        "y6-12",
         [100, 2, 65535, 1, 5, 100],
         [0, 0, 268435455, 0, 0, 0],
         [1, 65535, 1, 0],
     )?;
-    long_case(&rt, b"y1-1", [0, 50, 0, 0])?;
-    long_case(&rt, b"y1-2", [400, 400, 400, 400])?;
-    long_case(&rt, b"y1-3", [0 - 400, 0 - 400, 0 - 400, 0 - 400])?;
-    long_case(&rt, b"y1-4", [0 - 250, 0 - 250, 0 - 230, 0 - 270])?;
-    long_case(&rt, b"y1-5", [401, 400, 400, 400])?;
-    long_case(&rt, b"y1-6", [100, 0, 0, 0])?;
-    long_case(&rt, b"y1-7", [401, 0, 0, 0])?;
-    limited(&rt, b"y7-2", 2, 0)?;
-    limited(&rt, b"y7-4", 3, 851968)?;
-    from_south(&rt, b"x3", 100)?;
-    from_south(&rt, b"x4", 170)?;
+    long_case(&rt, "y1-1", [0, 50, 0, 0])?;
+    long_case(&rt, "y1-2", [400, 400, 400, 400])?;
+    long_case(&rt, "y1-3", [-400, -400, -400, -400])?;
+    long_case(&rt, "y1-4", [-250, -250, -230, -270])?;
+    long_case(&rt, "y1-5", [401, 400, 400, 400])?;
+    long_case(&rt, "y1-6", [100, 0, 0, 0])?;
+    long_case(&rt, "y1-7", [401, 0, 0, 0])?;
+    limited(&rt, "y7-2", 2, 0)?;
+    limited(&rt, "y7-4", 3, 851968)?;
+    from_south(&rt, "x3", 100)?;
+    from_south(&rt, "x4", 170)?;
     columns(&rt)
 }

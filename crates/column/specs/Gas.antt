@@ -3,6 +3,7 @@ use Rattle.std.specs.Prelude.{ℕ, suc, ◌+◌, ◌-◌, ◌≤◌, ◌<◌, Li
 use Rattle.model.specs.Limits.{air_limit, total_limit}
 use Rattle.model.specs.Basic.{at, sum}
 use Rattle.model.specs.Scheme.{Mismatch, plain}
+use Rattle.units.specs.declared.Mismatch as code
 use Rattle.model.specs.Limiters.{Limiter, rule_for}
 use Rattle.model.specs.Remap.{air_above, layers, new_tracer, column_count}
 use Rattle.model.specs.Walk.{column_walk, budget, Passes}
@@ -19,18 +20,16 @@ unfoldable pub slope_at : Limiter → Bool → ℕ → List ℕ → ℕ → Mism
 slope_at l cap k q i = mismatch_unless l (cap || eqb i 0 || eqb (suc i) k) (at q (i - 1)) (at q i) (at q (suc i))
 
 -- room for the mismatches of 1 to 32 layers
-pub record SlopesNeed (k : ℕ) (q size : List ℕ) (rising : List Bool) : Type 0 where
+pub record SlopesNeed (k : ℕ) (q : List ℕ) (slopes : List code.Mismatch) : Type 0 where
   pub some : 1 ≤ k
   pub fit : k ≤ 32
   pub room_ratios : k ≤ length q
-  pub room_size : k ≤ length size
-  pub room_rising : k ≤ length rising
+  pub room_slopes : k ≤ length slopes
 
--- two lists hold those of all layers
-pub record AreSlopes (l : Limiter) (cap : Bool) (k : ℕ) (q size : List ℕ) (rising : List Bool) : Type 0 where
-  pub room_size : k ≤ length size
-  pub room_rising : k ≤ length rising
-  pub all : SlopesTo (slope_at l cap k q) k size rising
+-- the list holds those of all layers
+pub record AreSlopes (l : Limiter) (cap : Bool) (k : ℕ) (q : List ℕ) (slopes : List code.Mismatch) : Type 0 where
+  pub room_slopes : k ≤ length slopes
+  pub all : SlopesTo (slope_at l cap k q) k slopes
 
 -- ---- a tracer's remap
 -- 1 to 32 layers with air in range, and edges that rise from 0 to their sum
@@ -46,14 +45,13 @@ pub record Spans (k : ℕ) (air e : List ℕ) : Type 0 where
   pub rises : (j : ℕ) → j < k → at e j < at e (suc j)
 
 -- such layers and edges, tracer within the limit, its ratios, and room for the mismatches and the new amounts
-pub record ColumnGasNeed (k : ℕ) (air gas q size : List ℕ) (rising : List Bool) (e newgas : List ℕ) : Type 0 where
+pub record ColumnGasNeed (k : ℕ) (air gas q : List ℕ) (slopes : List code.Mismatch) (e newgas : List ℕ) : Type 0 where
   pub spans : Spans k air e
   pub total : sum k (at gas) ≤ total_limit
   pub room_gas : k ≤ length gas
   pub room_ratios : k ≤ length q
   pub ratios : AreRatios k air gas q
-  pub room_size : k ≤ length size
-  pub room_rising : k ≤ length rising
+  pub room_slopes : k ≤ length slopes
   pub room : k ≤ length newgas
 
 -- whatever table the edges are of, the pairs of an old and a new layer that share air are exactly 2k less the `ends`

@@ -6,6 +6,7 @@ use Rattle.std.proofs.Common.{true≢false, sym, ap, ap₂, ◌∙◌, mod-eq_of
 use Rattle.std.proofs.Math.Path.{refl}
 use borrow.Author.Tests.{eqb-false, eq-eqb, ne_eqb}
 use Rattle.std.proofs.Math.Dec.{eqb}
+use Rattle.units.specs.declared.Mismatch as code
 use Rattle.model.specs.Basic.{at, tab}
 use Rattle.model.specs.Scheme.{Mismatch, ratio, plain}
 use Rattle.model.specs.Limiters.{Limiter, rule_for}
@@ -15,7 +16,6 @@ use Rattle.model.proofs.Laws.Limiters.{limiter_limited}
 use Rattle.model.specs.Walk.{layer_of}
 use Rattle.substep.specs.Pieces.{AreRatios}
 use Rattle.line.specs.Line.{slope_in, cell_at}
-use Rattle.line.specs.Slopes.{slope_is}
 use Rattle.column.specs.Column.{firsts}
 use Rattle.column.specs.Gas.{mismatch_unless, slope_at, AreSlopes}
 
@@ -39,22 +39,14 @@ module _ (l l' : Limiter) (same : rule_for l ≡ rule_for l') (cap : Bool) (k : 
   unfolding slope_at mismatch_unless
   slope_same i = λ n. elim (cap || eqb i 0 || eqb (suc i) k) [ true ↦ plain | false ↦ same n (at q (i - 1)) (at q i) (at q (suc i)) ]
 
-  pub slopes_same : {size : List ℕ} {rising : List Bool} → AreSlopes l cap k q size rising → AreSlopes l' cap k q size rising
-  slopes_same slopes =
-      record {
-        room_size = slopes.room_size;
-        room_rising = slopes.room_rising;
-        all =
-            record {
-              sizes = λ c h. slopes.all.sizes c h ∙ ap (λ (d : Mismatch). d.size) (slope_same c);
-              signs = λ c h. slopes.all.signs c h ∙ ap (λ (d : Mismatch). d.positive) (slope_same c);
-            };
-      }
+  pub slopes_same : {slopes : List code.Mismatch} → AreSlopes l cap k q slopes → AreSlopes l' cap k q slopes
+  slopes_same filled =
+      record { room_slopes = filled.room_slopes; all = record { is = λ c h. filled.all.is c h ∙ slope_same c } }
 
 -- ---- the model's layers
 module _
-    {l : Limiter} {cap : Bool} {k : ℕ} {air gas q size : List ℕ} {rising : List Bool} (ratios : AreRatios k air gas q)
-    (slopes : AreSlopes l cap k q size rising) where
+    {l : Limiter} {cap : Bool} {k : ℕ} {air gas q : List ℕ} {slopes : List code.Mismatch} (ratios : AreRatios k air gas q)
+    (filled : AreSlopes l cap k q slopes) where
   own : (i : ℕ) → i < k → at q i ≡ ratio (at (firsts k air) i) (at (firsts k gas) i)
   own i h = ratios.is i h ∙ sym (ap₂ ratio (at_tab k (at air) i h) (at_tab k (at gas) i h))
 
@@ -69,24 +61,24 @@ module _
           rw (e, mismatch_unless, layer_mismatch)
           (λ n. rule_for l (own (i - 1) (omega arith) n) (own i h n) (own (suc i) (omega arith) n))
 
-  pub layer_is : (t : ℕ) → t < k → cell_at k air gas size rising t ≡ layer_of (rule_for l) cap k (firsts k air) (firsts k gas) t
+  pub layer_is : (t : ℕ) → t < k → cell_at k air gas slopes t ≡ layer_of (rule_for l) cap k (firsts k air) (firsts k gas) t
   layer_is t p =
       let own : t % k ≡ t = mod-eq_of_lt p in
       λ n.
       record {
         air = (ap (at air) own ∙ sym (at_tab k (at air) t p)) n;
         tracer = (ap (at gas) own ∙ sym (at_tab k (at gas) t p)) n;
-        slope = (ap (slope_in size rising) own ∙ slope_is slopes.all t p ∙ slope_model t p) n;
+        slope = (ap (slope_in slopes) own ∙ filled.all.is t p ∙ slope_model t p) n;
       }
 
-  pub layers_are_lem : tab k (cell_at k air gas size rising) ≡ layers (rule_for l) cap k (firsts k air) (firsts k gas)
+  pub layers_are_lem : tab k (cell_at k air gas slopes) ≡ layers (rule_for l) cap k (firsts k air) (firsts k gas)
   unfolding layers
-  layers_are_lem = tab_ext k (cell_at k air gas size rising) (layer_of (rule_for l) cap k (firsts k air) (firsts k gas)) layer_is
+  layers_are_lem = tab_ext k (cell_at k air gas slopes) (layer_of (rule_for l) cap k (firsts k air) (firsts k gas)) layer_is
 
   -- at most twice the layer's ratio
-  pub slope_small : (i : ℕ) → i < k → at size i ≤ 2 * ratio (at air i) (at gas i)
+  pub slope_small : (i : ℕ) → i < k → (slope_in slopes i).size ≤ 2 * ratio (at air i) (at gas i)
   unfolding slope_at mismatch_unless
-  slope_small i h = rw (slopes.all.sizes i h, ← ratios.is i h) (go (cap || eqb i 0 || eqb (suc i) k) refl)
+  slope_small i h = rw (ap (λ (d : Mismatch). d.size) (filled.all.is i h), ← ratios.is i h) (go (cap || eqb i 0 || eqb (suc i) k) refl)
     where
       go : (b : Bool) → cap || eqb i 0 || eqb (suc i) k ≡ b → (slope_at l cap k q i).size ≤ 2 * at q i
       go true e = rw (e, mismatch_unless) (omega arith)

@@ -2,6 +2,7 @@
 -- Assumes what `Spans` and `ColumnGasNeed` say of the lists.
 use Rattle.std.specs.Prelude.{ℕ, suc, ◌+◌, ◌-◌, ◌≤◌, ◌<◌, List, Bool, ◌≡◌}
 use Rattle.std.proofs.Common.{⊎_elim, sym, ap, ap₂, ◌∙◌, mod-eq_of_lt, arith}
+use Rattle.units.specs.declared.Mismatch as code
 use Rattle.model.specs.Basic.{at, sum}
 use Rattle.model.specs.Limiters.{Limiter, rule_for}
 use Rattle.model.specs.Remap.{air_above, edge, amount_above, column_count}
@@ -22,9 +23,9 @@ module _ {k : ℕ} {air e : List ℕ} (spans : Spans k air e) where
 
 -- ---- a tracer's walk
 module _
-    {l : Limiter} {cap : Bool} {k : ℕ} {air gas q size₀ size : List ℕ} {rising₀ rising : List Bool} {e newgas : List ℕ}
-    (need : ColumnGasNeed k air gas q size₀ rising₀ e newgas) (slopes : AreSlopes l cap k q size rising) where
-  pub line_need : LineNeed k air gas size rising e k newgas
+    {l : Limiter} {cap : Bool} {k : ℕ} {air gas q : List ℕ} {slopes₀ slopes : List code.Mismatch} {e newgas : List ℕ}
+    (need : ColumnGasNeed k air gas q slopes₀ e newgas) (filled : AreSlopes l cap k q slopes) where
+  pub line_need : LineNeed k air gas slopes e k newgas
   line_need =
       let spans = need.spans in
       record {
@@ -32,12 +33,11 @@ module _
         fit = omega (arith, spans.fit);
         room_air = spans.room_air;
         room_gas = need.room_gas;
-        room_size = slopes.room_size;
-        room_rising = slopes.room_rising;
+        room_slopes = filled.room_slopes;
         least = spans.least;
         most = spans.most;
         total = need.total;
-        small = slope_small need.ratios slopes;
+        small = slope_small need.ratios filled;
         few = omega (arith, spans.fit);
         room_edges = spans.room_edges;
         first = spans.first;
@@ -55,33 +55,33 @@ module _
 
   walk_is :
       (table : List ℕ) → AreEdges table (air_above (firsts k air) k) k e →
-      line_walk k air gas size rising e k ≡ column_walk (rule_for l) cap k table (firsts k air) (firsts k gas)
+      line_walk k air gas slopes e k ≡ column_walk (rule_for l) cap k table (firsts k air) (firsts k gas)
   walk_is table are =
       let line = line_need in
       let same =
-      walk_same (cell_at k air gas size rising) k line.some (λ i h. rw (mod-eq_of_lt h) (line.least i h)) (at e) k line.first line.rises reach
-      (layer_of (rule_for l) cap k (firsts k air) (firsts k gas)) (edge table (air_above (firsts k air) k)) (layer_is need.ratios slopes) are.is in
+      walk_same (cell_at k air gas slopes) k line.some (λ i h. rw (mod-eq_of_lt h) (line.least i h)) (at e) k line.first line.rises reach
+      (layer_of (rule_for l) cap k (firsts k air) (firsts k gas)) (edge table (air_above (firsts k air) k)) (layer_is need.ratios filled) are.is in
       λ z s. same s z
 
   -- no fewer steps reach the last edge, at which the last layer ends
-  not_before_lem : (s : ℕ) → s + 1 < budget k → (line_walk k air gas size rising e k s).edges < k
+  not_before_lem : (s : ℕ) → s + 1 < budget k → (line_walk k air gas slopes e k s).edges < k
   not_before_lem s h =
       let line = line_need in
-      walk_not_before (cell_at k air gas size rising) k line.some (λ i h. rw (mod-eq_of_lt h) (line.least i h)) (at e) k line.first line.rises reach
+      walk_not_before (cell_at k air gas slopes) k line.some (λ i h. rw (mod-eq_of_lt h) (line.least i h)) (at e) k line.first line.rises reach
       (last_is need.spans ∙ sym line_air_lem) s (omega arith)
 
   -- the ends passed are the column's, and by them its pairs
   ends_are :
       (table : List ℕ) → AreEdges table (air_above (firsts k air) k) k e → (s : ℕ) →
-      line_ends k air gas size rising e k s ≡ ends_passed (layer_of (rule_for l) cap k (firsts k air) (firsts k gas)) (edge table (air_above (firsts k air) k)) k s
+      line_ends k air gas slopes e k s ≡ ends_passed (layer_of (rule_for l) cap k (firsts k air) (firsts k gas)) (edge table (air_above (firsts k air) k)) k s
   ends_are table are =
       let line = line_need in
-      ends_alike (cell_at k air gas size rising) k line.some (λ i h. rw (mod-eq_of_lt h) (line.least i h)) (at e) k line.first line.rises reach
-      (layer_of (rule_for l) cap k (firsts k air) (firsts k gas)) (edge table (air_above (firsts k air) k)) (layer_is need.ratios slopes) are.is
+      ends_alike (cell_at k air gas slopes) k line.some (λ i h. rw (mod-eq_of_lt h) (line.least i h)) (at e) k line.first line.rises reach
+      (layer_of (rule_for l) cap k (firsts k air) (firsts k gas)) (edge table (air_above (firsts k air) k)) (layer_is need.ratios filled) are.is
 
   pairs_are :
-      (table : List ℕ) → AreEdges table (air_above (firsts k air) k) k e → (s : ℕ) → (line_walk k air gas size rising e k s).edges ≡ k →
-      column_count k table (firsts k air) + line_ends k air gas size rising e k s ≡ budget k
+      (table : List ℕ) → AreEdges table (air_above (firsts k air) k) k e → (s : ℕ) → (line_walk k air gas slopes e k s).edges ≡ k →
+      column_count k table (firsts k air) + line_ends k air gas slopes e k s ≡ budget k
   pairs_are table are s done =
       let spans = need.spans in
       ap (λ (n : ℕ). column_count k table (firsts k air) + n) (ends_are table are s) ∙
@@ -93,9 +93,9 @@ module _
       s
       (rw (walk_is table are) at done)
 
-  pub remapped_is : {r : List ℕ} {steps ends : ℕ} → IsWalk k air gas size rising e k r steps ends → IsRemapped l cap k air gas e r steps ends
+  pub remapped_is : {r : List ℕ} {steps ends : ℕ} → IsWalk k air gas slopes e k r steps ends → IsRemapped l cap k air gas e r steps ends
   remapped_is {r} {steps} {ends} made =
-      let same = layers_are_lem need.ratios slopes in
+      let same = layers_are_lem need.ratios filled in
       record {
         most = omega (arith, made.few k line_need.some reach);
         exact =

@@ -1,5 +1,5 @@
 // The remap of one column in lent lists: edges, ratios and mismatches, new amounts, and the count of pairs. A column is a line of cells whose low end is its top (crate line).
-// A list's first k entries count, of a list of edges the first k + 1. `air` holds air, `gas` and `newgas` a tracer, `size` and `rising` the layers' mismatches.
+// A list's first k entries count, of a list of edges the first k + 1. `air` holds air, `gas` and `newgas` a tracer, `q` its ratios, `slopes` the layers' mismatches.
 #![tactic(auto)]
 
 ghost use Rattle.std.specs.Prelude.{◌≡◌, ◌&&◌, ◌+◌, ◌-◌, ◌*◌, ◌/◌, ◌≤◌, ◌<◌, length, leb};
@@ -13,6 +13,12 @@ ghost use Rattle.column.specs.Gas.{mismatch_unless, SlopesNeed, AreSlopes, Colum
 use line::{Walked, tracer_between};
 use scheme::mismatch;
 use units::{AirSum, Limiter, Mismatch, PRESENT_LIMITER, TABLE_LIMIT, TABLE_SCALE};
+
+// The mismatch of a layer that has none.
+const PLAIN: Mismatch = Mismatch {
+    size: 0,
+    positive: true,
+};
 
 // Whether a pair of the table is in its ranges.
 fn pair_fits(a: u32, b: u32) -> bool
@@ -29,10 +35,8 @@ pub fn table_fits(table: &[u32], k: usize) -> bool
     let first = (table[0] == 0) & (table[1] == 0);
     let ends = first & (table[2 * k] == 0) & (table[2 * k + 1] == TABLE_SCALE);
     let mut ok = true;
-    let mut j = 0;
-    while j < k + 1 {
+    for j in 0..k + 1 {
         ok = ok & pair_fits(table[2 * j], table[2 * j + 1]);
-        j += 1;
     }
     ends & ok
 }
@@ -50,10 +54,8 @@ pub fn fill_edges(table: &[u32], p: AirSum, k: usize, e: &mut [u64])
     requires { EdgesNeed table.now p.0 k e.old }
     ensures { AreEdges table.now p.0 k e.new }
 {
-    let mut j = 0;
-    while j < k + 1 {
+    for j in 0..k + 1 {
         e[j] = edge_of(table[2 * j], table[2 * j + 1], p);
-        j += 1;
     }
 }
 
@@ -62,40 +64,33 @@ fn layer_mismatch(l: Limiter, none: bool, above: u64, own: u64, below: u64) -> M
     ensures { mismatch_of result ≡ mismatch_unless (limiter_of l) none above own below }
 {
     if none {
-        return Mismatch {
-            size: 0,
-            positive: true,
-        };
+        PLAIN
+    } else {
+        mismatch(l, above, own, below)
     }
-    mismatch(l, above, own, below)
 }
 
 // The mismatch of each of k layers: none in a cap's column, and none in the top and bottom layers, whatever the limiter. A ratio is read once, from the top down.
-fn fill_slopes_by(l: Limiter, q: &[u64], cap: bool, k: usize, size: &mut [u64], rising: &mut [bool])
-    requires { SlopesNeed k q.now size.old rising.old }
-    ensures { AreSlopes (limiter_of l) cap k q.now size.new rising.new }
+fn fill_slopes_by(l: Limiter, q: &[u64], cap: bool, k: usize, slopes: &mut [Mismatch])
+    requires { SlopesNeed k q.now slopes.old }
+    ensures { AreSlopes (limiter_of l) cap k q.now slopes.new }
 {
     let last = k - 1;
     let mut own = q[0];
     let mut above = own;
-    let mut i = 0;
-    while i < last {
+    for i in 0..last {
         let below = q[i + 1];
-        let d = layer_mismatch(l, cap | (i == 0), above, own, below);
-        size[i] = d.size;
-        rising[i] = d.positive;
+        slopes[i] = layer_mismatch(l, cap | (i == 0), above, own, below);
         above = own;
         own = below;
-        i += 1;
     }
-    size[last] = 0;
-    rising[last] = true;
+    slopes[last] = PLAIN;
 }
 
 // The same, with a loop for the first limiter alone, in whose machine code no layer asks for the limiter (measured: 3 % of a remap).
-fn fill_slopes(l: Limiter, q: &[u64], cap: bool, k: usize, size: &mut [u64], rising: &mut [bool])
-    requires { SlopesNeed k q.now size.old rising.old }
-    ensures { AreSlopes (limiter_of l) cap k q.now size.new rising.new }
+fn fill_slopes(l: Limiter, q: &[u64], cap: bool, k: usize, slopes: &mut [Mismatch])
+    requires { SlopesNeed k q.now slopes.old }
+    ensures { AreSlopes (limiter_of l) cap k q.now slopes.new }
 {
     if l.number == PRESENT_LIMITER {
         let first = Limiter {
@@ -103,14 +98,14 @@ fn fill_slopes(l: Limiter, q: &[u64], cap: bool, k: usize, size: &mut [u64], ris
             lo: 0,
             hi: 0,
         };
-        fill_slopes_by(first, q, cap, k, size, rising);
+        fill_slopes_by(first, q, cap, k, slopes);
     } else {
-        fill_slopes_by(l, q, cap, k, size, rising);
+        fill_slopes_by(l, q, cap, k, slopes);
     }
 }
 
 // A tracer's amounts in a column's k new layers, from the old ones and their ratios: the mismatches by its limiter, and one walk. It gives back the walk's steps, at most 2k, and how many edges lie where an old layer ends; 2k less these are exactly the pairs of an old and a new layer that share air.
-// `cap` says whether the column is a cap's; size and rising are filled on the way.
+// `cap` says whether the column is a cap's; `slopes` is filled on the way.
 pub fn remap_gas(
     l: Limiter,
     air: &[u32],
@@ -119,13 +114,12 @@ pub fn remap_gas(
     e: &[u64],
     k: usize,
     q: &[u64],
-    size: &mut [u64],
-    rising: &mut [bool],
+    slopes: &mut [Mismatch],
     newgas: &mut [u32],
 ) -> Walked
-    requires { ColumnGasNeed k air.now gas.now q.now size.old rising.old e.now newgas.old }
+    requires { ColumnGasNeed k air.now gas.now q.now slopes.old e.now newgas.old }
     ensures { IsRemapped (limiter_of l) cap k air.now gas.now e.now newgas.new result.steps result.ends }
 {
-    fill_slopes(l, q, cap, k, size, rising);
-    tracer_between(air, gas, size, rising, k, e, k, newgas)
+    fill_slopes(l, q, cap, k, slopes);
+    tracer_between(air, gas, slopes, k, e, k, newgas)
 }

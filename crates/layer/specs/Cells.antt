@@ -1,12 +1,12 @@
 -- The cells of a layer, each with what enters and what leaves it, and the lists that a substep of a layer works on.
-use Rattle.std.specs.Prelude.{ℕ, zero, suc, ◌+◌, ◌*◌, ◌≤◌, ◌<◌, List, Bool, ◌&&◌, ◌≡◌, refl, length}
+use Rattle.std.specs.Prelude.{ℕ, zero, suc, ◌+◌, ◌-◌, ◌*◌, ◌≤◌, ◌<◌, List, Bool, ◌&&◌, ◌≡◌, refl, length}
 use Rattle.std.proofs.Math.Bool.{and_assoc, and-true}
 use Rattle.std.proofs.Math.Path.{sym}
 use Rattle.std.proofs.Common.{ap, ap₂, ◌∙◌, arith, Fits as Fits32}
 use Rattle.std.specs.Int.{w32}
-use Rattle.model.specs.Basic.{at, sum, every}
+use Rattle.model.specs.Basic.{at, part, sum, every}
 use Rattle.model.specs.Sweep.{Flow, reversed, layer, leaving, allowed}
-use Rattle.model.proofs.Laws.Basic.{every_ext, sum_none, sum_more}
+use Rattle.model.proofs.Laws.Basic.{at_part, every_ext, sum_none, sum_more}
 use Rattle.model.proofs.Laws.Layer.{leaving_inner, leaving_north}
 use Rattle.substep.specs.Faces.{flow_of}
 use Rattle.substep.specs.Cells.{Cell, cell_allowed}
@@ -17,16 +17,10 @@ pub record Size (w rows : ℕ) : Type 0 where
   pub columns : w ≤ 72
   pub cells : rows * w ≤ 3168
 
--- two lists with an entry for each of its faces
-pub record Faces (w rows : ℕ) (up down : List ℕ) : Type 0 where
-  pub high : w + rows * w ≤ length up
-  pub low : w + rows * w ≤ length down
-
--- an amount for each of its cells, and what passes its faces
-pub record Fit (w rows : ℕ) (l up down : List ℕ) : Type 0 where
-  pub size : Size w rows
+-- an amount for each of its cells, and room for what passes its faces
+pub record Fit (w rows room : ℕ) (l : List ℕ) : Type 0 where
   pub long : length l ≡ 2 + rows * w
-  pub faces : Faces w rows up down
+  pub faces : w + rows * w ≤ room
 
 pub layer_cells_lem : (w rows : ℕ) → (layer w rows).cells ≡ 2 + rows * w
 unfolding layer
@@ -52,22 +46,20 @@ pub record SumTo (l : List ℕ) (first w i total : ℕ) : Type 0 where
   pub is : total ≡ sum i (λ k. at l (first + k))
   pub small : total ≤ 4294967295 * i
 
-pub cap_none : {l : List ℕ} {first w : ℕ} → SumTo l first w 0 0
-cap_none = record { reached = omega arith; is = sym (sum_none _); small = omega arith }
+pub cap_none : {l : List ℕ} {first w r : ℕ} → r ≡ 0 → SumTo l first w 0 r
+cap_none none = record { reached = omega arith; is = none ∙ sym (sum_none _); small = omega arith }
 
 module _ {l : List ℕ} {first w i total : ℕ} (sofar : SumTo l first w i total) where
-  pub cap_more : {r : ℕ} → i < w → ((k : ℕ) → Fits32 w32 (at l k)) → r ≡ total + at l (first + i) → SumTo l first w (i + 1) r
-  cap_more h fits e =
+  -- x is the face whose turn it is, in the part that the loop goes over
+  pub cap_more : {x r : ℕ} → i < w → ((k : ℕ) → Fits32 w32 (at l k)) → x ≡ at (part l first (first + w - first)) i → r ≡ total + x →
+      SumTo l first w (i + 1) r
+  cap_more h fits own e =
+      let face = own ∙ at_part l first (first + w - first) i (omega arith) in
       record {
         reached = omega arith;
-        is = e ∙ ap (λ (x : ℕ). x + at l (first + i)) sofar.is ∙ sym (sum_more i _);
-        small = omega (arith, fits (first + i));
+        is = e ∙ ap₂ ◌+◌ sofar.is face ∙ sym (sum_more i _);
+        small = omega (arith, face, fits (first + i));
       }
-
-  pub cap_all : w ≤ i → w ≤ 72 → IsSum l first w total
-  cap_all h few =
-      let done : i ≡ w = omega arith in
-      record { is = rw done at sofar.is; small = omega arith }
 
 -- ---- what each cell exchanges
 module _ (w rows : ℕ) (up down : List ℕ) {e l : ℕ} where

@@ -1,17 +1,16 @@
 -- A tracer's walk along a line, as the code makes it: where it stands after each step, and the amounts between the edges.
 -- Assumes what `LineNeed` says of the lists and the edges.
-use Rattle.std.specs.Prelude.{ℕ, suc, ◌+◌, ◌*◌, ◌-◌, ◌%◌, ◌≤◌, ◌<◌, List, Bool, ◌≡◌, length}
+use Rattle.std.specs.Prelude.{ℕ, suc, ◌+◌, ◌*◌, ◌-◌, ◌%◌, ◌≤◌, ◌<◌, List, ◌≡◌, length}
 use Rattle.std.proofs.Common.{⊎_elim, sym, ap, ap₂, ◌∙◌, le_trans, zero-add, add-zero, mod-lt, mod-eq_of_lt, add-one, arith}
 use Rattle.std.proofs.Math.Nat.{mod-add-mod, add-mod_right}
-use Rattle.units.specs.declared.Air.{Air}
-use Rattle.units.specs.declared.Tracer.{Tracer}
+use Rattle.units.specs.declared.Amount.{Amount}
 use Rattle.units.specs.declared.Mismatch as code
 use Rattle.line.specs.declared.Place.{Place}
 use Rattle.model.specs.Limits.{air_limit, most_columns, total_limit}
 use Rattle.model.specs.Basic.{at, tab}
 use Rattle.model.specs.Scheme.{Mismatch, opposite, low_piece}
 use Rattle.model.specs.Remap.{ColumnLayer, amount_above}
-use Rattle.model.specs.Walk.{Walk, at_top, walk_step, Passes}
+use Rattle.model.specs.Walk.{Walk, walk_step, Passes}
 use Rattle.model.proofs.Laws.Basic.{le_or_lt, steps_rise, term_le_sum, sum_more, sum_fewer, sum_le, sum_same}
 use Rattle.model.proofs.Laws.Scheme.{Safe, ratio_safe, piece_whole}
 use Rattle.model.proofs.Laws.Above.{air_of, amount_rises, amount_longer}
@@ -38,27 +37,36 @@ place i passed whole j last = record { layers = i; above = passed; amount = whol
 abbrev pub place_of : Place → Walk
 place_of p = place p.i p.passed.0 p.whole.0 p.j p.last.0
 
+-- a walk that begins: no cell and no edge is passed
+pub record AtStart (p : Place) : Type 0 where
+  pub cells : p.i ≡ 0
+  pub edges : p.j ≡ 0
+  pub ends : p.ends ≡ 0
+  pub air : p.passed.0 ≡ 0
+  pub tracer : p.whole.0 ≡ 0
+  pub mark : p.last.0 ≡ 0
+
 -- the definition's walk stands at p, and a step of it has passed each new cell up to there
-pub record Walking (n : ℕ) (air gas size : List ℕ) (rising : List Bool) (e : List ℕ) (m : ℕ) (newgas : List ℕ) (p : Place) : Type 0 where
-  pub stands : line_walk n air gas size rising e m (p.i + p.j) ≡ place_of p
-  pub made : (t : ℕ) → t < p.j → (s : ℕ) × (s < p.i + p.j) × Passes (line_walk n air gas size rising e m) t (at newgas t) s
-  pub ended : p.ends ≡ line_ends n air gas size rising e m (p.i + p.j)
+pub record Walking (n : ℕ) (air gas : List ℕ) (slopes : List code.Mismatch) (e : List ℕ) (m : ℕ) (newgas : List ℕ) (p : Place) : Type 0 where
+  pub stands : line_walk n air gas slopes e m (p.i + p.j) ≡ place_of p
+  pub made : (t : ℕ) → t < p.j → (s : ℕ) × (s < p.i + p.j) × Passes (line_walk n air gas slopes e m) t (at newgas t) s
+  pub ended : p.ends ≡ line_ends n air gas slopes e m (p.i + p.j)
 
 -- a turn can begin at p
-pub record TurnNeed (n : ℕ) (air gas size : List ℕ) (rising : List Bool) (e : List ℕ) (m : ℕ) (newgas : List ℕ) (p : Place) : Type 0 where
-  pub line : LineNeed n air gas size rising e m newgas
-  pub walking : Walking n air gas size rising e m newgas p
+pub record TurnNeed (n : ℕ) (air gas : List ℕ) (slopes : List code.Mismatch) (e : List ℕ) (m : ℕ) (newgas : List ℕ) (p : Place) : Type 0 where
+  pub line : LineNeed n air gas slopes e m newgas
+  pub walking : Walking n air gas slopes e m newgas p
   pub whole : p.i % n ≡ 0
 
 -- the walk has gone on from p to r, a whole turn unless it is at its end
-pub record IsTurn (n : ℕ) (air gas size : List ℕ) (rising : List Bool) (e : List ℕ) (m : ℕ) (newgas : List ℕ) (p r : Place) : Type 0 where
-  pub walking : Walking n air gas size rising e m newgas r
+pub record IsTurn (n : ℕ) (air gas : List ℕ) (slopes : List code.Mismatch) (e : List ℕ) (m : ℕ) (newgas : List ℕ) (p r : Place) : Type 0 where
+  pub walking : Walking n air gas slopes e m newgas r
   pub turned : r.j < m → r.i ≡ p.i + n
   pub onward : (p.i ≤ r.i) × (p.j ≤ r.j)
 
 -- no more ends are passed than steps are made
-pub ends_few : (n : ℕ) (air gas size : List ℕ) (rising : List Bool) (e : List ℕ) (m s : ℕ) → line_ends n air gas size rising e m s ≤ s
-ends_few n air gas size rising e m s = ends_most _ _ _ s
+pub ends_few : (n : ℕ) (air gas : List ℕ) (slopes : List code.Mismatch) (e : List ℕ) (m s : ℕ) → line_ends n air gas slopes e m s ≤ s
+ends_few n air gas slopes e m s = ends_most _ _ _ s
 
 -- what was made stays made as the walk goes on
 pub made_more :
@@ -68,26 +76,27 @@ made_more r le made t h = let step = made t h in (step.0, omega (arith, step.1),
 
 -- the walk begins, and the next turn begins where one has ended
 pub walking_start :
-    (n : ℕ) (air gas size : List ℕ) (rising : List Bool) (e : List ℕ) (m : ℕ) (newgas : List ℕ) (p : Place) → p.i ≡ 0 → p.j ≡ 0 →
-    place_of p ≡ at_top → p.ends ≡ 0 → Walking n air gas size rising e m newgas p
-walking_start n air gas size rising e m newgas p noCell no_edge top noEnd =
+    (n : ℕ) (air gas : List ℕ) (slopes : List code.Mismatch) (e : List ℕ) (m : ℕ) (newgas : List ℕ) (p : Place) → AtStart p →
+    Walking n air gas slopes e m newgas p
+walking_start n air gas slopes e m newgas p top =
     record {
-      stands = ap₂ (λ (i j : ℕ). line_walk n air gas size rising e m (i + j)) noCell no_edge ∙ walk_start _ _ _ ∙ sym top;
-      made = λ t h. absurd (omega arith);
-      ended = noEnd ∙ sym (ends_none _ _ _) ∙ sym (ap₂ (λ (i j : ℕ). line_ends n air gas size rising e m (i + j)) noCell no_edge);
+      stands =
+          ap₂ (λ (i j : ℕ). line_walk n air gas slopes e m (i + j)) top.cells top.edges ∙ walk_start _ _ _ ∙
+          (λ z. place (sym top.cells z) (sym top.air z) (sym top.tracer z) (sym top.edges z) (sym top.mark z));
+      made = λ t h. absurd (omega (arith, top.edges));
+      ended = top.ends ∙ sym (ends_none _ _ _) ∙ sym (ap₂ (λ (i j : ℕ). line_ends n air gas slopes e m (i + j)) top.cells top.edges);
     }
 
 pub need_again :
-    {n : ℕ} {air gas size : List ℕ} {rising : List Bool} {e : List ℕ} {m : ℕ} {newgas : List ℕ} (next : List ℕ) → length next ≡ length newgas →
-    LineNeed n air gas size rising e m newgas → LineNeed n air gas size rising e m next
+    {n : ℕ} {air gas : List ℕ} {slopes : List code.Mismatch} {e : List ℕ} {m : ℕ} {newgas : List ℕ} (next : List ℕ) → length next ≡ length newgas →
+    LineNeed n air gas slopes e m newgas → LineNeed n air gas slopes e m next
 need_again next same need =
     record {
       some = need.some;
       fit = need.fit;
       room_air = need.room_air;
       room_gas = need.room_gas;
-      room_size = need.room_size;
-      room_rising = need.room_rising;
+      room_slopes = need.room_slopes;
       least = need.least;
       most = need.most;
       total = need.total;
@@ -104,26 +113,26 @@ pub turned_whole : (n i : ℕ) {next : ℕ} → next ≡ i + n → i % n ≡ 0 �
 turned_whole n i is whole = ap (λ (x : ℕ). x % n) is ∙ add-mod_right i n ∙ whole
 
 module _
-    {n : ℕ} {air gas size : List ℕ} {rising : List Bool} {e : List ℕ} {m : ℕ} {newgas : List ℕ} {p : Place}
-    (need : TurnNeed n air gas size rising e m newgas p) where
+    {n : ℕ} {air gas : List ℕ} {slopes : List code.Mismatch} {e : List ℕ} {m : ℕ} {newgas : List ℕ} {p : Place}
+    (need : TurnNeed n air gas slopes e m newgas p) where
   -- cell c of the turn, on the line
   pub in_turn : {c : ℕ} → c < n → (p.i + c) % n ≡ c
   in_turn {c} h = sym (mod-add-mod p.i n c) ∙ ap (λ (x : ℕ). (x + c) % n) need.whole ∙ rw (zero-add c) (mod-eq_of_lt h)
 
   pub turn_start :
-      (line_walk n air gas size rising e m (p.i + 0 + p.j) ≡ place (p.i + 0) p.passed.0 p.whole.0 p.j p.last.0)
-      × ((t : ℕ) → t < p.j → (s : ℕ) × (s < p.i + 0 + p.j) × Passes (line_walk n air gas size rising e m) t (at newgas t) s)
-      × (p.ends ≡ line_ends n air gas size rising e m (p.i + 0 + p.j))
+      (line_walk n air gas slopes e m (p.i + 0 + p.j) ≡ place (p.i + 0) p.passed.0 p.whole.0 p.j p.last.0)
+      × ((t : ℕ) → t < p.j → (s : ℕ) × (s < p.i + 0 + p.j) × Passes (line_walk n air gas slopes e m) t (at newgas t) s)
+      × (p.ends ≡ line_ends n air gas slopes e m (p.i + 0 + p.j))
   turn_start = rw (add-zero p.i) (need.walking.stands, need.walking.made, need.walking.ended)
 
 module _
-    {n : ℕ} {air gas size : List ℕ} {rising : List Bool} {e : List ℕ} {m : ℕ} {newgas : List ℕ}
-    (need : LineNeed n air gas size rising e m newgas) where
+    {n : ℕ} {air gas : List ℕ} {slopes : List code.Mismatch} {e : List ℕ} {m : ℕ} {newgas : List ℕ}
+    (need : LineNeed n air gas slopes e m newgas) where
   abbrev f : ℕ → ColumnLayer
-  f = cell_at n air gas size rising
+  f = cell_at n air gas slopes
 
   abbrev W : ℕ → Walk
-  W = line_walk n air gas size rising e m
+  W = line_walk n air gas slopes e m
 
   least : (i : ℕ) → 1 ≤ at air (i % n)
   least i = need.least (i % n) (mod-lt i need.some)
@@ -141,8 +150,8 @@ module _
   amounts_rise : (j : ℕ) → j < m → G (at e j) ≤ G (at e (suc j))
   amounts_rise j h = amount_rises f (turns * n) (λ i h. least i) safe (at e j) (at e (suc j)) (need.rises j h)
     where
-      safe : (i : ℕ) → i < turns * n → Safe (slope_in size rising (i % n)) (at air (i % n)) (at gas (i % n))
-      safe i p = ratio_safe (slope_in size rising (i % n)) (at air (i % n)) (at gas (i % n)) (need.small (i % n) (mod-lt i need.some))
+      safe : (i : ℕ) → i < turns * n → Safe (slope_in slopes (i % n)) (at air (i % n)) (at gas (i % n))
+      safe i p = ratio_safe (slope_in slopes (i % n)) (at air (i % n)) (at gas (i % n)) (need.small (i % n) (mod-lt i need.some))
 
   -- ---- the code's place
   module _ {i passed whole j last : ℕ} (is : W (i + j) ≡ place i passed whole j last) where
@@ -181,34 +190,34 @@ module _
       due : at e (suc j) ≡ at e (j + 1)
       due = ap (at e) (sym (add-one j))
 
-      pub ends_cell : passed + at air (i % n) < at e (j + 1) → line_ends n air gas size rising e m (i + 1 + j) ≡ line_ends n air gas size rising e m (i + j)
+      pub ends_cell : passed + at air (i % n) < at e (j + 1) → line_ends n air gas slopes e m (i + 1 + j) ≡ line_ends n air gas slopes e m (i + j)
       ends_cell lt =
           let next : i + 1 + j ≡ suc (i + j) = omega arith in
-          ap (line_ends n air gas size rising e m) next ∙
+          ap (line_ends n air gas slopes e m) next ∙
           ends_same f (at e) m (i + j) is (λ (q : at e (suc j) ≡ passed + at air (i % n)). omega (arith, q, due, lt))
 
-      pub ends_inside : at e (j + 1) < passed + at air (i % n) → line_ends n air gas size rising e m (i + (j + 1)) ≡ line_ends n air gas size rising e m (i + j)
+      pub ends_inside : at e (j + 1) < passed + at air (i % n) → line_ends n air gas slopes e m (i + (j + 1)) ≡ line_ends n air gas slopes e m (i + j)
       ends_inside lt =
           let next : i + (j + 1) ≡ suc (i + j) = omega arith in
-          ap (line_ends n air gas size rising e m) next ∙
+          ap (line_ends n air gas slopes e m) next ∙
           ends_same f (at e) m (i + j) is (λ (q : at e (suc j) ≡ passed + at air (i % n)). omega (arith, q, due, lt))
 
-      pub ends_end : at e (j + 1) ≡ passed + at air (i % n) → line_ends n air gas size rising e m (i + (j + 1)) ≡ line_ends n air gas size rising e m (i + j) + 1
+      pub ends_end : at e (j + 1) ≡ passed + at air (i % n) → line_ends n air gas slopes e m (i + (j + 1)) ≡ line_ends n air gas slopes e m (i + j) + 1
       ends_end ends =
           let next : i + (j + 1) ≡ suc (i + j) = omega arith in
-          ap (line_ends n air gas size rising e m) next ∙ ends_more f (at e) m (i + j) is h (due ∙ ends) ∙ sym (add-one _)
+          ap (line_ends n air gas slopes e m) next ∙ ends_more f (at e) m (i + j) is h (due ∙ ends) ∙ sym (add-one _)
 
       -- a piece of the whole cell
       pub whole_cell :
           at e (j + 1) ≡ passed + at air (i % n) →
-          low_piece (slope_in size rising (i % n)) (at air (i % n)) (at gas (i % n)) (at e (j + 1) - passed) ≡ at gas (i % n)
+          low_piece (slope_in slopes (i % n)) (at air (i % n)) (at gas (i % n)) (at e (j + 1) - passed) ≡ at gas (i % n)
       whole_cell ends =
           let inside : at e (j + 1) - passed ≡ at air (i % n) = omega (arith, ends) in
-          ap (low_piece (slope_in size rising (i % n)) (at air (i % n)) (at gas (i % n))) inside ∙
-          piece_whole (opposite (slope_in size rising (i % n))) (at air (i % n)) (at gas (i % n)) (least i)
+          ap (low_piece (slope_in slopes (i % n)) (at air (i % n)) (at gas (i % n))) inside ∙
+          piece_whole (opposite (slope_in slopes (i % n))) (at air (i % n)) (at gas (i % n)) (least i)
 
       module _ {next : ℕ} (le : at e (j + 1) ≤ passed + at air (i % n))
-          (adds : next ≡ whole + low_piece (slope_in size rising (i % n)) (at air (i % n)) (at gas (i % n)) (at e (j + 1) - passed)) where
+          (adds : next ≡ whole + low_piece (slope_in slopes (i % n)) (at air (i % n)) (at gas (i % n)) (at e (j + 1) - passed)) where
         pub walk_edge : W (i + (j + 1)) ≡ place i passed whole (j + 1) next
         walk_edge =
             let le' : at e (suc j) ≤ passed + at air (i % n) = rw (← add-one j) le in
@@ -218,7 +227,7 @@ module _
             step_edge f (at e) m (place i passed whole j last) h le' ∙
             (λ z.
             place i passed whole (one z)
-            ((ap (λ (x : ℕ). whole + low_piece (slope_in size rising (i % n)) (at air (i % n)) (at gas (i % n)) (at e x - passed)) one ∙ sym adds) z))
+            ((ap (λ (x : ℕ). whole + low_piece (slope_in slopes (i % n)) (at air (i % n)) (at gas (i % n)) (at e x - passed)) one ∙ sym adds) z))
 
         -- the mark never falls, and what it gains is the new cell's
         pub mark_rises : last ≤ next
@@ -239,7 +248,7 @@ module _
 
   -- the piece of a cell
   pub cell_giver :
-      {c : ℕ} {d : code.Mismatch} {have : Air} {t : Tracer} {part : Air} → c < n → mismatch_of d ≡ slope_in size rising c →
+      {c : ℕ} {d : code.Mismatch} {have : Amount 0} {t : Amount 1} {part : Amount 0} → c < n → mismatch_of d ≡ slope_in slopes c →
       have.0 ≡ at air c → t.0 ≡ at gas c → part.0 ≤ have.0 → Giver d have t part
   cell_giver {c} h isSlope isAir isGas fits =
       record {
@@ -253,8 +262,8 @@ module _
   -- ---- what the walk has made
   pub walk_is :
       {i passed whole j last ends : ℕ} {r : List ℕ} → W (i + j) ≡ place i passed whole j last → m ≤ j →
-      ((t : ℕ) → t < j → (s : ℕ) × (s < i + j) × Passes W t (at r t) s) → ends ≡ line_ends n air gas size rising e m (i + j) →
-      IsWalk n air gas size rising e m r (i + j) ends
+      ((t : ℕ) → t < j → (s : ℕ) × (s < i + j) × Passes W t (at r t) s) → ends ≡ line_ends n air gas slopes e m (i + j) →
+      IsWalk n air gas slopes e m r (i + j) ends
   walk_is {i} {j = j} is done made ended =
       let edges = ap (λ (w : Walk). w.edges) is in
       let here = stands_here is in
@@ -269,7 +278,7 @@ module _
       }
 
   -- the amounts between the edges, however many cells are looked at
-  pub between_is : {r : List ℕ} {steps ends : ℕ} → IsWalk n air gas size rising e m r steps ends → IsBetween n air gas size rising e m r
+  pub between_is : {r : List ℕ} {steps ends : ℕ} → IsWalk n air gas slopes e m r steps ends → IsBetween n air gas slopes e m r
   between_is {r} walked =
       record {
         is =

@@ -1,57 +1,25 @@
 // A line of cells, of a column or of a row: its air, and the air and the tracer between edges on it.
 // An edge is a number: air counted from the line's low end, in 64 bits, since an edge that does not serve may be any number.
-// `air` and `newair` hold air, `gas` and `newgas` a tracer, `size` and `rising` the slope in each cell: its size, and whether its sign is positive.
+// `air` and `newair` hold air, `gas` and `newgas` a tracer, `slopes` the mismatch in each cell.
 #![tactic(auto)]
 
 ghost use Rattle.std.specs.Prelude.{◌≡◌, ◌&&◌, ◌+◌, ◌-◌, ◌≤◌, ◌<◌, length, leb, ltb};
 ghost use Rattle.model.specs.Limits.{air_limit};
-ghost use Rattle.model.specs.Basic.{at, every};
-ghost use Rattle.line.specs.Line.{AirNeed, IsAirSum, serves_at, Served, IsNewAir, slope_in, LineNeed, IsWalk};
-ghost use Rattle.line.specs.Tracer.{TurnNeed, IsTurn};
-ghost use Rattle.scheme.specs.Leaves.{mismatch_of};
+ghost use Rattle.model.specs.Basic.{every};
+ghost use Rattle.line.specs.Line.{AirNeed, IsAirSum, serves_at, Served, IsNewAir, LineNeed, IsWalk};
+ghost use Rattle.line.specs.Tracer.{AtStart, TurnNeed, IsTurn};
 
 use scheme::low_piece;
-use units::{AIR_LIMIT, Air, AirSum, Mismatch, Tracer, add_air};
-
-// Cell c's air, its tracer and its slope.
-fn air_at(air: &[u32], c: usize) -> Air
-    requires { c < length air.now }
-    ensures { result.0 ≡ at air.now c }
-{
-    let have = air[c];
-    Air(have)
-}
-
-fn tracer_at(gas: &[u32], c: usize) -> Tracer
-    requires { c < length gas.now }
-    ensures { result.0 ≡ at gas.now c }
-{
-    let amount = gas[c];
-    Tracer(amount)
-}
-
-fn slope_at(size: &[u64], rising: &[bool], c: usize) -> Mismatch
-    requires { (c < length size.now) × (c < length rising.now) }
-    ensures { mismatch_of result ≡ slope_in size.now rising.now c }
-{
-    let steepness = size[c];
-    let positive = rising[c];
-    Mismatch {
-        size: steepness,
-        positive,
-    }
-}
+use units::{AIR_LIMIT, Air, AirSum, Amount, Mismatch, Tracer};
 
 // The air of the first k cells.
 pub fn air_sum(air: &[u32], k: usize) -> AirSum
     requires { AirNeed k air.now }
     ensures { IsAirSum k air.now result.0 }
 {
-    let mut sum = AirSum(0);
-    let mut i = 0;
-    while i < k {
-        sum = add_air(sum, air_at(air, i));
-        i += 1;
+    let mut sum = AirSum::new(0);
+    for i in 0..k {
+        sum = sum.plus(Air::new(air[i]));
     }
     sum
 }
@@ -60,11 +28,7 @@ pub fn air_sum(air: &[u32], k: usize) -> AirSum
 fn cell_serves(low: u64, high: u64) -> bool
     ensures { result ≡ ltb low high && leb (high - low) air_limit }
 {
-    if low < high {
-        high - low <= (AIR_LIMIT as u64)
-    } else {
-        false
-    }
+    low < high && high - low <= AIR_LIMIT as u64
 }
 
 // Whether k + 1 edges rise strictly, with no new cell above 65,535.
@@ -73,10 +37,8 @@ pub fn edges_serve(e: &[u64], k: usize) -> bool
     ensures { result ≡ every k (serves_at e.now) }
 {
     let mut ok = true;
-    let mut j = 0;
-    while j < k {
+    for j in 0..k {
         ok = ok & cell_serves(e[j], e[j + 1]);
-        j += 1;
     }
     ok
 }
@@ -86,7 +48,7 @@ fn air_between(low: u64, high: u64) -> Air
     requires { (low ≤ high) × (high - low ≤ air_limit) }
     ensures { result.0 ≡ high - low }
 {
-    Air((high - low) as u32)
+    Air::new((high - low) as u32)
 }
 
 // The air of the k new cells between k + 1 edges.
@@ -94,34 +56,23 @@ pub fn new_air(e: &[u64], k: usize, newair: &mut [u32])
     requires { Served k e.now × (k ≤ length newair.old) }
     ensures { IsNewAir k e.now newair.new }
 {
-    let mut j = 0;
-    while j < k {
-        let cell = air_between(e[j], e[j + 1]);
-        newair[j] = cell.0;
-        j += 1;
+    for j in 0..k {
+        newair[j] = air_between(e[j], e[j + 1]).0;
     }
 }
 
-fn plus(a: Tracer, b: Tracer) -> Tracer
+fn plus<const KIND: u8>(a: Amount<KIND>, b: Amount<KIND>) -> Amount<KIND>
     requires { a.0 + b.0 ≤ 4294967295 }
-    ensures { result.0 ≡ a.0 + b.0 }
+    ensures { result.0 ≡ a.entry.0 + b.entry.0 }
 {
-    Tracer(a.0 + b.0)
+    Amount::new(a.0 + b.0)
 }
 
-fn minus(a: Tracer, b: Tracer) -> Tracer
+fn minus<const KIND: u8>(a: Amount<KIND>, b: Amount<KIND>) -> Amount<KIND>
     requires { b.0 ≤ a.0 }
-    ensures { result.0 ≡ a.0 - b.0 }
+    ensures { result.0 ≡ a.entry.0 - b.entry.0 }
 {
-    Tracer(a.0 - b.0)
-}
-
-// The air of a cell below an edge in it, where the cells before it have the air `passed`.
-fn air_inside(passed: AirSum, edge: u64) -> Air
-    requires { (passed.0 ≤ edge) × (edge - passed.0 ≤ air_limit) }
-    ensures { result.0 ≡ edge - passed.0 }
-{
-    Air((edge - passed.0) as u32)
+    Amount::new(a.0 - b.0)
 }
 
 // Where a walk along the line stands: the cells passed, their air and their tracer, the edges passed after edge 0, the tracer up to the last of them, and how many of these edges lie where a cell ends.
@@ -135,16 +86,44 @@ struct Place {
     ends: usize,
 }
 
-fn place_at(i: usize, passed: AirSum, whole: Tracer, j: usize, last: Tracer, ends: usize) -> Place
-    ensures { result ≡ record { i = i; passed = passed; whole = whole; j = j; last = last; ends = ends } }
-{
-    Place {
-        i,
-        passed,
-        whole,
-        j,
-        last,
-        ends,
+impl Place {
+    // Before the first cell, at edge 0.
+    fn start() -> Self
+        ensures { AtStart result }
+    {
+        Place {
+            i: 0,
+            passed: AirSum::new(0),
+            whole: Tracer::new(0),
+            j: 0,
+            last: Tracer::new(0),
+            ends: 0,
+        }
+    }
+
+    // One cell on, where the cells up to its end have the air `passed` and the tracer `whole`.
+    fn past_cell(self, passed: AirSum, whole: Tracer) -> Self
+        requires { self.i < 18446744073709551615 }
+        ensures { result ≡ record { i = self.i + 1; passed = passed; whole = whole; j = self.j; last = self.last; ends = self.ends } }
+    {
+        Place {
+            i: self.i + 1,
+            passed,
+            whole,
+            ..self
+        }
+    }
+
+    // One edge on, where the line up to it has the tracer `upto`.
+    fn past_edge(self, upto: Tracer) -> Self
+        requires { self.j < 18446744073709551615 }
+        ensures { result ≡ record { i = self.i; passed = self.passed; whole = self.whole; j = self.j + 1; last = upto; ends = self.ends } }
+    {
+        Place {
+            j: self.j + 1,
+            last: upto,
+            ..self
+        }
     }
 }
 
@@ -153,56 +132,44 @@ fn place_at(i: usize, passed: AirSum, whole: Tracer, j: usize, last: Tracer, end
 fn walk_turn(
     air: &[u32],
     gas: &[u32],
-    size: &[u64],
-    rising: &[bool],
+    slopes: &[Mismatch],
     n: usize,
     e: &[u64],
     m: usize,
     newgas: &mut [u32],
     start: Place,
 ) -> Place
-    requires { TurnNeed n air.now gas.now size.now rising.now e.now m newgas.old start }
-    ensures { IsTurn n air.now gas.now size.now rising.now e.now m newgas.new start result }
+    requires { TurnNeed n air.now gas.now slopes.now e.now m newgas.old start }
+    ensures { IsTurn n air.now gas.now slopes.now e.now m newgas.new start result }
 {
-    let first = start.i;
+    let mut place = start;
     let mut c = 0;
-    let mut passed = start.passed;
-    let mut whole = start.whole;
-    let mut j = start.j;
-    let mut last = start.last;
-    let mut ends = start.ends;
-    while j < m {
-        let have = air_at(air, c);
-        let t = tracer_at(gas, c);
-        let end = add_air(passed, have);
-        let edge = e[j + 1];
+    while place.j < m {
+        let have = Air::new(air[c]);
+        let t = Tracer::new(gas[c]);
+        let end = place.passed.plus(have);
+        let edge = e[place.j + 1];
         if end.0 < edge {
-            passed = end;
-            whole = plus(whole, t);
+            place = place.past_cell(end, plus(place.whole, t));
             c += 1;
             if c == n {
-                return place_at(first + c, passed, whole, j, last, ends);
+                return place;
             }
             continue;
         }
         if end.0 == edge {
-            let upto = plus(whole, t);
-            let gained = minus(upto, last);
-            newgas[j] = gained.0;
-            last = upto;
-            j += 1;
-            ends += 1;
+            let upto = plus(place.whole, t);
+            newgas[place.j] = minus(upto, place.last).0;
+            place = place.past_edge(upto);
+            place.ends += 1;
             continue;
         }
-        let inside = air_inside(passed, edge);
-        let slope = slope_at(size, rising, c);
-        let next = plus(whole, low_piece(slope, have, t, inside));
-        let amount = minus(next, last);
-        newgas[j] = amount.0;
-        last = next;
-        j += 1;
+        let inside = air_between(place.passed.0, edge);
+        let next = plus(place.whole, low_piece(slopes[c], have, t, inside));
+        newgas[place.j] = minus(next, place.last).0;
+        place = place.past_edge(next);
     }
-    place_at(first + c, passed, whole, j, last, ends)
+    place
 }
 
 // A walk that has been made: its steps, and how many edges after edge 0 lie where a cell ends.
@@ -217,21 +184,21 @@ pub struct Walked {
 pub fn tracer_between(
     air: &[u32],
     gas: &[u32],
-    size: &[u64],
-    rising: &[bool],
+    slopes: &[Mismatch],
     n: usize,
     e: &[u64],
     m: usize,
     newgas: &mut [u32],
 ) -> Walked
-    requires { LineNeed n air.now gas.now size.now rising.now e.now m newgas.old }
-    ensures { IsWalk n air.now gas.now size.now rising.now e.now m newgas.new result.steps result.ends }
+    requires { LineNeed n air.now gas.now slopes.now e.now m newgas.old }
+    ensures { IsWalk n air.now gas.now slopes.now e.now m newgas.new result.steps result.ends }
 {
-    let mut place = place_at(0, AirSum(0), Tracer(0), 0, Tracer(0), 0);
+    let mut place = Place::start();
     while place.j < m {
-        place = walk_turn(air, gas, size, rising, n, e, m, newgas, place);
+        place = walk_turn(air, gas, slopes, n, e, m, newgas, place);
     }
-    let steps = place.i + place.j;
-    let ends = place.ends;
-    Walked { steps, ends }
+    Walked {
+        steps: place.i + place.j,
+        ends: place.ends,
+    }
 }

@@ -1,8 +1,9 @@
--- A tracer's amounts in a row through a long sweep: the ring's slopes in lists, and what the functions require and ensure. W is the row's length.
-use Rattle.std.specs.Prelude.{ℕ, zero, suc, ◌+◌, ◌-◌, ◌*◌, ◌%◌, ◌≤◌, ◌<◌, Bool, ◌≡◌, refl, ℤ, length}
+-- A tracer's amounts in a row through a long sweep: the ring's slopes in a list, and what the functions require and ensure. W is the row's length.
+use Rattle.std.specs.Prelude.{ℕ, zero, suc, ◌+◌, ◌-◌, ◌*◌, ◌%◌, ◌≤◌, ◌<◌, ◌≡◌, refl, ℤ, length}
 use mathlib.Core.List.{List}
 use Rattle.std.proofs.Common.{sym, ap₂, ◌∙◌, mod-lt, arith}
 use Rattle.std.proofs.Math.Path.{ap}
+use Rattle.units.specs.declared.Mismatch as code
 use Rattle.model.specs.Limits.{total_limit}
 use Rattle.model.specs.Basic.{at, part, sum, tab}
 use Rattle.model.specs.Scheme.{Mismatch}
@@ -19,22 +20,21 @@ use Rattle.substep.specs.Pieces.{HasAir, AreRatios, mismatch_in}
 use Rattle.row.specs.Columns.{column_neighbours}
 use Rattle.line.specs.Line.{slope_in, cell_at, LineNeed, IsWalk}
 use Rattle.line.specs.Tracer.{between_is}
-use Rattle.line.specs.Slopes.{SlopesTo, slope_is}
+use Rattle.line.specs.Slopes.{SlopesTo}
 use Rattle.long_row.specs.Air.{AreDepartures, DeparturesServe}
 
 -- ---- slopes
 -- ratios of W columns, and room for their slopes
-pub record SlopesNeed (W : ℕ) (q size : List ℕ) (rising : List Bool) : Type 0 where
+pub record SlopesNeed (W : ℕ) (q : List ℕ) (slopes : List code.Mismatch) : Type 0 where
   pub ratios : W ≤ length q
-  pub room_size : W ≤ length size
-  pub room_rising : W ≤ length rising
+  pub room_slopes : W ≤ length slopes
 
--- the mismatch of column c with its neighbours in the ring, by a limiter and the ratios; two lists hold those of all columns
+-- the mismatch of column c with its neighbours in the ring, by a limiter and the ratios; a list holds those of all columns
 abbrev pub ring_slope : Limiter → ℕ → List ℕ → ℕ → Mismatch
 ring_slope l W q c = mismatch_in l q (west_of W c) c (east_of W c)
 
-abbrev pub AreSlopes : Limiter → ℕ → List ℕ → List ℕ → List Bool → Type 0
-AreSlopes l W q size rising = SlopesTo (ring_slope l W q) W size rising
+abbrev pub AreSlopes : Limiter → ℕ → List ℕ → List code.Mismatch → Type 0
+AreSlopes l W q slopes = SlopesTo (ring_slope l W q) W slopes
 
 -- ---- a tracer
 -- W amounts within the limit, over a row's air and its departures
@@ -71,21 +71,20 @@ module _ {gas air e : List ℕ} (need : LongGasNeed gas air e) where
         some = λ c h. (air_bounds (at air c) (need.departures.air_in c h)).0;
       }
 
-  module _ (l : Limiter) {q size : List ℕ} {rising : List Bool} (ratios : AreRatios W air gas q) (slopes : AreSlopes l W q size rising) where
-    pub line_need : {newgas : List ℕ} → W ≤ length size → W ≤ length rising → W + 1 ≤ length newgas → LineNeed W air gas size rising e (W + 1) newgas
-    line_need room_size room_rising room =
+  module _ (l : Limiter) {q : List ℕ} {slopes : List code.Mismatch} (ratios : AreRatios W air gas q) (filled : AreSlopes l W q slopes) where
+    pub line_need : {newgas : List ℕ} → W ≤ length slopes → W + 1 ≤ length newgas → LineNeed W air gas slopes e (W + 1) newgas
+    line_need room_slopes room =
         let departures = need.departures in
         record {
           some = departures.some;
           fit = departures.wide;
           room_air = omega arith;
           room_gas = omega (arith, need.long);
-          room_size = room_size;
-          room_rising = room_rising;
+          room_slopes = room_slopes;
           least = λ c h. (air_bounds (at air c) (departures.air_in c h)).0;
           most = λ c h. (air_bounds (at air c) (departures.air_in c h)).1;
           total = need.total;
-          small = λ c h. rw (← ratios.is c h, slopes.sizes c h) ((limiter_limited l).at_most_twice _ (at q c) _);
+          small = λ c h. rw (← ratios.is c h, ap (λ (d : Mismatch). d.size) (filled.is c h)) ((limiter_limited l).at_most_twice _ (at q c) _);
           few = omega (arith, departures.wide);
           room_edges = departures.room;
           first = departures.first;
@@ -105,29 +104,29 @@ module _ {gas air e : List ℕ} (need : LongGasNeed gas air e) where
         rises (suc j) h = omega (arith, need.departures.rises j (omega arith))
 
     -- the line of the lists is the model's
-    cell_is_lem : (i : ℕ) → cell_at W air gas size rising i ≡ line_cell (rule_for l) W air gas i
+    cell_is_lem : (i : ℕ) → cell_at W air gas slopes i ≡ line_cell (rule_for l) W air gas i
     cell_is_lem i =
         let c : ℕ = i % W in
         let h : c < W = mod-lt i need.departures.some in
         let near = column_neighbours W c h (west_of W c) (east_of W c) refl refl in
-        let slope : slope_in size rising c ≡ cell_mismatch (rule_for l) (ring W) air gas c =
-        slope_is slopes c h ∙
+        let slope : slope_in slopes c ≡ cell_mismatch (rule_for l) (ring W) air gas c =
+        filled.is c h ∙
         (λ n. rule_for l (ratios.is (west_of W c) (west_in W c h) n) (ratios.is c h n) (ratios.is (east_of W c) (east_in W c h) n)) ∙
         sym (near.is l air gas) in
         ap (λ (d : Mismatch). record { air = at air c; tracer = at gas c; slope = d }) slope
 
-    line_is_lem : (x : ℕ) → amount_above (tab (turns * W) (cell_at W air gas size rising)) x ≡ carried (rule_for l) W air gas x
+    line_is_lem : (x : ℕ) → amount_above (tab (turns * W) (cell_at W air gas slopes)) x ≡ carried (rule_for l) W air gas x
     unfolding carried
     line_is_lem x =
         ap (λ (l : List ColumnLayer). amount_above l x)
-        (tab_ext (turns * W) (cell_at W air gas size rising) (line_cell (rule_for l) W air gas) (λ i h. cell_is_lem i))
+        (tab_ext (turns * W) (cell_at W air gas slopes) (line_cell (rule_for l) W air gas) (λ i h. cell_is_lem i))
 
     -- the amounts between the departures, lent as `&between[1..end]` with end = W + 1
     pub gas_by_lem :
-        {between : List ℕ} {steps ends : ℕ} → W ≤ length size → W ≤ length rising → W + 1 ≤ length between →
-        IsWalk W air gas size rising e (W + 1) between steps ends → part between 1 (W + 1 - 1) ≡ gas_by l e air gas
-    gas_by_lem {between} room_size room_rising room made =
-        let is = between_is (line_need {newgas = between} room_size room_rising room) made in
+        {between : List ℕ} {steps ends : ℕ} → W ≤ length slopes → W + 1 ≤ length between →
+        IsWalk W air gas slopes e (W + 1) between steps ends → part between 1 (W + 1 - 1) ≡ gas_by l e air gas
+    gas_by_lem {between} room_slopes room made =
+        let is = between_is (line_need {newgas = between} room_slopes room) made in
         sym (tab_at W (part between 1 (W + 1 - 1)) long) ∙
         tab_ext W _ _
         (λ i h.

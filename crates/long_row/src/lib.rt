@@ -10,10 +10,10 @@ ghost use Rattle.long_row.specs.Air.{LongNeed, AreDepartures, DeparturesServe, a
 ghost use Rattle.long_row.specs.Gas.{SlopesNeed, AreSlopes, LongGasNeed, gas_by};
 
 use line::{air_sum, edges_serve, new_air, tracer_between};
-use row::{copy, east_of, west_of};
-use scheme::{mismatch, split};
+use row::{east_of, west_of};
+use scheme::{Flux, mismatch};
 use substep::fill_ratios;
-use units::{Air, AirSum, Limiter, MOST_COLUMNS, add_air};
+use units::{Air, AirSum, Limiter, MOST_COLUMNS, Mismatch};
 
 pub const MOST_DEPARTURES: usize = MOST_COLUMNS + 2; // the line's start, and one of each face
 
@@ -24,9 +24,9 @@ fn departure_of(x: AirSum, f: i32) -> u64
     requires { (x.0 ≤ 4294967295) × (forward f ≤ x.0 + backward f) }
     ensures { result ≡ x.0 + backward f - forward f }
 {
-    let flow = split(f);
-    let high = flow.to_high;
+    let flow = Flux::from(f);
     let low = flow.to_low;
+    let high = flow.to_high;
     x.0 + (low.0 as u64) - (high.0 as u64)
 }
 
@@ -37,17 +37,11 @@ pub fn fill_departures(air: &[u32], fluxes: &[i32], e: &mut [u64])
 {
     let w = air.len();
     let mut x = air_sum(air, w); // the air before the face
-    let last = fluxes[w - 1];
-    let first = departure_of(x, last);
     e[0] = 0;
-    e[1] = first;
-    let mut j = 0;
-    while j < w {
-        let have = air[j];
-        let f = fluxes[j];
-        x = add_air(x, Air(have));
-        e[j + 2] = departure_of(x, f);
-        j += 1;
+    e[1] = departure_of(x, fluxes[w - 1]);
+    for j in 0..w {
+        x = x.plus(Air::new(air[j]));
+        e[j + 2] = departure_of(x, fluxes[j]);
     }
 }
 
@@ -73,22 +67,15 @@ pub fn move_air(e: &[u64], air: &mut [u32])
     new_air(&e[1..end], w, air);
 }
 
-// The mismatch of each column with its neighbours in the ring, by the tracer's limiter and the ratios: its size, and whether its sign is positive.
-fn fill_slopes(l: Limiter, q: &[u64], w: usize, size: &mut [u64], rising: &mut [bool])
-    requires { SlopesNeed w q.now size.old rising.old }
-    ensures { AreSlopes (limiter_of l) w q.now size.new rising.new }
+// The mismatch of each column with its neighbours in the ring, by the tracer's limiter and the ratios.
+fn fill_slopes(l: Limiter, q: &[u64], w: usize, slopes: &mut [Mismatch])
+    requires { SlopesNeed w q.now slopes.old }
+    ensures { AreSlopes (limiter_of l) w q.now slopes.new }
 {
-    let mut c = 0;
-    while c < w {
+    for c in 0..w {
         let west = west_of(w, c);
         let east = east_of(w, c);
-        let low = q[west];
-        let own = q[c];
-        let high = q[east];
-        let d = mismatch(l, low, own, high);
-        size[c] = d.size;
-        rising[c] = d.positive;
-        c += 1;
+        slopes[c] = mismatch(l, q[west], q[c], q[east]);
     }
 }
 
@@ -99,12 +86,15 @@ pub fn move_gas(l: Limiter, gas: &mut [u32], air: &[u32], e: &[u64])
 {
     let w = air.len();
     let end = w + 1;
+    let none = Mismatch {
+        size: 0,
+        positive: false,
+    };
     let mut q = [0u64; MOST_COLUMNS];
-    let mut size = [0u64; MOST_COLUMNS];
-    let mut rising = [false; MOST_COLUMNS];
+    let mut slopes = [none; MOST_COLUMNS];
     let mut between = [0u32; MOST_STRETCHES]; // the first is before the row
     fill_ratios(air, &gas[..], w, &mut q);
-    fill_slopes(l, &q, w, &mut size, &mut rising);
-    tracer_between(air, &gas[..], &size, &rising, w, e, end, &mut between);
-    copy(&between[1..end], gas);
+    fill_slopes(l, &q, w, &mut slopes);
+    tracer_between(air, &gas[..], &slopes, w, e, end, &mut between);
+    gas.copy_from_slice(&between[1..end]);
 }

@@ -23,9 +23,9 @@ pub type Totals = [u64; MOST_TRACERS];
 
 // Whether a cell's air is 1 to 65,535.
 pub fn air_in_range(m: Air) -> bool
-    ensures { result ≡ air_fits m.units }
+    ensures { result ≡ air_fits m.0 }
 {
-    (1 <= m.units) & (m.units <= AIR_LIMIT)
+    (1 <= m.0) & (m.0 <= AIR_LIMIT)
 }
 
 // Place 3: whether every cell's air is in range. `all` has the bits of every cell's air.
@@ -78,25 +78,14 @@ fn block_total(gas: &[u32]) -> u64
     (first as u64) + (second as u64) + rest
 }
 
-// Where the block that starts at entry a of n ends.
-fn block_end(a: usize, n: usize) -> usize
-    requires { a < n }
-    ensures { (a < result) × (result ≤ n) × (result ≤ a + 8192) }
-{
-    if n - a < 8192 { n } else { a + 8192 }
-}
-
 // A tracer's sum over all cells.
 pub fn gas_total(gas: &[u32]) -> u64
     requires { length gas.now ≤ most_cells }
     ensures { (result ≡ sum (length gas.now) (at gas.now)) × (result < 562949953421312) }
 {
     let mut sum: u64 = 0;
-    let mut a = 0;
-    while a < gas.len() {
-        let e = block_end(a, gas.len());
-        sum += block_total(&gas[a..e]);
-        a = e;
+    for block in gas.chunks(8192) {
+        sum += block_total(block);
     }
     sum
 }
@@ -212,11 +201,11 @@ pub fn common_places(w: World, lent: Lent) -> Answer<Totals>
 
 // Place 8: whether every flux's size is at most the limit.
 pub fn fluxes_fit(fluxes: &[i32], limit: Air) -> bool
-    ensures { result ≡ every (length fluxes.now) (λ i. leb (unsigned_abs (flux fluxes.now i)) limit.units) }
+    ensures { result ≡ every (length fluxes.now) (λ i. leb (unsigned_abs (flux fluxes.now i)) limit.0) }
 {
     let mut ok = true;
     for f in fluxes {
-        ok &= f.unsigned_abs() <= limit.units;
+        ok &= f.unsigned_abs() <= limit.0;
     }
     ok
 }

@@ -1,6 +1,7 @@
 -- One tracer in one column: what `move_gas` requires and ensures, in terms of the column's air and edges.
 use Rattle.std.specs.Prelude.{ℕ, suc, ◌+◌, ◌≤◌, List, Bool, ◌||◌, ◌≡◌, eqb, length}
 use Rattle.std.proofs.Common.{sym, ap, ap₂, ◌∙◌, add-one, arith}
+use Rattle.units.specs.declared.Mismatch as code
 use Rattle.model.specs.Limits.{total_limit}
 use Rattle.model.specs.Basic.{at, sum}
 use Rattle.model.specs.Limiters.{Limiter, rule_for}
@@ -41,9 +42,9 @@ module _
     {gas air e : List ℕ} {c cells k : ℕ} (need : GasNeed gas air e c cells k) (old : List ℕ)
     (loaded : firsts k old ≡ column_of k cells gas c) where
   pub gas_need :
-      {q size : List ℕ} {rising : List Bool} {new : List ℕ} → AreRatios k air old q → k ≤ length old → k ≤ length q → k ≤ length size →
-      k ≤ length rising → k ≤ length new → ColumnGasNeed k air old q size rising e new
-  gas_need ratios room_gas room_ratios room_size room_rising room =
+      {q : List ℕ} {slopes : List code.Mismatch} {new : List ℕ} → AreRatios k air old q → k ≤ length old → k ≤ length q → k ≤ length slopes →
+      k ≤ length new → ColumnGasNeed k air old q slopes e new
+  gas_need ratios room_gas room_ratios room_slopes room =
       let own : sum k (at old) ≡ sum k (at (column_of k cells gas c)) = sym (sum_tab k (at old)) ∙ ap (λ (l : List ℕ). sum k (at l)) loaded in
       record {
         spans = need.spans;
@@ -51,8 +52,7 @@ module _
         room_gas = room_gas;
         room_ratios = room_ratios;
         ratios = ratios;
-        room_size = room_size;
-        room_rising = room_rising;
+        room_slopes = room_slopes;
         room = room;
       }
 

@@ -1,5 +1,5 @@
 -- A remap's own places in order, what `remap_place` finds, and what the call leaves.
-use Rattle.std.specs.Prelude.{ℕ, ◌+◌, ◌*◌, List, [], ◌∷◌, Bool, true, not, ◌≡◌, length}
+use Rattle.std.specs.Prelude.{ℕ, ◌+◌, ◌*◌, List, [], ◌∷◌, Bool, true, not, ◌≡◌, length, Result, Ok}
 use Rattle.std.proofs.Math.Path.{refl}
 use Rattle.std.proofs.Common.{ap₂, arith}
 use Rattle.model.specs.Basic.{every}
@@ -9,10 +9,9 @@ use Rattle.model.specs.Step.{Place, place, table_fits, remap}
 use Rattle.model.proofs.Laws.Grid.{in_range_lem, layer_cells_most}
 use Rattle.model.proofs.Laws.Step.{Fits}
 use Rattle.model.proofs.Laws.Remap.{remap_edges}
-use Rattle.units.specs.declared.Answer.TheVariants.{Accepted}
+use Rattle.units.specs.declared.Refusal.{Refusal}
 use Rattle.units.specs.Answer.{Agrees}
 use Rattle.units.specs.Agrees.{accepted_agrees}
-use Rattle.places.specs.declared.Placed.{Placed}
 use Rattle.places.specs.Walk.{Left, IsPlaced, Like, none}
 use Rattle.remap.specs.Served.{ColumnsNeed, serves_at}
 use Rattle.remap.specs.Moved.{ColumnsAirNeed, ColumnsTracersNeed, AreMoved}
@@ -22,14 +21,14 @@ abbrev pub from_serving : List ℕ → List Place
 from_serving table = place 12 (λ w. not (remap_serves w table)) ∷ []
 
 -- ---- what `remap_place` finds
-pub record ColumnsFound (w : World) (table : List ℕ) (p : Placed) : Type 0 where
+pub record ColumnsFound (w : World) (table : List ℕ) : Type 0 where
   pub left : Left w (Like w (remap table)) []
   pub fits : Fits w
   pub pairs : length table ≡ 2 * (w.grid.K + 1)
   pub table_fit : table_fits w.grid.K table ≡ true
 
-abbrev pub IsRemapPlace : World → List ℕ → Placed → Type 0
-IsRemapPlace w table p = IsPlaced w (Like w (remap table)) p.answer (ColumnsFound w table p)
+abbrev pub IsRemapPlace : {Found : Type 0} → World → List ℕ → Result Found Refusal → Type 0
+IsRemapPlace w table = IsPlaced w (Like w (remap table)) (λ found. ColumnsFound w table)
 
 -- ---- the columns of a world
 module _ (w : World) {cells : ℕ} (e : cells ≡ layer_cells w.grid) {table : List ℕ} where
@@ -53,7 +52,7 @@ unfolding remap_serves column
 serves_is w e table served = rw e at served
 
 -- ---- the call, once its places are passed
-module _ {w : World} {table : List ℕ} {p : Placed} (found : ColumnsFound w table p) {cells : ℕ} (e : cells ≡ layer_cells w.grid) where
+module _ {w : World} {table : List ℕ} (found : ColumnsFound w table) {cells : ℕ} (e : cells ≡ layer_cells w.grid) where
   air_need : ColumnsAirNeed w.air table cells w.grid.K
   unfolding column
   air_need =
@@ -76,7 +75,7 @@ module _ {w : World} {table : List ℕ} {p : Placed} (found : ColumnsFound w tab
 
   pub remap_agrees : {new_tracers new_air : List ℕ} {steps count : ℕ} →
       AreMoved w.tracers w.ledger w.air table cells w.grid.K w.grid.N new_tracers new_air steps count →
-      Agrees w (remap table) (Accepted count) (with_amounts w new_air new_tracers)
+      Agrees w (remap table) (Ok count) (with_amounts w new_air new_tracers)
   unfolding remapped remapped_air remapped_gas remap_count column
   remap_agrees moved =
       accepted_agrees (none found.left) refl (rw e at moved.counted) (ap₂ (with_amounts w) (rw e at moved.air_is) (rw e at moved.tracers_are))

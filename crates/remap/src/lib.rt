@@ -16,80 +16,106 @@ ghost use Rattle.remap.specs.Moved.{ColumnsTracersNeed, AreMoved};
 ghost use Rattle.remap.specs.RemapPlace.{IsRemapPlace};
 ghost use Rattle.model.specs.Step.{remap as remap_call};
 ghost use Rattle.units.specs.Answer.{Agrees};
-ghost use Rattle.units.specs.Grid.{world_of};
+ghost use Rattle.units.specs.Grid.{world_in, world_of};
 
 use column::{fill_edges, remap_gas, table_fits};
 use limiters::limiter_at;
 use line::{Walked, air_sum, edges_serve, new_air};
-use places::{Lent, Placed, common_places, not_placed};
+use places::{Lent, common_places};
 use scheme::ratio;
 use units::{
-    Air, Answer, Grid, Limiter, MOST_EDGES, MOST_LAYERS, Refusal, Tracer, layer_cells, number,
+    Air, Answer, Grid, Limiter, MOST_EDGES, MOST_LAYERS, Mismatch, Refusal, Tracer, World,
+    layer_cells,
 };
 
-// Copies the column at place c of lent amounts, k layers of `cells` places each, to the first k entries of `column`.
-fn read_column(list: &[u32], c: usize, cells: usize, k: usize, column: &mut [u32])
-    requires { ColumnNeed list.now c cells k × (k ≤ length column.old) }
-    ensures { firsts k column.new ≡ column_of k cells list.now c }
+// Where a column stands in lent amounts: at place c of the `cells` places of each of k layers.
+#[derive(Clone, Copy)]
+struct Stand {
+    c: usize,
+    cells: usize,
+    k: usize,
+}
+
+// A column's old air, and its new edges in it.
+#[derive(Drop)]
+struct Column {
+    air: [u32; MOST_LAYERS],
+    e: [u64; MOST_EDGES],
+}
+
+impl Column {
+    fn empty() -> Self {
+        Column {
+            air: [0; MOST_LAYERS],
+            e: [0; MOST_EDGES],
+        }
+    }
+}
+
+// What a tracer's remap in a column fills: its amounts, their ratios, the mismatches, and the new amounts. It is lent, so that it is made once for all tracers.
+#[derive(Drop)]
+struct Room {
+    gas: [u32; MOST_LAYERS],
+    q: [u64; MOST_LAYERS],
+    slopes: [Mismatch; MOST_LAYERS],
+    newgas: [u32; MOST_LAYERS],
+}
+
+impl Room {
+    fn empty() -> Self {
+        let none = Mismatch {
+            size: 0,
+            positive: false,
+        };
+        Room {
+            gas: [0; MOST_LAYERS],
+            q: [0; MOST_LAYERS],
+            slopes: [none; MOST_LAYERS],
+            newgas: [0; MOST_LAYERS],
+        }
+    }
+}
+
+// Copies a column of lent amounts to the first k entries of `column`.
+fn read_column(list: &[u32], p: Stand, column: &mut [u32])
+    requires { ColumnNeed list.now p.c p.cells p.k × (p.k ≤ length column.old) }
+    ensures { firsts p.k column.new ≡ column_of p.k p.cells list.now p.c }
 {
-    let mut i = 0;
-    while i < k {
-        column[i] = list[i * cells + c];
-        i += 1;
+    for i in 0..p.k {
+        column[i] = list[i * p.cells + p.c];
     }
 }
 
 // Copies a tracer's column in the same way, and finds the ratios by the column's air, in one loop.
-fn read_ratios(
-    gas: &[u32],
-    air: &[u32],
-    c: usize,
-    cells: usize,
-    k: usize,
-    column: &mut [u32],
-    q: &mut [u64],
-)
-    requires { ColumnNeed gas.now c cells k × HasAir k air.now column.old q.old }
-    ensures { (firsts k column.new ≡ column_of k cells gas.now c) × AreRatios k air.now column.new q.new }
+fn read_ratios(gas: &[u32], air: &[u32], p: Stand, column: &mut [u32], q: &mut [u64])
+    requires { ColumnNeed gas.now p.c p.cells p.k × HasAir p.k air.now column.old q.old }
+    ensures { (firsts p.k column.new ≡ column_of p.k p.cells gas.now p.c) × AreRatios p.k air.now column.new q.new }
 {
-    let mut i = 0;
-    while i < k {
-        let have = air[i];
-        let amount = gas[i * cells + c];
+    for i in 0..p.k {
+        let amount = gas[i * p.cells + p.c];
         column[i] = amount;
-        q[i] = ratio(Air(have), Tracer(amount));
-        i += 1;
+        q[i] = ratio(Air::new(air[i]), Tracer::new(amount));
     }
 }
 
 // Writes a column back.
-fn write_column(column: &[u32], list: &mut [u32], c: usize, cells: usize, k: usize)
-    requires { ColumnNeed list.old c cells k × (k ≤ length column.now) }
-    ensures { list.new ≡ column_set cells list.old c (at column.now) k }
+fn write_column(column: &[u32], list: &mut [u32], p: Stand)
+    requires { ColumnNeed list.old p.c p.cells p.k × (p.k ≤ length column.now) }
+    ensures { list.new ≡ column_set p.cells list.old p.c (at column.now) p.k }
 {
-    let mut i = 0;
-    while i < k {
-        list[i * cells + c] = column[i];
-        i += 1;
+    for i in 0..p.k {
+        list[i * p.cells + p.c] = column[i];
     }
 }
 
 // Copies a column's air, and fills the table's edges in it.
-fn read_edges(
-    air: &[u32],
-    table: &[u32],
-    c: usize,
-    cells: usize,
-    k: usize,
-    columnair: &mut [u32],
-    e: &mut [u64],
-)
-    requires { ReadNeed air.now table.now c cells k × (k ≤ length columnair.old) × (k < length e.old) }
-    ensures { IsColumn air.now table.now c cells k columnair.new e.new }
+fn read_edges(air: &[u32], table: &[u32], p: Stand, column: &mut Column)
+    requires { ReadNeed air.now table.now p.c p.cells p.k }
+    ensures { IsColumn air.now table.now p.c p.cells p.k column.new.air column.new.e }
 {
-    read_column(air, c, cells, k, columnair);
-    let p = air_sum(columnair, k);
-    fill_edges(table, p, k, e);
+    read_column(air, p, &mut column.air);
+    let sum = air_sum(&column.air, p.k);
+    fill_edges(table, sum, p.k, &mut column.e);
 }
 
 // Place 12, before anything is written: whether every column's edges serve.
@@ -97,15 +123,12 @@ fn columns_serve(air: &[u32], table: &[u32], cells: usize, k: usize) -> bool
     requires { ColumnsNeed air.now table.now cells k }
     ensures { result ≡ every cells (serves_at k cells table.now air.now) }
 {
-    let mut columnair = [0u32; MOST_LAYERS];
-    let mut e = [0u64; MOST_EDGES];
-    let mut c = 0;
-    while c < cells {
-        read_edges(air, table, c, cells, k, &mut columnair, &mut e);
-        if edges_serve(&e, k) {} else {
+    let mut column = Column::empty();
+    for c in 0..cells {
+        read_edges(air, table, Stand { c, cells, k }, &mut column);
+        if !edges_serve(&column.e, k) {
             return false;
         }
-        c += 1;
     }
     true
 }
@@ -118,76 +141,44 @@ fn is_cap(c: usize, cells: usize) -> bool
     (c == 0) | (c + 1 == cells)
 }
 
-// Remaps one tracer, by its limiter, in the column at place c, of which `air` and `e` have the old air and the new edges, by one walk. The lists after k are filled on the way; they are lent, so that they are made once for all tracers.
-fn move_gas(
-    l: Limiter,
-    gas: &mut [u32],
-    air: &[u32],
-    e: &[u64],
-    c: usize,
-    cells: usize,
-    k: usize,
-    column: &mut [u32; MOST_LAYERS],
-    q: &mut [u64; MOST_LAYERS],
-    size: &mut [u64; MOST_LAYERS],
-    rising: &mut [bool; MOST_LAYERS],
-    newgas: &mut [u32; MOST_LAYERS],
-) -> Walked
-    requires { GasNeed gas.old air.now e.now c cells k }
-    ensures { IsGasMoved (limiter_of l) gas.old air.now e.now c cells k gas.new × (result.steps + 1 ≡ budget k) × IsCounted k air.now e.now result.ends }
+// Remaps one tracer, by its limiter, in a column, by one walk.
+fn move_gas(l: Limiter, gas: &mut [u32], column: &Column, p: Stand, room: &mut Room) -> Walked
+    requires { GasNeed gas.old column.now.air column.now.e p.c p.cells p.k }
+    ensures { IsGasMoved (limiter_of l) gas.old column.now.air column.now.e p.c p.cells p.k gas.new × (result.steps + 1 ≡ budget p.k) × IsCounted p.k column.now.air column.now.e result.ends }
 {
-    read_ratios(gas, air, c, cells, k, column, q);
-    let cap = is_cap(c, cells);
-    let walked = remap_gas(l, air, column, cap, e, k, q, size, rising, newgas);
-    write_column(newgas, gas, c, cells, k);
+    read_ratios(gas, &column.air, p, &mut room.gas, &mut room.q);
+    let cap = is_cap(p.c, p.cells);
+    let walked = remap_gas(
+        l,
+        &column.air,
+        &room.gas,
+        cap,
+        &column.e,
+        p.k,
+        &room.q,
+        &mut room.slopes,
+        &mut room.newgas,
+    );
+    write_column(&room.newgas, gas, p);
     walked
 }
 
 // Remaps the n tracers in that column, each by its limiter, one after the other, and gives the steps of their walks together; the ends are those of each of them, since all walks go by the same air and edges.
-fn move_column(
-    tracers: &mut [u32],
-    ledger: &[u32],
-    air: &[u32],
-    e: &[u64],
-    c: usize,
-    cells: usize,
-    k: usize,
-    n: usize,
-) -> Walked
-    requires { ColumnTracersNeed tracers.old ledger.now air.now e.now c cells k n }
-    ensures { AreTracersMoved tracers.old ledger.now air.now e.now c cells k n tracers.new × (result.steps + n ≡ n * budget k) × IsCounted k air.now e.now result.ends }
+fn move_column(tracers: &mut [u32], ledger: &[u32], column: &Column, p: Stand, n: usize) -> Walked
+    requires { ColumnTracersNeed tracers.old ledger.now column.now.air column.now.e p.c p.cells p.k n }
+    ensures { AreTracersMoved tracers.old ledger.now column.now.air column.now.e p.c p.cells p.k n tracers.new × (result.steps + n ≡ n * budget p.k) × IsCounted p.k column.now.air column.now.e result.ends }
 {
-    let mut column = [0u32; MOST_LAYERS];
-    let mut q = [0u64; MOST_LAYERS];
-    let mut size = [0u64; MOST_LAYERS];
-    let mut rising = [false; MOST_LAYERS];
-    let mut newgas = [0u32; MOST_LAYERS];
-    let mut steps = 0;
-    let mut ends = 0;
-    let mut t = 0;
-    while t < n {
-        let a = t * (k * cells);
-        let b = a + k * cells;
+    let mut room = Room::empty();
+    let mut all = Walked { steps: 0, ends: 0 };
+    for t in 0..n {
+        let a = t * (p.k * p.cells);
+        let b = a + p.k * p.cells;
         let l = limiter_at(ledger, t);
-        let walked = move_gas(
-            l,
-            &mut tracers[a..b],
-            air,
-            e,
-            c,
-            cells,
-            k,
-            &mut column,
-            &mut q,
-            &mut size,
-            &mut rising,
-            &mut newgas,
-        );
-        steps += walked.steps;
-        ends = walked.ends;
-        t += 1;
+        let walked = move_gas(l, &mut tracers[a..b], column, p, &mut room);
+        all.steps += walked.steps;
+        all.ends = walked.ends;
     }
-    Walked { steps, ends }
+    all
 }
 
 // The steps of all walks, and exactly the pairs of an old and a new layer that share air, in all columns.
@@ -210,61 +201,51 @@ fn move_columns(
     requires { ColumnsTracersNeed tracers.old ledger.now air.old table.now cells k n }
     ensures { AreMoved tracers.old ledger.now air.old table.now cells k n tracers.new air.new result.steps result.count }
 {
-    let mut columnair = [0u32; MOST_LAYERS];
-    let mut e = [0u64; MOST_EDGES];
-    let mut steps = 0;
-    let mut count: u32 = 0;
-    let mut c = 0;
-    while c < cells {
-        read_edges(air, table, c, cells, k, &mut columnair, &mut e);
-        let walked = move_column(tracers, ledger, &columnair, &e, c, cells, k, n);
-        steps += walked.steps;
+    let mut column = Column::empty();
+    let mut moved = Moved { steps: 0, count: 0 };
+    for c in 0..cells {
+        let p = Stand { c, cells, k };
+        read_edges(air, table, p, &mut column);
+        let walked = move_column(tracers, ledger, &column, p, n);
+        moved.steps += walked.steps;
         let pairs = 2 * k - walked.ends;
-        count += pairs as u32;
-        new_air(&e, k, &mut columnair);
-        write_column(&columnair, air, c, cells, k);
-        c += 1;
+        moved.count += pairs as u32;
+        new_air(&column.e, k, &mut column.air);
+        write_column(&column.air, air, p);
     }
-    Moved { steps, count }
+    moved
 }
 
 // Places 1 to 4, 21, 11 and 12; the columns start at cell 0. The count comes with the walks.
-fn remap_place(g: Grid, air: &[u32], tracers: &[u32], ledger: &[u32], table: &[u32]) -> Placed
-    ensures { IsRemapPlace (world_of g air.now tracers.now ledger.now) table.now result }
+fn remap_place(w: World, table: &[u32]) -> Answer<()>
+    ensures { IsRemapPlace (world_in w.entry) table.now result }
 {
-    let tested = common_places(g, air, tracers, ledger, Lent::Table(table.len()));
-    let answer = tested.answer;
-    if number(answer) == 0 {} else {
-        return not_placed(answer);
+    common_places(w, Lent::Table(table.len()))?;
+    let k = w.grid.k as usize;
+    if !table_fits(table, k) {
+        return Err(Refusal::Table);
     }
-    let k = g.k as usize;
-    if table_fits(table, k) {} else {
-        return not_placed(Answer::Refused(Refusal::Table));
+    let cells = layer_cells(w.grid) as usize;
+    if !columns_serve(w.air, table, cells, k) {
+        return Err(Refusal::Remap);
     }
-    let cells = layer_cells(g) as usize;
-    if columns_serve(air, table, cells, k) {} else {
-        return not_placed(Answer::Refused(Refusal::Remap));
-    }
-    Placed {
-        answer: Answer::Accepted(0),
-        first: 0,
-        found: 0,
-    }
+    Ok(())
 }
 
 // Remaps all columns, in the air and in all tracers. Its count is exactly the number of pairs of an old and a new layer that share some air, summed over columns.
 pub fn remap(g: Grid, air: &mut [u32], tracers: &mut [u32], ledger: &[u32], table: &[u32]) -> Answer
     ensures { Agrees (world_of g air.old tracers.old ledger.now) (remap_call table.now) result (world_of g air.new tracers.new ledger.now) }
 {
-    let place = remap_place(g, air, tracers, ledger, table);
-    let answer = place.answer;
-    if number(answer) == 0 {} else {
-        return answer;
-    }
+    let w = World {
+        grid: g,
+        air,
+        tracers,
+        ledger,
+    };
+    remap_place(w, table)?;
     let cells = layer_cells(g) as usize;
     let k = g.k as usize;
     let n = g.n as usize;
     let moved = move_columns(tracers, ledger, air, table, cells, k, n);
-    let count = moved.count;
-    Answer::Accepted(count)
+    Ok(moved.count)
 }

@@ -1,4 +1,4 @@
--- The columns of a row as the cells of the ring, what the functions of a row require, and the laws of the loop of `pass_air` and `pass_gas`.
+-- The columns of a row as the cells of the ring, what the functions of a row require, and the laws of the loop of `pass`.
 use Rattle.std.specs.Prelude.{ℕ, ◌+◌, ◌-◌, ◌≤◌, ◌<◌, List, ◌≡◌, length, set}
 use Rattle.std.proofs.Math.Path.{refl}
 use Rattle.std.proofs.Common.{sym, arith}
@@ -6,17 +6,17 @@ use Rattle.model.specs.Basic.{at, every}
 use Rattle.model.specs.Sweep.{Flow, ring, east_of, west_of, leaving, allowed, after_flow, cell_mismatch}
 use Rattle.model.proofs.Laws.Ring.{west_in, east_in, ring_regular}
 use Rattle.substep.specs.Faces.{flow_of}
-use Rattle.substep.specs.Cells.{Cell, CellFlows, Moves, Moved, cell_allowed, moved_none, moved_exchange, moved_more, all_moved_lem}
+use Rattle.substep.specs.Cells.{Cell, CellFlows, Sums, Moves, Moved, cell_allowed, moved_none, moved_exchange, moved_more, all_moved_lem}
 use Rattle.substep.specs.Pieces.{Neighbours}
 
--- lists that have what passes each of w faces
-pub record FaceRoom (w : ℕ) (up down : List ℕ) : Type 0 where
-  pub high : w ≤ length up
-  pub low : w ≤ length down
+-- e and l are what enters and what leaves column i of w
+pub record IsExchange (w : ℕ) (up down : List ℕ) (i e l : ℕ) : Type 0 where
+  pub cell : Cell (ring w) (flow_of up down) i e l
+  pub sums : Sums e l
 
--- a row whose amounts can be passed on
-pub record Passing (amounts up down : List ℕ) : Type 0 where
-  pub room : FaceRoom (length amounts) up down
+-- a row whose amounts can be passed on, of no more columns than there is room for faces
+pub record Passing (room : ℕ) (amounts up down : List ℕ) : Type 0 where
+  pub wide : length amounts ≤ room
   pub moves : Moves (ring (length amounts)) (flow_of up down) amounts
 
 -- the model's test of a substep is the test of every column
@@ -49,21 +49,17 @@ pub record PassedTo (amounts up down now : List ℕ) (i : ℕ) : Type 0 where
   pub inside : i ≤ length amounts
   pub moved : Moved (ring (length amounts)) (flow_of up down) amounts now i
 
-module _ {amounts up down : List ℕ} (need : Passing amounts up down) where
+module _ {room : ℕ} {amounts up down : List ℕ} (need : Passing room amounts up down) where
   pub passed_none : PassedTo amounts up down amounts 0
   passed_none = record { inside = omega arith; moved = moved_none need.moves }
 
   -- column i, which gets e and gives l through its two faces
-  module _ {now : List ℕ} {i west e l : ℕ} (passed : PassedTo amounts up down now i) (h : i < length amounts)
-      (is_west : west ≡ west_of (length amounts) i) (enters : e ≡ at up west + at down i) (leaves : l ≡ at down west + at up i) where
-    own : Cell (ring (length amounts)) (flow_of up down) i e l
-    own = column (length amounts) i h (flow_of up down) is_west enters leaves
-
+  module _ {now : List ℕ} {i e l : ℕ} (passed : PassedTo amounts up down now i) (is : IsExchange (length amounts) up down i e l) where
     pub column_passes : CellFlows (at now i) e l
-    column_passes = moved_exchange need.moves passed.moved own
+    column_passes = moved_exchange need.moves passed.moved is.cell
 
-    pub passed_more : {x : ℕ} → x ≡ at now i + e - l → PassedTo amounts up down (set now i x) (i + 1)
-    passed_more is = record { inside = omega arith; moved = moved_more need.moves passed.moved own is }
+    pub passed_more : {x : ℕ} → i < length amounts → x ≡ at now i + e - l → PassedTo amounts up down (set now i x) (i + 1)
+    passed_more h after = record { inside = omega arith; moved = moved_more need.moves passed.moved is.cell after }
 
   pub passed_all : {now : List ℕ} {i : ℕ} → PassedTo amounts up down now i → i ≡ length amounts → now ≡ after_flow (ring (length amounts)) (flow_of up down) amounts
   unfolding ring

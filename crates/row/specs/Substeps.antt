@@ -1,5 +1,5 @@
 -- The substeps of a row of as many columns as fluxes: what the functions require and ensure, and the chain as loops make it.
-use Rattle.std.specs.Prelude.{ℕ, suc, ◌+◌, ◌≤◌, ◌<◌, List, Bool, true, false, ◌≡◌, ℤ, length}
+use Rattle.std.specs.Prelude.{ℕ, suc, ◌+◌, ◌≤◌, ◌<◌, List, Bool, true, false, ◌≡◌, ℤ, length, Option, Some, None, MatchOption}
 use Rattle.std.proofs.Common.{true≢false, sym, ◌∙◌, ap, ap₂}
 use Rattle.std.proofs.Math.Path.{refl}
 use Rattle.std.proofs.Math.Numerals.{add-one}
@@ -21,10 +21,15 @@ pub record RowNeed (air : List ℕ) (fluxes : List ℤ) : Type 0 where
   pub long : length air ≡ length fluxes
   pub wide : length fluxes ≤ 72
 
--- n is the row's count, and at most 16
-pub record IsFound (air : List ℕ) (fluxes : List ℤ) (n : ℕ) : Type 0 where
+-- n is the row's count, from 1 to 16
+pub record IsCount (air : List ℕ) (fluxes : List ℤ) (n : ℕ) : Type 0 where
   pub is : n ≡ substep_count (row_mesh fluxes) fluxes air
+  pub some : 0 < n
   pub most : n ≤ 16
+
+-- the row's count, or none: the model's 0
+abbrev pub IsFound : List ℕ → List ℤ → Option ℕ → Type 0
+IsFound air fluxes r = MatchOption r (substep_count (row_mesh fluxes) fluxes air ≡ 0) (IsCount air fluxes)
 
 -- ---- the chain as loops make it
 module _ (fluxes : List ℤ) (n : ℕ) (air : List ℕ) where
@@ -81,17 +86,27 @@ module _ (air : List ℕ) (fluxes : List ℤ) where
   abbrev pub NoneBelow : ℕ → Type 0
   NoneBelow n = (i : ℕ) → i < n → 1 ≤ i → serves (row_mesh fluxes) fluxes air i ≡ false
 
-  pub found_first : (n : ℕ) → 1 ≤ n → n ≤ 16 → NoneBelow n → serves (row_mesh fluxes) fluxes air n ≡ true → IsFound air fluxes n
+  found_first : (n : ℕ) → 1 ≤ n → n ≤ 16 → NoneBelow n → serves (row_mesh fluxes) fluxes air n ≡ true → IsCount air fluxes n
   found_first n low high before e =
       record {
         is = sym (count_only (row_mesh fluxes) fluxes air (record { positive = low; most = high; serving = e; least = λ i p q. before i q p }));
+        some = low;
         most = high;
       }
 
-  pub found_none : NoneBelow 17 → IsFound air fluxes 0
+  found_none : NoneBelow 17 → substep_count (row_mesh fluxes) fluxes air ≡ 0
   unfolding substep_count
-  found_none before = record { is = go (smallest_is most_substeps (serves (row_mesh fluxes) fluxes air)); most = omega arith }
+  found_none before = go (smallest_is most_substeps (serves (row_mesh fluxes) fluxes air))
     where
-      go : {n : ℕ} → Smallest most_substeps (serves (row_mesh fluxes) fluxes air) n → 0 ≡ n
+      go : {n : ℕ} → Smallest most_substeps (serves (row_mesh fluxes) fluxes air) n → n ≡ 0
       go (none h) = refl
       go (found h e smaller) = absurd (true≢false (sym e ∙ before _ (omega arith) (omega arith)))
+
+  -- what a search from 1 to 16 finds
+  pub found_at :
+      (r : Option ℕ) →
+      MatchOption r ((n : ℕ) → 1 ≤ n → n < 17 → serves (row_mesh fluxes) fluxes air n ≡ false)
+      (λ n. (1 ≤ n) × (n < 17) × (serves (row_mesh fluxes) fluxes air n ≡ true) × ((i : ℕ) → 1 ≤ i → i < n → serves (row_mesh fluxes) fluxes air i ≡ false)) →
+      IsFound air fluxes r
+  found_at None before = found_none (λ i high low. before i low high)
+  found_at (Some n) is = found_first n is.0 (omega arith) (λ i high low. is.3 i low high) is.2

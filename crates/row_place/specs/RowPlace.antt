@@ -1,22 +1,19 @@
 -- The places that all sweeps of a row have before their own, and what `row_place` finds: where the row starts.
-use Rattle.std.specs.Prelude.{ℕ, ◌+◌, ◌-◌, ◌≤◌, true, ◌≡◌, eqb, ℤ, length}
+use Rattle.std.specs.Prelude.{ℕ, ◌+◌, ◌*◌, ◌-◌, ◌<◌, ◌≤◌, true, ◌≡◌, eqb, ℤ, length, Result}
 use mathlib.Core.List.{List, [], ◌∷◌, ◌++◌, append_assoc}
 use Rattle.std.proofs.Math.Path.{refl, ap}
 use Rattle.std.proofs.Common.{◌∙◌, le_trans}
-use Rattle.model.specs.Limits.{zonal_limit, most_cells}
-use Rattle.model.specs.Basic.{part}
-use Rattle.model.specs.World.{World, world_cells, row_start}
+use Rattle.model.specs.Limits.{zonal_limit, total_limit, most_cells, block_numbers}
+use Rattle.model.specs.Basic.{at, part, sum}
+use Rattle.model.specs.World.{Grid, World, world_cells, row_start}
 use Rattle.model.specs.Step.{Call, absent, Place, meaning, first_of, own_places, lent_fits, flux_too_large, row_air}
 use Rattle.model.proofs.Laws.Basic.{length_part}
-use Rattle.model.proofs.Laws.Grid.{in_range_lem, cells_most_lem}
+use Rattle.model.proofs.Laws.Grid.{InRange, in_range_lem, cells_most_lem}
 use Rattle.model.proofs.Laws.Step.{Fits}
-use Rattle.units.specs.declared.Answer.{Answer}
-use Rattle.units.specs.Answer.{number_of, count_of}
-use Rattle.places.specs.declared.Placed.{Placed}
-use Rattle.places.specs.declared.Tested.{Tested}
+use Rattle.units.specs.declared.Refusal.{Refusal}
 use Rattle.places.specs.declared.Lent.TheVariants.{RowFluxes}
-use Rattle.places.specs.Walk.{Left, IsPlaced, Like}
-use Rattle.places.specs.Tested.{IsTested, Passed}
+use Rattle.places.specs.Walk.{Left, Refuses, IsPlaced, Like}
+use Rattle.places.specs.Tested.{Lends, Passed}
 use Rattle.units.specs.Lent.{part_lent}
 
 -- the layer, the row and the fluxes
@@ -60,38 +57,51 @@ module _ {w : World} {fluxes : List ℤ} {first : ℕ} (row : RowIn w fluxes fir
   pub row_lent : (k r : ℕ) → first ≡ row_start w.grid k r → lent_row w first ≡ row_air w k r
   row_lent k r start = part_lent w.air first w.grid.W ∙ ap (λ (n : ℕ). part w.air n w.grid.W) start
 
--- ---- what `row_place` finds
-pub record RowFound (w : World) (k r : ℕ) (fluxes : List ℤ) (p : Placed) : Type 0 where
-  pub left : Left w (SweepsRow w k r fluxes) []
-  pub row : RowIn w fluxes p.first
-  pub start : p.first ≡ row_start w.grid k r
-  pub count : count_of p.answer ≡ 0
+-- ---- the tracers of such a world, each with a row of W amounts from its cell `first` on; tracer t's amounts
+abbrev pub gas_of : Grid → List ℕ → ℕ → List ℕ
+gas_of g tracers t = part tracers (t * world_cells g) (world_cells g)
 
-abbrev pub IsRowPlace : World → ℕ → ℕ → List ℤ → Placed → Type 0
-IsRowPlace w k r fluxes p = IsPlaced w (SweepsRow w k r fluxes) p.answer (RowFound w k r fluxes p)
+pub record RowInTracers (g : Grid) (tracers ledger : List ℕ) (first : ℕ) : Type 0 where
+  pub range : InRange g
+  pub tracers_long : length tracers ≡ g.N * world_cells g
+  pub ledger_long : length ledger ≡ g.N * block_numbers
+  pub inside : first + g.W ≤ world_cells g
+  pub total : (t : ℕ) → t < g.N → sum (world_cells g) (at (gas_of g tracers t)) ≤ total_limit
+
+pub row_in_tracers : {w : World} {fluxes : List ℤ} {first : ℕ} → RowIn w fluxes first → RowInTracers w.grid w.tracers w.ledger first
+row_in_tracers {w} row =
+    record {
+      range = in_range_lem w.grid row.fits.grid;
+      tracers_long = row.fits.tracers_length;
+      ledger_long = row.fits.ledger_length;
+      inside = row.inside;
+      total = row.fits.totals;
+    }
+
+-- ---- what `row_place` finds
+pub record RowFound (w : World) (k r : ℕ) (fluxes : List ℤ) (first : ℕ) : Type 0 where
+  pub left : Left w (SweepsRow w k r fluxes) []
+  pub row : RowIn w fluxes first
+  pub start : first ≡ row_start w.grid k r
+
+abbrev pub IsRowPlace : World → ℕ → ℕ → List ℤ → Result ℕ Refusal → Type 0
+IsRowPlace w k r fluxes = IsPlaced w (SweepsRow w k r fluxes) (RowFound w k r fluxes)
 
 module _ {w : World} {k r : ℕ} {fluxes : List ℤ} where
   -- the walk behind places 1 to 4, and their refusal
-  module _ {tested : Tested} where
-    pub row_begins : Passed w (RowFluxes (length fluxes)) tested → Left w (SweepsRow w k r fluxes) (row_places k r fluxes)
-    unfolding own_places
-    row_begins passed =
-        record {
-          is =
-              λ call rest sweeps.
-              passed.left.is call (own_places call) (record { fit = sweeps.lent; limiters = sweeps.limiters; books = sweeps.books; own = refl }) ∙
-              ap (λ (l : List Place). first_of l w) sweeps.places;
-        }
+  pub row_begins : {totals : List ℕ} → Passed w (RowFluxes (length fluxes)) totals → Left w (SweepsRow w k r fluxes) (row_places k r fluxes)
+  unfolding own_places
+  row_begins passed =
+      record {
+        is =
+            λ call rest sweeps.
+            passed.left.is call (own_places call) (record { fit = sweeps.lent; limiters = sweeps.limiters; books = sweeps.books; own = refl }) ∙
+            ap (λ (l : List Place). first_of l w) sweeps.places;
+      }
 
-    pub row_common : {answer : Answer} {Found : Type 0} → IsTested w (RowFluxes (length fluxes)) tested → (number_of tested.answer ≡ 0 → ⊥) →
-        answer ≡ tested.answer → IsPlaced w (SweepsRow w k r fluxes) answer Found
-    row_common is refused same =
-        record {
-          refused =
-              λ _ call rest sweeps.
-              rw same (is.refused refused call (own_places call) (record { fit = sweeps.lent; limiters = sweeps.limiters; books = sweeps.books; own = refl }));
-          found = λ z. absurd (refused (rw same at z));
-        }
+  pub row_common : {refusal : Refusal} → Refuses w (Lends w (RowFluxes (length fluxes))) refusal → Refuses w (SweepsRow w k r fluxes) refusal
+  row_common refused call rest sweeps =
+      refused call (own_places call) (record { fit = sweeps.lent; limiters = sweeps.limiters; books = sweeps.books; own = refl })
 
   -- a call goes on behind these places, or is refused by them
   module _ {call : Call} {rest : List Place} (own : SweepsRow w k r fluxes call rest) where
@@ -108,9 +118,5 @@ module _ {w : World} {k r : ℕ} {fluxes : List ℤ} where
     pub row_left : Left w (SweepsRow w k r fluxes) [] → Left w (Like w call) rest
     row_left left = record { is = λ other more like. left.is other (rest ++ more) (onward like) }
 
-    pub row_refuses : {p : Placed} {Found : Type 0} → IsRowPlace w k r fluxes p → (number_of p.answer ≡ 0 → ⊥) → IsPlaced w (Like w call) p.answer Found
-    row_refuses is refused =
-        record {
-          refused = λ _ other more like. is.refused refused other (rest ++ more) (onward like);
-          found = λ z. absurd (refused z);
-        }
+    pub row_refuses : {refusal : Refusal} → Refuses w (SweepsRow w k r fluxes) refusal → Refuses w (Like w call) refusal
+    row_refuses refused other more like = refused other (rest ++ more) (onward like)

@@ -1,14 +1,15 @@
 -- The rows of all tracers as they stand in the lent amounts, loaded and written back.
-use Rattle.std.specs.Prelude.{ℕ, suc, ◌+◌, ◌*◌, ◌-◌, ◌≤◌, ◌<◌, List, [], ◌++◌, ◌≡◌, length, get_or, set, drop}
-use Rattle.std.proofs.Common.{append_assoc, append-nil, sym, ap, ◌∙◌, mul-le-mul, mul-le-mul_right, arith, length-append, length-drop, take-append-drop, drop_of_length-le, drop-drop}
+use Rattle.std.specs.Prelude.{ℕ, suc, ◌+◌, ◌*◌, ◌-◌, ◌≤◌, ◌<◌, List, [], ◌++◌, ◌≡◌, length, get_or, set, drop, replicate}
+use Rattle.std.proofs.Common.{refl, length-set, append_assoc, append-nil, sym, ap, ◌∙◌, mul-le-mul, mul-le-mul_right, arith, length-append, length-drop, take-append-drop, drop_of_length-le, drop-drop}
 use Rattle.std.proofs.Math.Nat.{zero-mul}
+use Rattle.std.proofs.lemmas.List.{get_or-replicate}
 use borrow.Rule.Slice.PartMut.{put_mid}
 use Rattle.model.specs.Limits.{most_cells, most_tracers, most_amounts}
 use Rattle.model.specs.Basic.{part, written, joined, tab_from, tab}
 use Rattle.model.proofs.Laws.Basic.{length_part, length_tab, get_d_tab, length_written, length_joined}
 use Rattle.model.proofs.Laws.Entries.{entries_more, joined_more, written_middle}
-use Rattle.units.specs.Lent.{part_lent, put_back, front_lent, front_back, length_front}
-use Rattle.rows.specs.Gas.{row_of, Wide, length_row}
+use Rattle.units.specs.Lent.{part_lent, put_back, front_back, length_front}
+use Rattle.rows.specs.Gas.{row_of, Wide, wide_set, length_row}
 
 -- n tracers of `cells` cells each, and a row of w of them from cell `first` on
 pub record RowsFit (tracers : List ℕ) (first cells w n : ℕ) : Type 0 where
@@ -44,31 +45,52 @@ row_room {tracers} {first} {cells} {w} {n} fit t h =
     (omega arith, omega arith)
 
 -- ---- loaded, as a loop over the tracers meets them: none yet, and one more
-pub rows_none : {tracers : List ℕ} {first cells w : ℕ} {rows : List (List ℕ)} → AreRows tracers first cells w 0 rows
-rows_none = record { wide_rows = λ t h. absurd (omega arith); each = λ t h. absurd (omega arith) }
+-- the rows of the first t tracers are loaded, and each row has room
+pub record Loading (tracers : List ℕ) (first cells w t : ℕ) (rows : List (List ℕ)) : Type 0 where
+  pub some : length rows ≡ 8
+  pub room : Wide 8 rows
+  pub loaded : AreRows tracers first cells w t rows
 
-module _ {tracers : List ℕ} {first cells w n : ℕ} {rows : List (List ℕ)} (old : AreRows tracers first cells w n rows)
-    (fits : n * cells + first + w ≤ length tracers) where
-  -- what is lent of tracer n's amounts
+abbrev empty_row : List ℕ
+empty_row = replicate 72 0
+
+pub loading_none : {tracers : List ℕ} {first cells w : ℕ} → Loading tracers first cells w 0 (replicate 8 empty_row)
+loading_none =
+    record {
+      some = refl;
+      room = λ t h. ap length (get_or-replicate 8 t empty_row [] h);
+      loaded = record { wide_rows = λ t h. absurd (omega arith); each = λ t h. absurd (omega arith) };
+    }
+
+module _ {tracers : List ℕ} {first cells w n t : ℕ} (fit : RowsFit tracers first cells w n) (h : t < n)
+    {rows : List (List ℕ)} (loading : Loading tracers first cells w t rows) where
+  -- what is lent of tracer t's amounts
   abbrev lent : List ℕ
-  lent = part tracers (n * cells + first) (n * cells + first + w - (n * cells + first))
+  lent = part tracers (t * cells + first) (t * cells + first + w - (t * cells + first))
 
-  pub length_lent : length lent ≡ w
+  length_lent : length lent ≡ w
   length_lent =
-      ap length (part_lent tracers (n * cells + first) w) ∙ length_part tracers (n * cells + first) w fits
+      ap length (part_lent tracers (t * cells + first) w) ∙ length_part tracers (t * cells + first) w (row_room fit t h).0
 
-  pub rows_more :
-      (empty : List ℕ) {new : List ℕ} → n < length rows → length empty ≡ 72 → w ≤ 72 → new ≡ lent →
-      AreRows tracers first cells w (n + 1) (set rows n (put_mid 0 (w - 0) empty new))
-  rows_more empty {new} room size few is =
+  pub loading_more : {new : List ℕ} → new ≡ lent → Loading tracers first cells w (t + 1) (set rows t (put_mid 0 (w - 0) (get_or rows t []) new))
+  loading_more {new} is =
+      let old : List ℕ = get_or rows t [] in
+      let row : List ℕ = put_mid 0 (w - 0) old new in
+      let few : t < 8 = omega (arith, fit.few_tracers) in
+      let room : t < length rows = omega (arith, loading.some) in
       let long : length new ≡ w = ap length is ∙ length_lent in
-      let row : List ℕ = put_mid 0 (w - 0) empty new in
-      let wide : length row ≡ 72 = length_front empty new w long (omega arith) ∙ size in
+      let size : length old ≡ 72 = loading.room t few in
+      let wide : length row ≡ 72 = length_front old new w long (omega (arith, fit.few_columns)) ∙ size in
       record {
-        wide_rows = entries_more [] rows n row (λ t r. length r ≡ 72) room old.wide_rows wide;
-        each =
-            entries_more [] rows n row (λ t r. part r 0 w ≡ part tracers (t * cells + first) w) room old.each
-            (front_back empty new w long ∙ is ∙ part_lent tracers (n * cells + first) w);
+        some = length-set rows t row ∙ loading.some;
+        room = wide_set 8 rows t row room wide loading.room;
+        loaded =
+            record {
+              wide_rows = entries_more [] rows t row (λ k r. length r ≡ 72) room loading.loaded.wide_rows wide;
+              each =
+                  entries_more [] rows t row (λ k r. part r 0 w ≡ part tracers (k * cells + first) w) room loading.loaded.each
+                  (front_back old new w long ∙ is ∙ part_lent tracers (t * cells + first) w);
+            };
       }
 
 -- ---- written back
@@ -125,13 +147,12 @@ module _ {tracers : List ℕ} {first cells w n : ℕ} {rows : List (List ℕ)} (
   -- one more: what is lent of tracer t's row was copied
   pub stored_more :
       (t : ℕ) → t < n → {now new : List ℕ} →
-      now ≡ stored_up_to tracers first cells w t rows → new ≡ part (get_or rows t []) 0 (w - 0) →
+      now ≡ stored_up_to tracers first cells w t rows → new ≡ row_of w rows t →
       put_mid (t * cells + first) (t * cells + first + w - (t * cells + first)) now new ≡ stored_up_to tracers first cells w (t + 1) rows
-  stored_more t h {now} {new} e f =
+  stored_more t h {now} {new} e copied =
       let base = length_stored_rows t (omega arith) in
       let rest : drop (t * cells) tracers ≡ gas_of t ++ drop ((t + 1) * cells) tracers =
       sym (take-append-drop cells (drop (t * cells) tracers)) ∙ ap (λ (l : List ℕ). gas_of t ++ l) (past t) in
-      let copied : new ≡ row_of w rows t = f ∙ front_lent (get_or rows t []) w in
       let long : length new ≡ w = ap length copied ∙ length_row_of t h in
       put_back now new (t * cells + first) w long ∙
       ap (λ (l : List ℕ). written l (t * cells + first) new) (e ∙ ap (λ (l : List ℕ). done t ++ l) rest) ∙

@@ -4,8 +4,6 @@ use Rattle.std.proofs.Common.{sym, ap₂, ◌∙◌, arith, ne_eqb}
 use Rattle.std.proofs.Math.Path.{ap}
 use Rattle.std.proofs.Math.Decide.{ℕ_discrete}
 use Rattle.units.specs.declared.Amount.{Amount}
-use Rattle.units.specs.declared.OfAir.{OfAir}
-use Rattle.units.specs.declared.OfTracer.{OfTracer}
 use Rattle.units.specs.declared.Mismatch as code
 use Rattle.scheme.specs.declared.Flux.{Flux}
 use Rattle.model.specs.Limits.{air_limit, total_limit}
@@ -74,24 +72,24 @@ pub record IsMismatch (l : Limiter) (qa q qb : ℕ) (d : code.Mismatch) : Type 0
   pub small : d.size ≤ 2 * q
 
 -- a piece can be taken: a cell in range, no more air than it has, and a mismatch of at most twice its ratio
-pub record Giver (d : code.Mismatch) (have : Amount OfAir) (t : Amount OfTracer) (m : Amount OfAir) : Type 0 where
-  pub some : 0 < have.units
-  pub air : have.units ≤ air_limit
-  pub tracer : t.units ≤ total_limit
-  pub part : m.units ≤ have.units
-  pub small : d.size ≤ 2 * ratio have.units t.units
+pub record Giver (d : code.Mismatch) (have : Amount 0) (t : Amount 1) (m : Amount 0) : Type 0 where
+  pub some : 0 < have.0
+  pub air : have.0 ≤ air_limit
+  pub tracer : t.0 ≤ total_limit
+  pub part : m.0 ≤ have.0
+  pub small : d.size ≤ 2 * ratio have.0 t.0
 
 -- p is the piece that the model gives, and at most the cell's tracer
-pub record IsPiece (given : ℕ) (t p : Amount OfTracer) : Type 0 where
-  pub is : p.units ≡ given
-  pub within : p.units ≤ t.units
+pub record IsPiece (given : ℕ) (t p : Amount 1) : Type 0 where
+  pub is : p.0 ≡ given
+  pub within : p.0 ≤ t.0
 
 -- r has what f passes in each direction
 pub record IsSplit (f : ℤ) (r : Flux) : Type 0 where
-  pub high : r.to_high.units ≡ forward f
-  pub low : r.to_low.units ≡ backward f
+  pub high : r.to_high.0 ≡ forward f
+  pub low : r.to_low.0 ≡ backward f
 
 -- r is part s of n of f, and at most f
-pub record IsFluxPart (n s : ℕ) (f r : Amount OfAir) : Type 0 where
-  pub is : r.units ≡ flux_part n s f.units
-  pub within : r.units ≤ f.units
+pub record IsFluxPart (n s : ℕ) (f r : Amount 0) : Type 0 where
+  pub is : r.0 ≡ flux_part n s f.0
+  pub within : r.0 ≤ f.0

@@ -18,11 +18,11 @@ pub struct Flux {
 }
 
 pub fn ratio(m: Air, t: Tracer) -> u64
-    requires { 0 < m.units }
-    ensures { result ≡ model.ratio m.units t.units }
+    requires { 0 < m.0 }
+    ensures { result ≡ model.ratio m.0 t.0 }
 {
-    let have = m.units as u64;
-    let amount = t.units as u64;
+    let have = m.0 as u64;
+    let amount = t.0 as u64;
     SCALE * amount / have
 }
 
@@ -61,11 +61,11 @@ pub fn mismatch(l: Limiter, qa: u64, q: u64, qb: u64) -> Mismatch
 // The tracer in `m` units of air from the high end of a cell.
 pub fn high_piece(d: Mismatch, have: Air, t: Tracer, m: Air) -> Tracer
     requires { Giver d have t m }
-    ensures { IsPiece (model.high_piece (mismatch_of d) have.units t.units m.units) t result }
+    ensures { IsPiece (model.high_piece (mismatch_of d) have.0 t.0 m.0) t result }
 {
-    let air = have.units as u64;
-    let amount = t.units as u64;
-    let part = m.units as u64;
+    let air = have.0 as u64;
+    let amount = t.0 as u64;
+    let part = m.0 as u64;
     let level = TWICE_SCALE * part * amount;
     let tilt = d.size * part * (air - part);
     let numerator = if d.positive {
@@ -81,7 +81,7 @@ pub fn high_piece(d: Mismatch, have: Air, t: Tracer, m: Air) -> Tracer
 // From the low end: the same with the opposite mismatch.
 pub fn low_piece(d: Mismatch, have: Air, t: Tracer, m: Air) -> Tracer
     requires { Giver d have t m }
-    ensures { IsPiece (model.low_piece (mismatch_of d) have.units t.units m.units) t result }
+    ensures { IsPiece (model.low_piece (mismatch_of d) have.0 t.0 m.0) t result }
 {
     let opposite = Mismatch {
         size: d.size,
@@ -116,12 +116,12 @@ pub fn flux_part(n: u32, s: u32, f: Air) -> Air
     requires { (0 < s) × (s ≤ n) }
     ensures { IsFluxPart n s f result }
 {
-    if n == 1 || f.units == 0 {
+    if n == 1 || f.0 == 0 {
         return f;
     }
     let count = n as u64;
     let step = s as u64;
-    let size = f.units as u64;
+    let size = f.0 as u64;
     let upto = step * size / count;
     let before = (step - 1) * size / count;
     let part = (upto - before) as u32;

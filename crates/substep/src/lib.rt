@@ -32,15 +32,15 @@ impl<const F: usize> Flow<F> {
 
 // Part s of n of each flux: the air that passes its face towards the high side, and towards the low side.
 pub fn fill_parts<const F: usize>(fluxes: &[i32], n: u32, s: u32, flow: &mut Flow<F>)
-    requires { PartsNeed (length fluxes.now) n s (length flow.old.up) (length flow.old.down) }
+    requires { PartsNeed (length fluxes.now) n s F F }
     ensures { AreParts fluxes.now n s flow.new.up flow.new.down }
 {
     for i in 0..fluxes.len() {
         let f = Flux::from(fluxes[i]);
         let high = flux_part(n, s, f.to_high);
         let low = flux_part(n, s, f.to_low);
-        flow.up[i] = high.units;
-        flow.down[i] = low.units;
+        flow.up[i] = high.0;
+        flow.down[i] = low.0;
     }
 }
 
@@ -65,10 +65,10 @@ pub fn high_end(
     b: usize,
     m: Air,
 ) -> Tracer
-    requires { PieceNeed air.now gas.now q.now a c b m.units }
-    ensures { result.units ≡ high_piece (mismatch_in (limiter_of l) q.now a c b) (at air.now c) (at gas.now c) m.units }
+    requires { PieceNeed air.now gas.now q.now a c b m.0 }
+    ensures { result.0 ≡ high_piece (mismatch_in (limiter_of l) q.now a c b) (at air.now c) (at gas.now c) m.0 }
 {
-    if m.units == 0 {
+    if m.0 == 0 {
         return Tracer::new(0);
     }
     let have = Air::new(air[c]);
@@ -87,10 +87,10 @@ pub fn low_end(
     b: usize,
     m: Air,
 ) -> Tracer
-    requires { PieceNeed air.now gas.now q.now a c b m.units }
-    ensures { result.units ≡ low_piece (mismatch_in (limiter_of l) q.now a c b) (at air.now c) (at gas.now c) m.units }
+    requires { PieceNeed air.now gas.now q.now a c b m.0 }
+    ensures { result.0 ≡ low_piece (mismatch_in (limiter_of l) q.now a c b) (at air.now c) (at gas.now c) m.0 }
 {
-    if m.units == 0 {
+    if m.0 == 0 {
         return Tracer::new(0);
     }
     let have = Air::new(air[c]);
@@ -99,27 +99,27 @@ pub fn low_end(
 }
 
 // What passes two faces together.
-pub fn both<Of: Copy>(x: Amount<Of>, y: Amount<Of>) -> Sum<Of>
-    ensures { (result.units ≡ x.units + y.units) × (result.units ≤ 8589934590) }
+pub fn both<const KIND: u8>(x: Amount<KIND>, y: Amount<KIND>) -> Sum<KIND>
+    ensures { (result.0 ≡ x.entry.0 + y.entry.0) × (result.0 ≤ 8589934590) }
 {
-    Sum::new((x.units as u64) + (y.units as u64))
+    Sum::new((x.0 as u64) + (y.0 as u64))
 }
 
 // Whether a cell gives no more air than it has, and then has 1 to 65,535.
 pub fn cell_allows(have: Air, enters: AirSum, leaves: AirSum) -> bool
-    requires { Sums enters.units leaves.units }
-    ensures { result ≡ may_pass have.units enters.units leaves.units }
+    requires { Sums enters.0 leaves.0 }
+    ensures { result ≡ may_pass have.0 enters.0 leaves.0 }
 {
-    let m = have.units as u64;
-    let all = m + enters.units;
-    let out = leaves.units;
+    let m = have.0 as u64;
+    let all = m + enters.0;
+    let out = leaves.0;
     (out <= m) & ((out + 1 <= all) & (all <= out + (AIR_LIMIT as u64)))
 }
 
 // A cell's amount with what enters it and without what leaves it.
-pub fn after<Of: Copy>(have: Amount<Of>, enters: Sum<Of>, leaves: Sum<Of>) -> Amount<Of>
-    requires { CellFlows have.units enters.units leaves.units }
-    ensures { result.units ≡ have.units + enters.units - leaves.units }
+pub fn after<const KIND: u8>(have: Amount<KIND>, enters: Sum<KIND>, leaves: Sum<KIND>) -> Amount<KIND>
+    requires { CellFlows have.0 enters.0 leaves.0 }
+    ensures { result.0 ≡ have.entry.0 + enters.entry.0 - leaves.entry.0 }
 {
-    Amount::new(((have.units as u64) + enters.units - leaves.units) as u32)
+    Amount::new(((have.0 as u64) + enters.0 - leaves.0) as u32)
 }

@@ -8,7 +8,6 @@ ghost use Rattle.model.specs.Step.{grid_fits};
 ghost use Rattle.units.specs.Grid.{grid_of, InRange, LayerThere, RowThere};
 ghost use Rattle.units.specs.Answer.{refusal_number, number_of, count_of};
 
-use std::marker::PhantomData;
 
 // The limits that the code needs, each once. Contracts tie them to the model's (crates/model/specs/Limits.antt).
 pub const SCALE: u64 = 262144; // of ratio, mismatch and piece
@@ -69,62 +68,48 @@ pub const PROGRAM_FACES: usize = 2118; // of a layer that the program takes
 
 pub const PROGRAM_BODY: usize = 24576; // bytes of the longest body of a record
 
-// What an amount is of.
-#[derive(Clone, Copy)]
-pub struct OfAir;
+// What an amount is of: a const parameter of its type.
+pub const AIR: u8 = 0;
 
-#[derive(Clone, Copy)]
-pub struct OfTracer;
+pub const TRACER: u8 = 1;
 
 // An amount in units. Air units and tracer units are separate counts, so their amounts have two types: no function adds an amount of one to an amount of the other.
 #[derive(Clone, Copy)]
-pub struct Amount<Of> {
-    pub units: u32,
-    of: PhantomData<Of>,
-}
+pub struct Amount<const KIND: u8>(pub u32);
 
-pub type Air = Amount<OfAir>;
+pub type Air = Amount<AIR>;
 
-pub type Tracer = Amount<OfTracer>;
+pub type Tracer = Amount<TRACER>;
 
 // A sum of amounts, in 64 bits.
 #[derive(Clone, Copy)]
-pub struct Sum<Of> {
-    pub units: u64,
-    of: PhantomData<Of>,
-}
+pub struct Sum<const KIND: u8>(pub u64);
 
-pub type AirSum = Sum<OfAir>;
+pub type AirSum = Sum<AIR>;
 
-pub type TracerSum = Sum<OfTracer>;
+pub type TracerSum = Sum<TRACER>;
 
-impl<Of: Copy> Amount<Of> {
+impl<const KIND: u8> Amount<KIND> {
     pub fn new(units: u32) -> Self
-        ensures { result.units ≡ units }
+        ensures { result.0 ≡ units }
     {
-        Amount {
-            units,
-            of: PhantomData,
-        }
+        Amount(units)
     }
 }
 
-impl<Of: Copy> Sum<Of> {
+impl<const KIND: u8> Sum<KIND> {
     pub fn new(units: u64) -> Self
-        ensures { result.units ≡ units }
+        ensures { result.0 ≡ units }
     {
-        Sum {
-            units,
-            of: PhantomData,
-        }
+        Sum(units)
     }
 
     // The sum with one amount more.
-    pub fn plus(self, x: Amount<Of>) -> Self
-        requires { self.units ≤ 9223372036854775807 }
-        ensures { result.units ≡ self.units + x.units }
+    pub fn plus(self, x: Amount<KIND>) -> Self
+        requires { self.0 ≤ 9223372036854775807 }
+        ensures { result.0 ≡ self.entry.0 + x.entry.0 }
     {
-        Sum::new(self.units + u64::from(x.units))
+        Sum(self.0 + u64::from(x.0))
     }
 }
 

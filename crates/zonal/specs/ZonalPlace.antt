@@ -1,17 +1,19 @@
 -- The places of the three calls of a zonal sweep after those that they share with the long sweep, and what `zonal_place` finds: where the row starts, and its substep count.
-use Rattle.std.specs.Prelude.{ℕ, zero, suc, ◌≤◌, List, [], ◌∷◌, ◌≡◌, refl, eqb, ℤ}
-use Rattle.std.proofs.Common.{sym, ap₂, ◌∙◌, arith}
+use Rattle.std.specs.Prelude.{ℕ, ◌<◌, ◌≤◌, List, [], ◌∷◌, ◌≡◌, refl, eqb, ℤ, Option, None, Some, Result, Ok, MatchResult, ok_or}
+use Rattle.std.proofs.Common.{sym, ap₂, ◌∙◌}
 use Rattle.model.specs.Limits.{most_substeps}
 use Rattle.model.specs.World.{World, row_start}
 use Rattle.model.specs.Sweep.{ring, substep_count}
 use Rattle.model.specs.Step.{Place, place, other_count, zonal_count, zonal, count_zonal, zonal_with_count}
 use Rattle.model.proofs.Laws.Grid.{in_range_lem}
-use Rattle.units.specs.Answer.{number_of, count_of, Agrees}
+use Rattle.units.specs.declared.Refusal.{Refusal}
+use Rattle.units.specs.declared.Refusal.TheVariants.{Zonal}
+use Rattle.units.specs.Answer.{Agrees}
 use Rattle.units.specs.Agrees.{accepted_agrees}
-use Rattle.places.specs.declared.Placed.{Placed}
-use Rattle.places.specs.Walk.{Left, IsPlaced, Like, none, resume, refuses}
-use Rattle.row.specs.Substeps.{RowNeed, IsFound}
+use Rattle.places.specs.Walk.{Left, IsPlaced, Like, none, resume}
+use Rattle.row.specs.Substeps.{RowNeed, row_mesh, IsFound}
 use Rattle.row_place.specs.RowPlace.{SweepsRow, RowIn, lent_row, length_lent, row_lent}
+use Rattle.zonal.specs.declared.ZonalRow.{ZonalRow}
 
 -- the place behind those of both sweeps: no n from 1 to 16 serves
 abbrev pub from_count : ℕ → ℕ → List ℤ → List Place
@@ -32,29 +34,32 @@ module _ {w : World} {fluxes : List ℤ} {first : ℕ} (row : RowIn w fluxes fir
   row_need =
       record { long = length_lent row ∙ sym row.long; wide = rw row.long (in_range_lem w.grid row.fits.grid).high_w }
 
-  -- where the cells are row r of layer k
-  pub count_found : (k r : ℕ) → first ≡ row_start w.grid k r → {n : ℕ} → IsFound (lent_row w first) fluxes n → n ≡ zonal_count w k r fluxes
-  count_found k r start found =
-      found.is ∙ ap₂ (λ (n : ℕ) (l : List ℕ). substep_count (ring n) fluxes l) row.long (row_lent row k r start)
+  -- where the cells are row r of layer k: what was found of their count, and what `ok_or` makes of it
+  module _ (k r : ℕ) (start : first ≡ row_start w.grid k r) where
+    count_is : substep_count (row_mesh fluxes) fluxes (lent_row w first) ≡ zonal_count w k r fluxes
+    count_is = ap₂ (λ (n : ℕ) (l : List ℕ). substep_count (ring n) fluxes l) row.long (row_lent row k r start)
+
+    pub counted : (search : Option ℕ) (found : Result ℕ Refusal) → found ≡ ok_or search Zonal → IsFound (lent_row w first) fluxes search →
+        MatchResult found (λ n. (n ≡ zonal_count w k r fluxes) × (0 < n) × (n ≤ most_substeps)) (λ f. (f ≡ Zonal) × (zonal_count w k r fluxes ≡ 0))
+    counted search found is searched = rw is (go search searched)
+      where
+        go : (o : Option ℕ) → IsFound (lent_row w first) fluxes o →
+            MatchResult (ok_or o Zonal) (λ n. (n ≡ zonal_count w k r fluxes) × (0 < n) × (n ≤ most_substeps)) (λ f. (f ≡ Zonal) × (zonal_count w k r fluxes ≡ 0))
+        go None searched = (refl, sym count_is ∙ searched)
+        go (Some n) count = (count.is ∙ count_is, count.some, count.most)
 
 -- ---- what `zonal_place` finds
-pub record ZonalFound (w : World) (k r : ℕ) (fluxes : List ℤ) (p : Placed) : Type 0 where
+pub record ZonalFound (w : World) (k r : ℕ) (fluxes : List ℤ) (found : ZonalRow) : Type 0 where
   pub left : Left w (Like w (zonal k r fluxes)) []
-  pub row : RowIn w fluxes p.first
-  pub start : p.first ≡ row_start w.grid k r
-  pub count : p.found ≡ zonal_count w k r fluxes
-  pub most : p.found ≤ most_substeps
-  pub answered : count_of p.answer ≡ p.found
+  pub row : RowIn w fluxes found.first
+  pub start : found.first ≡ row_start w.grid k r
+  pub count : found.substeps ≡ zonal_count w k r fluxes
+  pub most : found.substeps ≤ most_substeps
 
-abbrev pub IsZonalPlace : World → ℕ → ℕ → List ℤ → Placed → Type 0
-IsZonalPlace w k r fluxes p = IsPlaced w (Like w (zonal k r fluxes)) p.answer (ZonalFound w k r fluxes p)
+abbrev pub IsZonalPlace : World → ℕ → ℕ → List ℤ → Result ZonalRow Refusal → Type 0
+IsZonalPlace w k r fluxes = IsPlaced w (Like w (zonal k r fluxes)) (ZonalFound w k r fluxes)
 
--- so the answer that it gives is that of the count before the sweep, accepted or refused
-pub count_agrees : {w : World} {k r : ℕ} {fluxes : List ℤ} {p : Placed} → IsZonalPlace w k r fluxes p → Agrees w (count_zonal k r fluxes) p.answer w
-count_agrees {w} {k} {r} {fluxes} {p} is = go (number_of p.answer) refl
-  where
-    go : (n : ℕ) → number_of p.answer ≡ n → Agrees w (count_zonal k r fluxes) p.answer w
-    go zero e =
-        let found = is.found e in
-        accepted_agrees (none (resume found.left count_like)) e (found.answered ∙ found.count) refl
-    go (suc n) e = refuses is (λ z. omega arith) count_like
+-- the count found is that of the call that only counts
+pub count_agrees : {w : World} {k r : ℕ} {fluxes : List ℤ} {found : ZonalRow} → ZonalFound w k r fluxes found →
+    Agrees w (count_zonal k r fluxes) (Ok found.substeps) w
+count_agrees found = accepted_agrees (none (resume found.left count_like)) refl found.count refl

@@ -9,4 +9,4 @@ unfolding edge
 loop-j-preserved c =
     let l = c.loop-j in
     let a = c.args in
-    (omega arith, entries_more 0 l.e l.j _ (λ t x. x ≡ edge a.table.now a.p.0 t) (omega arith) l.invariant.1 c.edge_of.ensures)
+    entries_more 0 l.e l.j _ (λ t x. x ≡ edge a.table.now a.p.0 t) (omega arith) l.invariant c.edge_of.ensures

@@ -1,9 +1,9 @@
 -- `column::fill_slopes_by` meets its contract.
-use Rattle.std.proofs.Common.{ℕ, ◌+◌, ◌-◌, ◌≡◌, ◌≤◌, ◌||◌, true, length, refl, ap, ap₂, ◌∙◌, length-set, arith}
+use Rattle.std.proofs.Common.{ℕ, ◌+◌, ◌-◌, ◌≡◌, ◌||◌, true, refl, ap, ap₂, ◌∙◌, length-set, arith}
 use Rattle.std.proofs.Math.Dec.{eqb}
 use Rattle.units.specs.Limiter.{limiter_of}
+use Rattle.units.specs.declared.Mismatch as code
 use Rattle.model.specs.Basic.{at}
-use Rattle.model.specs.Scheme.{plain}
 use Rattle.line.specs.Slopes.{slopes_more}
 use Rattle.column.specs.Gas.{mismatch_unless}
 use Rattle.column.specs.Slopes.{slope_above, slope_last}
@@ -16,23 +16,20 @@ loop-i-preserved c =
     let here : turn.i ≡ turn.i + 1 - 1 = omega arith in
     let read = ap₂ (λ (x y : ℕ). mismatch_unless (limiter_of a.l) (a.cap || eqb turn.i 0) x y (at a.q.now (turn.i + 1))) turn.invariant.above turn.invariant.own in
     record {
-      inside = omega arith;
       above = turn.invariant.own ∙ ap (at a.q.now) here;
       own = refl;
-      slopes = slopes_more turn.i turn.invariant.slopes (omega arith) (omega arith) (omega arith) _
-          (c.layer_mismatch-d.ensures ∙ read ∙ slope_above (limiter_of a.l) a.cap a.k a.q.now turn.i (omega arith));
+      slopes = slopes_more turn.i turn.invariant.slopes (omega arith) _ (c.layer_mismatch.ensures ∙ read ∙ slope_above (limiter_of a.l) a.cap a.k a.q.now turn.i (omega arith));
     }
 
 pub returns : goal.returns
 returns c =
     let end = c.loop-i in
     let a = c.args in
+    let last : end.i ≡ a.k - 1 = omega arith in
     let whole : a.k - 1 + 1 ≡ a.k = omega arith in
-    let room_size : a.k ≤ length end.size = omega arith in
-    let room_rising : a.k ≤ length end.rising = omega arith in
+    let none : code.Mismatch = record { size = 0; positive = true } in
     let bottom = slope_last (limiter_of a.l) a.cap a.k a.q.now (a.k - 1) (omega arith) in
     record {
-      room_size = rw (length-set end.size (a.k - 1) 0) room_size;
-      room_rising = rw (length-set end.rising (a.k - 1) true) room_rising;
-      all = rw whole at (slopes_more (a.k - 1) end.invariant.slopes (omega arith) (omega arith) (omega arith) plain bottom);
+      room_slopes = omega (arith, length-set end.slopes (a.k - 1) none, end.auto.slopes, c.requires.room_slopes);
+      all = rw whole at (slopes_more (a.k - 1) (rw last at end.invariant.slopes) (omega arith) none bottom);
     }

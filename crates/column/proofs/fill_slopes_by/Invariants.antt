@@ -1,5 +1,5 @@
--- The lists hold the mismatches of the layers passed.
-use Rattle.std.proofs.Common.{◌-◌, ◌≡◌, ◌<◌}
+-- The list holds the mismatches of the layers passed.
+use Rattle.std.proofs.Common.{◌-◌, ◌≡◌}
 use Rattle.units.specs.Limiter.{limiter_of}
 use Rattle.model.specs.Basic.{at}
 use Rattle.line.specs.Slopes.{SlopesTo}
@@ -8,11 +8,7 @@ use Rattle.column.proofs.fill_slopes_by.Given as goal
 
 abbrev pub invariant-loop-i : goal.invariant-loop-i
 invariant-loop-i l = record {
-  inside : l.i < l.k;
   above : l.above ≡ at l.q (l.i - 1);
   own : l.own ≡ at l.q l.i;
-  slopes : SlopesTo (slope_at (limiter_of l.fn.l) l.cap l.k l.q) l.i l.size l.rising;
+  slopes : SlopesTo (slope_at (limiter_of l.fn.l) l.cap l.k l.q) l.i l.slopes;
 }
-
-abbrev pub decreases-loop-i : goal.decreases-loop-i
-decreases-loop-i l = l.k - l.i

@@ -6,6 +6,6 @@ pub returns-then-none : goal.returns-then-none
 unfolding mismatch_unless
 returns-then-none c = rw (c.if-none.true, mismatch_unless)
 
-pub returns : goal.returns
+pub returns-else-none : goal.returns-else-none
 unfolding mismatch_unless
-returns c = rw (c.if-none.false, mismatch_unless) c.mismatch.ensures.is
+returns-else-none c = rw (c.if-none.false, mismatch_unless) c.mismatch.ensures.is

@@ -1,11 +1,8 @@
 -- The tests passed, of the pairs passed.
-use Rattle.std.proofs.Common.{◌+◌, ◌-◌, ◌≡◌, ◌≤◌}
+use Rattle.std.proofs.Common.{◌≡◌}
 use Rattle.model.specs.Basic.{every}
 use Rattle.column.specs.Laws.{pair_fits}
 use Rattle.column.proofs.table_fits.Given as goal
 
 abbrev pub invariant-loop-j : goal.invariant-loop-j
-invariant-loop-j l = (l.j ≤ l.k + 1) × (l.ok ≡ every l.j (pair_fits l.table))
-
-abbrev pub decreases-loop-j : goal.decreases-loop-j
-decreases-loop-j l = l.k + 1 - l.j
+invariant-loop-j l = l.ok ≡ every l.j (pair_fits l.table)

@@ -6,10 +6,12 @@ use Rattle.layer.specs.Cells.{south_cell, north_cell, allowed_cells}
 use Rattle.layer.proofs.layer_allowed.Goals as goal
 
 pub returns : goal.returns
-returns c =
+returns g c =
     let a = c.args in
-    let up = a.airup.now in
-    let down = a.airdown.now in
-    let south = c.cell_allows-at_south.ensures ∙ cell_allows (south_cell a.w a.rows up down c.cap_air.ensures c.cap_air-2.ensures) a.air.now in
-    let north = c.cell_allows-at_north.ensures ∙ cell_allows (north_cell a.w a.rows up down c.cap_air-3.ensures c.cap_air-4.ensures) a.air.now in
-    (λ i. south i && c.rows_allow.ensures i && north i) ∙ allowed_cells a.w a.rows (flow_of up down) a.air.now
+    let w = a.shape.w in
+    let rows = a.shape.rows in
+    let up = a.flow.now.up in
+    let down = a.flow.now.down in
+    let south = rw c.new.ensures at c.cell_allows-at_south.ensures ∙ cell_allows (south_cell w rows up down c.cap-south_in.ensures c.cap-south_out.ensures) a.air.now in
+    let north = rw c.new-2.ensures at c.cell_allows-at_north.ensures ∙ cell_allows (north_cell w rows up down c.cap-north_in.ensures c.cap-north_out.ensures) a.air.now in
+    (λ i. south i && c.rows_allow.ensures i && north i) ∙ allowed_cells w rows (flow_of up down) a.air.now

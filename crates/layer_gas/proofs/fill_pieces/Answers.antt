@@ -1,35 +1,32 @@
 -- `layer_gas::fill_pieces` meets its contract.
-use Rattle.std.proofs.Common.{◌≡◌, ◌∙◌, arith, rules}
+use Rattle.std.proofs.Common.{length, ◌≡◌, ◌∙◌, arith, rules}
 use Rattle.model.specs.Sweep.{layer}
 use Rattle.units.specs.Limiter.{limiter_of}
-use Rattle.substep.specs.Faces.{same_none, same_more}
+use Rattle.substep.specs.Faces.{same_more}
 use Rattle.layer.specs.Cells.{layer_faces}
 use Rattle.layer_gas.specs.Gas.{gives_north, gives_south, piece_north, piece_south}
 use Rattle.layer_gas.proofs.fill_pieces.Goals as goal
 
-pub loop-i-init : goal.loop-i-init
-loop-i-init c = (search rules, search rules, search rules, same_none _ _)
-
 pub northward-p-requires : goal.northward-p-requires
-northward-p-requires c = gives_north (limiter_of c.args.l) c.requires.0 c.requires.1 c.loop-i.i (omega arith)
+northward-p-requires g c =
+    rw c.new-to_north.ensures (gives_north (limiter_of c.args.l) c.requires.0 c.requires.1 c.loop-i.i c.loop-i-test.true)
 
 pub southward-r-requires : goal.southward-r-requires
-southward-r-requires c = gives_south (limiter_of c.args.l) c.requires.0 c.requires.1 c.loop-i.i (omega arith)
+southward-r-requires g c =
+    rw c.new-to_south.ensures (gives_south (limiter_of c.args.l) c.requires.0 c.requires.1 c.loop-i.i c.loop-i-test.true)
 
 pub loop-i-preserved : goal.loop-i-preserved
-loop-i-preserved c =
+loop-i-preserved g c =
     let l = c.loop-i in
-    let limiter = limiter_of c.args.l in (
-      search rules,
-      search rules,
-      search rules,
-      same_more l.gasup l.gasdown (search rules) (search rules) l.invariant.3
-          (c.northward-p.ensures ∙ piece_north limiter c.requires.0 c.requires.1 l.i (omega arith))
-          (c.southward-r.ensures ∙ piece_south limiter c.requires.0 c.requires.1 l.i (omega arith)),
-    )
+    let limiter = limiter_of c.args.l in
+    let high : length l.carried.up ≡ g.row.F = search rules in
+    let low : length l.carried.down ≡ g.row.F = search rules in
+    same_more l.carried.up l.carried.down (omega (arith, high, c.requires.0.faces)) (omega (arith, low, c.requires.0.faces)) l.invariant
+    (rw c.new-to_north.ensures at c.northward-p.ensures ∙ piece_north limiter c.requires.0 c.requires.1 l.i c.loop-i-test.true)
+    (rw c.new-to_south.ensures at c.southward-r.ensures ∙ piece_south limiter c.requires.0 c.requires.1 l.i c.loop-i-test.true)
 
 pub returns : goal.returns
-returns c =
+returns g c =
     let l = c.loop-i in
-    let done : l.i ≡ (layer c.args.w c.args.rows).faces = omega (arith, layer_faces c.args.w c.args.rows) in
-    rw done at l.invariant.3
+    let done : l.i ≡ (layer c.args.shape.w c.args.shape.rows).faces = omega (arith, layer_faces c.args.shape.w c.args.shape.rows) in
+    rw done at l.invariant

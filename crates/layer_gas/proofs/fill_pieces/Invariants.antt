@@ -1,5 +1,4 @@
 -- `layer_gas::fill_pieces`: the faces passed have their two pieces.
-use Rattle.std.proofs.Common.{length, ◌+◌, ◌*◌, ◌-◌, ◌≤◌, ◌≡◌}
 use Rattle.model.specs.Limiters.{rule_for}
 use Rattle.model.specs.Sweep.{layer, pieces}
 use Rattle.units.specs.Limiter.{limiter_of}
@@ -7,11 +6,5 @@ use Rattle.substep.specs.Faces.{flow_of, Same}
 use Rattle.layer_gas.proofs.fill_pieces.Given as goal
 
 abbrev pub invariant-loop-i : goal.invariant-loop-i
-invariant-loop-i l =
-    (l.i ≤ l.w + l.rows * l.w)
-    × (length l.gasup ≡ length l.initial.gasup)
-    × (length l.gasdown ≡ length l.initial.gasdown)
-    × Same l.i (flow_of l.gasup l.gasdown) (pieces (rule_for (limiter_of l.l)) (layer l.w l.rows) (flow_of l.airup l.airdown) l.air l.gas)
-
-abbrev pub decreases-loop-i : goal.decreases-loop-i
-decreases-loop-i l = l.w + l.rows * l.w - l.i
+invariant-loop-i g l =
+    Same l.i (flow_of l.carried.up l.carried.down) (pieces (rule_for (limiter_of l.l)) (layer l.shape.w l.shape.rows) (flow_of l.flow.up l.flow.down) l.air l.gas)

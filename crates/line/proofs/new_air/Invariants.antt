@@ -1,10 +1,7 @@
 -- The cells passed have the air between their edges.
-use Rattle.std.proofs.Common.{ℕ, suc, ◌-◌, ◌≡◌, ◌≤◌, ◌<◌}
+use Rattle.std.proofs.Common.{ℕ, suc, ◌-◌, ◌≡◌, ◌<◌}
 use Rattle.model.specs.Basic.{at}
 use Rattle.line.proofs.new_air.Given as goal
 
 abbrev pub invariant-loop-j : goal.invariant-loop-j
-invariant-loop-j l = (l.j ≤ l.k) × ((t : ℕ) → t < l.j → at l.newair t ≡ at l.e (suc t) - at l.e t)
-
-abbrev pub decreases-loop-j : goal.decreases-loop-j
-decreases-loop-j l = l.k - l.j
+invariant-loop-j l = (t : ℕ) → t < l.j → at l.newair t ≡ at l.e (suc t) - at l.e t

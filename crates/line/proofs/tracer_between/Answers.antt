@@ -1,5 +1,5 @@
 -- `line::tracer_between` meets its contract. Assumes nothing.
-use Rattle.std.proofs.Common.{ℕ, ◌+◌, ◌-◌, ◌≡◌, ◌≤◌, ◌<◌, ⊎_elim, refl, arith}
+use Rattle.std.proofs.Common.{ℕ, ◌+◌, ◌-◌, ◌≡◌, ◌≤◌, ◌<◌, ⊎_elim, arith}
 use Rattle.std.proofs.Math.Nat.{zero-mod}
 use Rattle.model.proofs.Laws.Basic.{le_or_lt}
 use Rattle.line.specs.Tracer.{walking_start, stands_here, turned_whole, walk_is}
@@ -7,8 +7,8 @@ use Rattle.line.proofs.tracer_between.Goals as goal
 
 pub loop-place-init : goal.loop-place-init
 loop-place-init c =
-    let top = c.place_at-place.ensures in
-    (rw top (walking_start _ _ _ _ _ _ _ _ _ refl refl refl refl), rw top (λ h. zero-mod c.args.n))
+    let top = c.start-place.ensures in
+    (walking_start _ _ _ _ _ _ _ _ top, λ h. rw top.cells (zero-mod c.args.n))
 
 -- a turn passes n cells, or the edges that are left
 less :
@@ -27,8 +27,8 @@ loop-place-preserved c =
     let made = c.walk_turn-place.ensures in
     (made.walking, λ h. turned_whole c.args.n c.loop-place.place.i (made.turned h) (c.loop-place.invariant.1 c.loop-place-test.true))
 
-pub overflow_add-steps : goal.overflow_add-steps
-overflow_add-steps c = omega (arith, stands_here c.requires c.loop-place.invariant.0.stands, c.requires.fit, c.requires.few)
+pub overflow_add-result : goal.overflow_add-result
+overflow_add-result c = omega (arith, stands_here c.requires c.loop-place.invariant.0.stands, c.requires.fit, c.requires.few)
 
 pub returns : goal.returns
 returns c =

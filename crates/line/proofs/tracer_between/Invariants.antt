@@ -7,7 +7,7 @@ use Rattle.line.proofs.tracer_between.Given as goal
 
 abbrev pub invariant-loop-place : goal.invariant-loop-place
 invariant-loop-place l =
-    Walking l.n l.air l.gas l.size l.rising l.e l.m l.newgas l.place × (l.place.j < l.m → l.place.i % l.n ≡ 0)
+    Walking l.n l.air l.gas l.slopes l.e l.m l.newgas l.place × (l.place.j < l.m → l.place.i % l.n ≡ 0)
 
 abbrev pub decreases-loop-place : goal.decreases-loop-place
 decreases-loop-place l = (turns * l.n - l.place.i) + (l.m - l.place.j)

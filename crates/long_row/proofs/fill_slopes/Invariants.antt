@@ -1,12 +1,8 @@
 -- The slopes of the columns passed.
-use Rattle.std.proofs.Common.{◌-◌, ◌≤◌}
 use Rattle.units.specs.Limiter.{limiter_of}
 use Rattle.line.specs.Slopes.{SlopesTo}
 use Rattle.long_row.specs.Gas.{ring_slope}
 use Rattle.long_row.proofs.fill_slopes.Given as goal
 
 abbrev pub invariant-loop-c : goal.invariant-loop-c
-invariant-loop-c l = (l.c ≤ l.w) × SlopesTo (ring_slope (limiter_of l.l) l.w l.q) l.c l.size l.rising
-
-abbrev pub decreases-loop-c : goal.decreases-loop-c
-decreases-loop-c l = l.w - l.c
+invariant-loop-c l = SlopesTo (ring_slope (limiter_of l.l) l.w l.q) l.c l.slopes

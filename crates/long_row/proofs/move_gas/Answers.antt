@@ -9,10 +9,10 @@ fill_ratios-requires c = ratios_need c.requires _ c.requires.departures.wide
 
 pub tracer_between-requires : goal.tracer_between-requires
 tracer_between-requires c =
-    line_need c.requires (limiter_of c.args.l) c.fill_ratios.ensures c.fill_slopes.ensures (omega arith) (omega arith) (omega arith)
+    line_need c.requires (limiter_of c.args.l) c.fill_ratios.ensures c.fill_slopes.ensures (omega arith) (omega arith)
 
 pub returns : goal.returns
 returns c =
-    c.copy.ensures ∙
-    gas_by_lem c.requires (limiter_of c.args.l) c.fill_ratios.ensures c.fill_slopes.ensures (omega arith) (omega arith) (omega arith)
+    c.copy_from_slice.ensures.after ∙
+    gas_by_lem c.requires (limiter_of c.args.l) c.fill_ratios.ensures c.fill_slopes.ensures (omega arith) (omega arith)
     c.tracer_between.ensures

@@ -5,4 +5,4 @@ use Rattle.model.specs.Sweep.{flux}
 use Rattle.places.proofs.fluxes_fit.Given as goal
 
 abbrev pub invariant-loop-f : goal.invariant-loop-f
-invariant-loop-f l = l.ok ≡ every l.f-index (λ k. leb (nat_abs (flux l.fluxes k)) l.limit.units)
+invariant-loop-f l = l.ok ≡ every l.f-index (λ k. leb (nat_abs (flux l.fluxes k)) l.limit.0)

@@ -1,10 +1,12 @@
--- `places::gas_total`: the sum of the blocks passed is the sum of their amounts.
-use Rattle.std.proofs.Common.{◌≡◌, ◌-◌, ◌*◌, ◌≤◌, length}
+-- `places::gas_total`: the sum of the blocks passed, with what is left, is that of all amounts.
+use Rattle.std.proofs.Common.{ℕ, List, ◌≡◌, ◌+◌, ◌*◌, ◌≤◌, length}
+use Rattle.std.specs.Slice.Iter.{chunks_rest, chunks_size}
 use Rattle.model.specs.Basic.{at, sum}
 use Rattle.places.proofs.gas_total.Given as goal
 
-abbrev pub invariant-loop-a : goal.invariant-loop-a
-invariant-loop-a l = (l.a ≤ length l.gas) × (l.sum ≡ sum l.a (at l.gas)) × (l.sum ≤ l.a * 4294967295)
-
-abbrev pub decreases-loop-a : goal.decreases-loop-a
-decreases-loop-a l = length l.gas - l.a
+abbrev pub invariant-loop-block : goal.invariant-loop-block
+invariant-loop-block l =
+    let rest : List ℕ = chunks_rest l.block-iterator in
+    (l.sum + sum (length rest) (at rest) ≡ sum (length l.gas) (at l.gas))
+    × (l.sum + length rest * 4294967295 ≤ length l.gas * 4294967295)
+    × (chunks_size l.block-iterator ≡ 8192)

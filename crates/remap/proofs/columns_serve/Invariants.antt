@@ -1,10 +1,6 @@
 -- The columns passed serve.
-use Rattle.std.proofs.Common.{◌-◌}
 use Rattle.remap.specs.Served.{ServedUpto}
 use Rattle.remap.proofs.columns_serve.Given as goal
 
 abbrev pub invariant-loop-c : goal.invariant-loop-c
 invariant-loop-c l = ServedUpto l.air l.table l.cells l.k l.c
-
-abbrev pub decreases-loop-c : goal.decreases-loop-c
-decreases-loop-c l = l.cells - l.c

@@ -7,9 +7,7 @@ pub loop-c-init : goal.loop-c-init
 loop-c-init c = moved_none c.requires
 
 pub read_edges-requires : goal.read_edges-requires
-read_edges-requires c =
-    let fit = c.requires.moves.columns.fit in
-    (air_read c.requires.moves c.loop-c-test.true c.loop-c.invariant.air_upto, omega arith, omega arith)
+read_edges-requires c = air_read c.requires.moves c.loop-c-test.true c.loop-c.invariant.air_upto
 
 pub move_column-walked-requires : goal.move_column-walked-requires
 move_column-walked-requires c = tracers_need c.requires c.loop-c-test.true c.loop-c.invariant c.read_edges.ensures

@@ -1,10 +1,6 @@
 -- The columns passed are remapped, the others as lent.
-use Rattle.std.proofs.Common.{◌-◌}
 use Rattle.remap.specs.Moved.{MovedUpto}
 use Rattle.remap.proofs.move_columns.Given as goal
 
 abbrev pub invariant-loop-c : goal.invariant-loop-c
-invariant-loop-c l = MovedUpto l.fn.tracers l.ledger l.fn.air l.table l.cells l.k l.n l.c l.tracers l.air l.steps l.count
-
-abbrev pub decreases-loop-c : goal.decreases-loop-c
-decreases-loop-c l = l.cells - l.c
+invariant-loop-c l = MovedUpto l.fn.tracers l.ledger l.fn.air l.table l.cells l.k l.n l.c l.tracers l.air l.moved.steps l.moved.count

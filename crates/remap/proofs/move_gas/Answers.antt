@@ -9,7 +9,7 @@ read_ratios-requires c = (c.requires.column, ratios_need c.requires _ _ (search 
 pub remap_gas-walked-requires : goal.remap_gas-walked-requires
 remap_gas-walked-requires c =
     let made = c.read_ratios.ensures in
-    gas_need c.requires _ made.0 made.1 (omega arith) (omega arith) (omega arith) (omega arith) (omega arith)
+    gas_need c.requires _ made.0 made.1 (omega arith) (omega arith) (omega arith) (omega arith)
 
 pub write_column-requires : goal.write_column-requires
 write_column-requires c = (c.requires.column, omega arith)

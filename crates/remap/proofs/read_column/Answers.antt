@@ -7,4 +7,4 @@ use Rattle.remap.proofs.read_column.Goals as goal
 pub returns : goal.returns
 returns c =
     let a = c.args in
-    tab_ext a.k (at c.loop-i.column) (λ i. at a.list.now (i * a.cells + a.c)) (λ n h. c.loop-i.invariant.1 n (omega arith))
+    tab_ext a.p.k (at c.loop-i.column) (λ i. at a.list.now (i * a.p.cells + a.p.c)) (λ n h. c.loop-i.invariant n (omega arith))

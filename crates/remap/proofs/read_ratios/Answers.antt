@@ -9,6 +9,6 @@ pub returns : goal.returns
 returns c =
     let a = c.args in
     let all = c.loop-i.invariant in (
-      tab_ext a.k (at c.loop-i.column) (λ i. at a.gas.now (i * a.cells + a.c)) (λ n h. all.amounts n (omega arith)),
+      tab_ext a.p.k (at c.loop-i.column) (λ i. at a.gas.now (i * a.p.cells + a.p.c)) (λ n h. all.amounts n (omega arith)),
       record { is = λ n h. all.ratios n (omega arith) ∙ ap (ratio (at a.air.now n)) (sym (all.amounts n (omega arith))) },
     )

@@ -1,32 +1,34 @@
 -- `row::row_allowed` meets its contract.
-use Rattle.std.proofs.Common.{ℕ, ◌≡◌, ◌&&◌, length, sym, ◌∙◌, ap, ap₂, arith, rules}
-use Rattle.model.specs.Basic.{every}
+use Rattle.std.proofs.Common.{ℕ, ◌≡◌, ◌&&◌, length, sym, ◌∙◌, ap, ap₂, arith, false}
 use Rattle.model.specs.Sweep.{ring}
-use Rattle.model.proofs.Laws.Basic.{every_none, every_more}
+use Rattle.model.proofs.Laws.Basic.{every_none, every_more, every_false}
 use Rattle.substep.specs.Faces.{flow_of}
-use Rattle.substep.specs.Cells.{cell_allowed, cell_allows}
-use Rattle.row.specs.Columns.{allowed_columns, column}
+use Rattle.substep.specs.Cells.{may_pass, cell_allowed, cell_allows}
+use Rattle.row.specs.Columns.{allowed_columns}
 use Rattle.row.proofs.row_allowed.Goals as goal
+use Rattle.row.proofs.row_allowed.Goals.{After-cell_allows}
+
+-- what the test of column i found
+test_is :
+    {g : _} (c : After-cell_allows g) →
+    c.cell_allows.result ≡ cell_allowed (ring (length c.args.air.now)) (flow_of c.args.flow.now.up c.args.flow.now.down) c.args.air.now c.loop-i.i
+test_is c = c.cell_allows.ensures ∙ ap (λ (m : ℕ). may_pass m c.exchange.result.0.0 c.exchange.result.1.0) c.new.ensures ∙ cell_allows c.exchange.ensures.cell c.args.air.now
 
 pub loop-i-init : goal.loop-i-init
-loop-i-init c = (search rules, search rules, sym (every_none _))
+loop-i-init g c = every_none _
+
+pub returns-then-not-cell_allows : goal.returns-then-not-cell_allows
+returns-then-not-cell_allows g c =
+    let a = c.args in
+    let test = cell_allowed (ring (length a.air.now)) (flow_of a.flow.now.up a.flow.now.down) a.air.now in
+    let not : test c.loop-i.i ≡ false = sym (test_is (goal.at.returns-then-not-cell_allows g c).After-cell_allows) ∙ c.if-not-cell_allows.true in
+    sym (every_false (length a.air.now) test c.loop-i.i c.loop-i-test.true not) ∙ allowed_columns _ _ _
 
 pub loop-i-preserved : goal.loop-i-preserved
-loop-i-preserved c =
-    let air = c.args.air.now in
-    let l = c.loop-i in
-    let flow = flow_of c.args.airup.now c.args.airdown.now in
-    let own = column (length air) l.i (search rules) flow c.west_of-west.ensures.0 c.both_air-enters.ensures.0 c.both_air-leaves.ensures.0 in (
-      search rules,
-      search rules,
-      ap₂ ◌&&◌ l.invariant.2 (c.cell_allows-ok.ensures ∙ cell_allows own air) ∙
-          sym (every_more l.i (cell_allowed (ring (length air)) flow air)),
-    )
+loop-i-preserved g c =
+    every_more c.loop-i.i _ ∙ ap₂ ◌&&◌ c.loop-i.invariant (sym (test_is (goal.at.loop-i-preserved g c).After-cell_allows) ∙ c.if-not-cell_allows.false)
 
 pub returns : goal.returns
-returns c =
-    let air = c.args.air.now in
-    let l = c.loop-i in
-    let flow = flow_of c.args.airup.now c.args.airdown.now in
-    let done : l.i ≡ length air = omega arith in
-    l.invariant.2 ∙ ap (λ (n : ℕ). every n (cell_allowed (ring (length air)) flow air)) done ∙ allowed_columns (length air) flow air
+returns g c =
+    let done : c.loop-i.i ≡ length c.args.air.now = omega arith in
+    sym (rw done at c.loop-i.invariant) ∙ allowed_columns _ _ _

@@ -1,47 +1,34 @@
 -- `row_place::row_place` meets its contract: each answer from the tests that led there.
-use Rattle.std.proofs.Common.{length, refl, sym, ◌∙◌, eqb-true}
-use Rattle.model.specs.World.{World}
-use Rattle.units.specs.Grid.{world_of}
-use Rattle.places.specs.declared.Lent.TheVariants.{RowFluxes}
-use Rattle.places.specs.Walk.{next, stop, placed, there, missing, fits, fails}
-use Rattle.places.specs.Tested.{Passed}
+use Rattle.std.proofs.Common.{length, refl, eqb-true}
+use Rattle.places.specs.Walk.{next, stop, there, missing, fits, fails}
 use Rattle.row_place.specs.RowPlace.{row_begins}
 use Rattle.row_place.proofs.row_place.Goals as goal
-use Rattle.row_place.proofs.row_place.Goals.{Then-number-eq0, Then-layer-g, Then-row-g}
+use Rattle.row_place.proofs.row_place.Goals.{then-layer-w-via-then-layer-w, then-layer-w-via-else-layer-w+then-row-w}
 
-abbrev world : Then-number-eq0 → World
-world c = world_of c.args.g c.args.air.now c.args.tracers.now c.args.ledger.now
+pub returns-then-layer-w : goal.returns-then-layer-w
+returns-then-layer-w c =
+    let begun = row_begins c.in_ok-common_places.ensures in
+    elim c.then-layer-w.branch [
+      | then-layer-w-via-then-layer-w w ↦ stop begun (missing w.if-layer-w.true) refl
+      | then-layer-w-via-else-layer-w+then-row-w w ↦ stop (next begun (there w.if-layer-w.false)) (missing w.if-row-w.true) refl
+    ]
 
--- places 1 to 4 are passed
-passed : (c : Then-number-eq0) → Passed (world c) (RowFluxes (length c.args.fluxes.now)) c.common_places-tested.result
-passed c = c.common_places-tested.ensures.found (sym c.number.ensures ∙ c.if-number-eq0.true)
-
-pub returns-else-layer-g : goal.returns-else-layer-g
-returns-else-layer-g c =
-    stop (row_begins (passed (goal.at.returns-else-layer-g c).Then-number-eq0)) (missing c.if-layer-g.false) c.not_placed-else-layer-g.ensures refl
-
-pub returns-else-row-g : goal.returns-else-row-g
-returns-else-row-g c =
-    stop (next (row_begins (passed (goal.at.returns-else-row-g c).Then-number-eq0)) (there c.if-layer-g.true)) (missing c.if-row-g.false) c.not_placed-else-row-g.ensures refl
-
-pub returns-else-fluxes_fit : goal.returns-else-fluxes_fit
-returns-else-fluxes_fit c =
-    let behind = next (next (row_begins (passed (goal.at.returns-else-fluxes_fit c).Then-number-eq0)) (there c.if-layer-g.true)) (there c.if-row-g.true) in
-    stop behind (fails c.fluxes_fit.ensures c.if-fluxes_fit.false) c.not_placed-else-fluxes_fit.ensures refl
+pub returns-then-not-fluxes_fit : goal.returns-then-not-fluxes_fit
+returns-then-not-fluxes_fit c =
+    let behind = next (next (row_begins c.in_ok-common_places.ensures) (there c.if-layer-w.false)) (there c.if-row-w.false) in
+    stop behind (fails (rw c.new.ensures at c.fluxes_fit.ensures) c.if-not-fluxes_fit.true) refl
 
 pub returns : goal.returns
 returns c =
-    let common = passed (goal.at.returns c).Then-number-eq0 in
-    let behind = next (next (row_begins common) (there c.if-layer-g.true)) (there c.if-row-g.true) in
-    placed refl
+    let common = c.in_ok-common_places.ensures in
+    let behind = next (next (row_begins common) (there c.if-layer-w.false)) (there c.if-row-w.false) in
     record {
-      left = next behind (fits c.fluxes_fit.ensures c.if-fluxes_fit.true);
+      left = next behind (fits (rw c.new.ensures at c.fluxes_fit.ensures) c.if-not-fluxes_fit.false);
       row =
           record {
             fits = common.fits;
-            long = eqb-true (length c.args.fluxes.now) c.args.g.w common.lent_fit;
-            inside = c.row_start-first.ensures.1;
+            long = eqb-true (length c.args.fluxes.now) c.args.w.grid.w common.lent_fit;
+            inside = c.row_start.ensures.1;
           };
-      start = c.row_start-first.ensures.0;
-      count = refl;
+      start = c.row_start.ensures.0;
     }

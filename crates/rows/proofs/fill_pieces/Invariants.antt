@@ -1,5 +1,5 @@
 -- `rows::fill_pieces`: the faces passed have their two pieces.
-use Rattle.std.proofs.Common.{length, ◌-◌, ◌≤◌, ◌≡◌}
+use Rattle.std.proofs.Common.{length}
 use Rattle.model.specs.Limiters.{rule_for}
 use Rattle.model.specs.Sweep.{ring, pieces}
 use Rattle.units.specs.Limiter.{limiter_of}
@@ -8,11 +8,4 @@ use Rattle.rows.proofs.fill_pieces.Given as goal
 
 abbrev pub invariant-loop-i : goal.invariant-loop-i
 invariant-loop-i l =
-    (l.i ≤ l.w)
-    × (l.w ≡ length l.air)
-    × (length l.gasup ≡ length l.initial.gasup)
-    × (length l.gasdown ≡ length l.initial.gasdown)
-    × Same l.i (flow_of l.gasup l.gasdown) (pieces (rule_for (limiter_of l.l)) (ring (length l.air)) (flow_of l.airup l.airdown) l.air l.gas)
-
-abbrev pub decreases-loop-i : goal.decreases-loop-i
-decreases-loop-i l = l.w - l.i
+    Same l.i (flow_of l.pieces.up l.pieces.down) (pieces (rule_for (limiter_of l.l)) (ring (length l.air)) (flow_of l.flow.up l.flow.down) l.air l.gas)

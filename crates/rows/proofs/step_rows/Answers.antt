@@ -1,18 +1,15 @@
 -- `rows::step_rows` meets its contract.
-use Rattle.std.proofs.Common.{◌∙◌, rules}
+use Rattle.std.proofs.Common.{◌∙◌, arith}
 use Rattle.rows.specs.Gas.{step_need, stepping_more, row_lent, lent_stepped}
 use Rattle.rows.proofs.step_rows.Goals as goal
 
 pub step_gas-requires : goal.step_gas-requires
 step_gas-requires c =
     let l = c.loop-t in
-    rw (row_lent c.requires l.invariant.2 (search rules)) (step_need c.requires l.t (search rules))
+    rw (row_lent c.requires l.invariant (omega arith)) (step_need c.requires l.t (omega arith))
 
 pub loop-t-preserved : goal.loop-t-preserved
 loop-t-preserved c =
-    let l = c.loop-t in (
-      search rules,
-      search rules,
-      stepping_more c.requires l.invariant.2 (search rules)
-          (c.step_gas.ensures ∙ lent_stepped c.requires l.invariant.2 (search rules) c.limiter_at-l.ensures),
-    )
+    let l = c.loop-t in
+    stepping_more c.requires l.invariant (omega arith)
+    (c.step_gas.ensures ∙ lent_stepped c.requires l.invariant (omega arith) c.limiter_at-l.ensures)

@@ -25,7 +25,7 @@ returns-then-n-eq1 c =
       | then-n-eq1-via-then-n-eq1 w ↦
           record { is = sym (flux_part_whole w.if-n-eq1.true c.requires.0 c.requires.1); within = le_refl _ }
       | then-n-eq1-via-else-n-eq1+then-f-eq0 w ↦
-          record { is = sym (flux_part_none a.n a.s a.f.units w.if-f-eq0.true); within = le_refl _ }
+          record { is = sym (flux_part_none a.n a.s a.f.0 w.if-f-eq0.true); within = le_refl _ }
     ]
 
 pub returns : goal.returns

@@ -2,8 +2,6 @@
 use Rattle.std.proofs.Common.{ℕ, ◌*◌, ◌-◌, ◌/◌, ◌^◌, ◌≡◌, ◌≤◌, ◌<◌, Bool, true, false, sym, ◌∙◌, ap, arith}
 use Rattle.std.proofs.Math.Nat.{div-div-eq-div-mul}
 use Rattle.units.specs.declared.Amount.{Amount}
-use Rattle.units.specs.declared.OfAir.{OfAir}
-use Rattle.units.specs.declared.OfTracer.{OfTracer}
 use Rattle.units.specs.declared.Mismatch as code
 use Rattle.model.specs.Limits.{scale}
 use Rattle.model.specs.Scheme.{Mismatch, high_piece}
@@ -19,14 +17,14 @@ record Sizes (D : Mismatch) (M T m : ℕ) : Type 0 where
   level : 2 * scale * m * T < 2 ^ 63
   piece : high_piece D M T m ≤ T
 
-sizes : {d : code.Mismatch} {have m : Amount OfAir} {t : Amount OfTracer} → Giver d have t m → Sizes (mismatch_of d) have.units t.units m.units
+sizes : {d : code.Mismatch} {have m : Amount 0} {t : Amount 1} → Giver d have t m → Sizes (mismatch_of d) have.0 t.0 m.0
 sizes {d} {have} {m} {t} g =
-    let safe : Safe (mismatch_of d) have.units t.units = ratio_safe (mismatch_of d) have.units t.units g.small in
+    let safe : Safe (mismatch_of d) have.0 t.0 = ratio_safe (mismatch_of d) have.0 t.0 g.small in
     record {
-      slope = slope_le (mismatch_of d) have.units t.units safe m.units g.part;
-      tilt = tilt_le_level (mismatch_of d) have.units t.units safe m.units g.part;
-      level = level_fits m.units t.units (omega arith) g.tracer;
-      piece = piece_le (mismatch_of d) have.units t.units safe g.some m.units g.part;
+      slope = slope_le (mismatch_of d) have.0 t.0 safe m.0 g.part;
+      tilt = tilt_le_level (mismatch_of d) have.0 t.0 safe m.0 g.part;
+      level = level_fits m.0 t.0 (omega arith) g.tracer;
+      piece = piece_le (mismatch_of d) have.0 t.0 safe g.some m.0 g.part;
     }
 
 -- x is the numerator, as the code has it at the mismatch's sign
@@ -51,19 +49,19 @@ overflow_add-numerator c = omega (arith, sizes c.requires)
 pub overflow_sub-numerator : goal.overflow_sub-numerator
 overflow_sub-numerator c = (sizes c.requires).tilt
 
-numerator_is : (c : Joined-d) → c.if-d.numerator ≡ numerator (mismatch_of c.args.d) c.args.have.units c.args.t.units c.args.m.units
+numerator_is : (c : Joined-d) → c.if-d.numerator ≡ numerator (mismatch_of c.args.d) c.args.have.0 c.args.t.0 c.args.m.0
 unfolding numerator
 numerator_is c =
-    let is = signed (mismatch_of c.args.d) c.args.have.units c.args.t.units c.args.m.units in
+    let is = signed (mismatch_of c.args.d) c.args.have.0 c.args.t.0 c.args.m.0 in
     elim c.if-d.branch [ then-d w ↦ is true w.if-d.true w.numerator-is | else-d w ↦ is false w.if-d.false w.numerator-is ]
 
 pub overflow_cast-piece : goal.overflow_cast-piece
 overflow_cast-piece c =
     let a = c.args in
-    omega (arith, quotient (mismatch_of a.d) a.have.units a.t.units a.m.units c.if-d.numerator (numerator_is (goal.at.overflow_cast-piece c).Joined-d), sizes c.requires, c.requires.tracer)
+    omega (arith, quotient (mismatch_of a.d) a.have.0 a.t.0 a.m.0 c.if-d.numerator (numerator_is (goal.at.overflow_cast-piece c).Joined-d), sizes c.requires, c.requires.tracer)
 
 pub returns : goal.returns
 returns c =
     let a = c.args in
-    let is = quotient (mismatch_of a.d) a.have.units a.t.units a.m.units c.if-d.numerator (numerator_is (goal.at.returns c).Joined-d) in
+    let is = quotient (mismatch_of a.d) a.have.0 a.t.0 a.m.0 c.if-d.numerator (numerator_is (goal.at.returns c).Joined-d) in
     record { is = c.new.ensures ∙ is; within = rw (c.new.ensures ∙ is) (sizes c.requires).piece }

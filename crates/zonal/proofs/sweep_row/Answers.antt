@@ -3,8 +3,8 @@ use Rattle.zonal.specs.RowSwept.{rows_sweep, all_swept}
 use Rattle.zonal.proofs.sweep_row.Goals as goal
 
 pub sweep_rows-swept-requires : goal.sweep_rows-swept-requires
-sweep_rows-swept-requires c = rows_sweep c.requires c.world_cells-cells.ensures.0 c.load_rows-rows.ensures
+sweep_rows-swept-requires c = rows_sweep c.requires c.world_cells.ensures.0 c.load_rows-rows.ensures
 
 pub returns : goal.returns
 returns c =
-    all_swept c.requires c.world_cells-cells.ensures.0 c.load_rows-rows.ensures c.sweep_rows-swept.ensures c.store_rows.ensures
+    all_swept c.requires c.world_cells.ensures.0 c.load_rows-rows.ensures c.sweep_rows-swept.ensures c.store_rows.ensures

@@ -1,44 +1,26 @@
 -- `zonal::zonal_place` meets its contract: the places of both sweeps, then the count.
-use Rattle.std.proofs.Common.{◌≡◌, refl, sym, ◌∙◌, arith, eq-eqb, ne_eqb}
-use Rattle.model.specs.World.{World}
-use Rattle.model.specs.Step.{zonal_count}
-use Rattle.units.specs.Grid.{world_of}
-use Rattle.places.specs.Walk.{next, stop, placed}
-use Rattle.row_place.specs.RowPlace.{RowFound, row_left}
-use Rattle.zonal.specs.ZonalPlace.{zonal_sweeps_row, count_found}
+use Rattle.std.proofs.Common.{refl, arith, eq-eqb, ne_eqb}
+use Rattle.std.proofs.lemmas.Result.{err_from_is_err_and}
+use Rattle.places.specs.Walk.{next, stop}
+use Rattle.row_place.specs.RowPlace.{row_left}
+use Rattle.zonal.specs.ZonalPlace.{zonal_sweeps_row, counted}
 use Rattle.zonal.proofs.zonal_place.Goals as goal
-use Rattle.zonal.proofs.zonal_place.Goals.{Then-number-eq0, After-count-n}
 
-abbrev world : Then-number-eq0 → World
-world c = world_of c.args.g c.args.air.now c.args.tracers.now c.args.ledger.now
-
--- the row is found
-row_found : (c : Then-number-eq0) → RowFound (world c) c.args.layer c.args.row c.args.fluxes.now c.row_place-place.result
-row_found c = c.row_place-place.ensures.found (sym c.number.ensures ∙ c.if-number-eq0.true)
-
--- the count is the row's
-counted : (c : After-count-n) → c.count-n.result ≡ zonal_count (world_of c.args.g c.args.air.now c.args.tracers.now c.args.ledger.now) c.args.layer c.args.row c.args.fluxes.now
-counted c =
-    let found = c.row_place-place.ensures.found (sym c.number.ensures ∙ c.if-number-eq0.true) in
-    count_found found.row c.args.layer c.args.row found.start c.count-n.ensures
-
-pub returns-else-n-gt0 : goal.returns-else-n-gt0
-returns-else-n-gt0 c =
-    let found = row_found (goal.at.returns-else-n-gt0 c).Then-number-eq0 in
-    let same = counted (goal.at.returns-else-n-gt0 c).After-count-n in
-    stop (row_left zonal_sweeps_row found.left) (eq-eqb _ _ (sym same ∙ omega arith)) c.not_placed.ensures refl
+pub returns-in_err-substeps : goal.returns-in_err-substeps
+returns-in_err-substeps c =
+    let found = c.in_ok-first.ensures in
+    let none = counted found.row c.args.layer c.args.row found.start _ _ c.in_err-substeps.ensures.value c.count.ensures in
+    let p = err_from_is_err_and c.from_residual-in_err-substeps.result c.from_residual-in_err-substeps.ensures.1 in
+    rw (p.1, p.2, none.0) (stop (row_left zonal_sweeps_row found.left) (eq-eqb _ _ none.1) refl)
 
 pub returns : goal.returns
 returns c =
-    let found = row_found (goal.at.returns c).Then-number-eq0 in
-    let same = counted (goal.at.returns c).After-count-n in
-    let some = ne_eqb _ _ (λ (z : zonal_count (world (goal.at.returns c).Then-number-eq0) c.args.layer c.args.row c.args.fluxes.now ≡ 0). omega arith) in
-    placed refl
+    let found = c.in_ok-first.ensures in
+    let count = counted found.row c.args.layer c.args.row found.start _ _ c.in_ok-substeps.ensures.value c.count.ensures in
     record {
-      left = next (row_left zonal_sweeps_row found.left) some;
+      left = next (row_left zonal_sweeps_row found.left) (ne_eqb _ _ (λ none. omega (arith, count.0, count.1, none)));
       row = found.row;
       start = found.start;
-      count = same;
-      most = c.count-n.ensures.most;
-      answered = refl;
+      count = count.0;
+      most = count.2;
     }

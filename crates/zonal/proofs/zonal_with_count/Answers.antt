@@ -1,22 +1,17 @@
 -- `zonal::zonal_with_count` meets its contract: the row found by `zonal_place`, swept if the count found was given.
-use Rattle.std.proofs.Common.{sym, ◌∙◌}
-use Rattle.places.specs.Walk.{refuses}
+use Rattle.places.specs.Walk.{hands_on}
 use Rattle.zonal.specs.ZonalPlace.{given_like}
 use Rattle.zonal.specs.RowSwept.{row_ready, given_agrees, given_refused}
 use Rattle.zonal.proofs.zonal_with_count.Goals as goal
 
-pub returns-else-number-eq0 : goal.returns-else-number-eq0
-returns-else-number-eq0 c = refuses c.zonal_place-place.ensures (λ z. c.if-number-eq0.false (c.number.ensures ∙ z)) given_like
+pub returns-in_err-found : goal.returns-in_err-found
+returns-in_err-found c = hands_on c.from_residual.ensures.1 c.in_err-found.ensures given_like
 
-pub returns-else-given-substeps : goal.returns-else-given-substeps
-returns-else-given-substeps c =
-    given_refused (c.zonal_place-place.ensures.found (sym c.number.ensures ∙ c.if-number-eq0.true)) c.if-given-substeps.false
+pub returns-then-given-found : goal.returns-then-given-found
+returns-then-given-found c = given_refused c.in_ok-found.ensures c.if-given-found.true
 
 pub sweep_row-requires : goal.sweep_row-requires
-sweep_row-requires c =
-    rw c.if-given-substeps.true (row_ready (c.zonal_place-place.ensures.found (sym c.number.ensures ∙ c.if-number-eq0.true)))
+sweep_row-requires c = row_ready c.in_ok-found.ensures
 
 pub returns : goal.returns
-returns c =
-    given_agrees (c.zonal_place-place.ensures.found (sym c.number.ensures ∙ c.if-number-eq0.true))
-    (rw c.if-given-substeps.true at c.sweep_row.ensures) c.if-given-substeps.true
+returns c = given_agrees c.in_ok-found.ensures c.sweep_row.ensures c.if-given-found.false
