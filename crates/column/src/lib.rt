@@ -36,7 +36,7 @@ pub fn table_fits(table: &[u32], k: usize) -> bool
     let ends = first & (table[2 * k] == 0) & (table[2 * k + 1] == TABLE_SCALE);
     let mut ok = true;
     for j in 0..k + 1 {
-        ok = ok & pair_fits(table[2 * j], table[2 * j + 1]);
+        ok &= pair_fits(table[2 * j], table[2 * j + 1]);
     }
     ends & ok
 }

@@ -1,5 +1,5 @@
 -- A tracer's pieces in a layer: each cell with the two neighbours that its mismatch is taken from.
-use Rattle.std.specs.Prelude.{ℕ, suc, ◌+◌, ◌*◌, ◌≤◌, ◌<◌, List, ◌≡◌, length}
+use Rattle.std.specs.Prelude.{ℕ, suc, ◌+◌, ◌*◌, ◌-◌, ◌≤◌, ◌<◌, List, ◌≡◌, length}
 use Rattle.std.proofs.Math.Path.{refl, sym}
 use Rattle.std.proofs.Common.{◌∙◌}
 use native.Mathlib.Omega.{arith}
@@ -8,24 +8,14 @@ use Rattle.model.specs.Scheme.{high_piece, low_piece}
 use Rattle.model.specs.Limiters.{Limiter, rule_for}
 use Rattle.model.specs.Sweep.{Flow, south_of, north_of, layer, cell_mismatch, pieces}
 use Rattle.model.proofs.Laws.Limiters.{limiter_plain}
-use Rattle.model.proofs.Laws.Layer.{sides_inner, sides_north, layer_regular}
+use Rattle.model.proofs.Laws.Layer.{sides_inner, sides_north, south_cap_lem, south_inner, north_inner, north_cap_lem, layer_regular}
 use Rattle.model.proofs.Laws.Substep.{mismatch_between, mismatch_south, mismatch_north, piece_up, piece_down}
 use Rattle.substep.specs.Faces.{flow_of}
 use Rattle.substep.specs.Pieces.{GasNeed, AreRatios, Neighbours, PieceNeed, high_need, low_need}
 
 -- ---- neighbours; a cap is its own on both sides, which gives D = 0 by every limiter
 module _ (w rows : ℕ) where
-  pub south_cap_near : Neighbours (layer w rows) 0 0 0
-  unfolding layer
-  south_cap_near =
-      record {
-        low = omega arith;
-        own = omega arith;
-        high = omega arith;
-        is = λ l air gas. mismatch_south (rule_for l) (layer w rows) air gas 0 0 w refl ∙ sym (limiter_plain l _);
-      }
-
-  pub row_near : (j : ℕ) → j < rows * w → Neighbours (layer w rows) (south_of w j) (suc j) (north_of (rows * w) (w + j))
+  row_near : (j : ℕ) → j < rows * w → Neighbours (layer w rows) (south_of w j) (suc j) (north_of (rows * w) (w + j))
   unfolding layer
   row_near j h =
       record {
@@ -35,26 +25,38 @@ module _ (w rows : ℕ) where
         is = λ l air gas. mismatch_between (rule_for l) (layer w rows) air gas (suc j) j (w + j) (sides_inner w (rows * w) j h);
       }
 
-  pub north_cap_near : Neighbours (layer w rows) (suc (rows * w)) (suc (rows * w)) (suc (rows * w))
+  -- those of the cell south of face i
+  pub south_cap_near : (i : ℕ) → i < w → Neighbours (layer w rows) (south_of w i) (south_of w i) (south_of w i)
   unfolding layer
-  north_cap_near =
+  south_cap_near i h =
+      rw (south_cap_lem w i h)
+      (record {
+        low = omega arith;
+        own = omega arith;
+        high = omega arith;
+        is = λ l air gas. mismatch_south (rule_for l) (layer w rows) air gas 0 0 w refl ∙ sym (limiter_plain l _);
+      })
+
+  pub south_near : (i : ℕ) → w ≤ i → i < w + rows * w → Neighbours (layer w rows) (south_of w (i - w)) (south_of w i) (north_of (rows * w) i)
+  south_near i low high =
+      let e : w + (i - w) ≡ i = omega arith in
+      rw (south_inner w i low) (rw e at (row_near (i - w) (omega arith)))
+
+  -- those of the cell north of it
+  pub north_near : (i : ℕ) → i < rows * w → Neighbours (layer w rows) (south_of w i) (north_of (rows * w) i) (north_of (rows * w) (w + i))
+  north_near i h = rw (north_inner (rows * w) i h) (row_near i h)
+
+  pub north_cap_near : (i : ℕ) → rows * w ≤ i → Neighbours (layer w rows) (north_of (rows * w) i) (north_of (rows * w) i) (north_of (rows * w) i)
+  unfolding layer
+  north_cap_near i h =
       let sides = sides_north w (rows * w) (rows * w) (omega arith) in
-      record {
+      rw (north_cap_lem (rows * w) i h)
+      (record {
         low = omega arith;
         own = omega arith;
         high = omega arith;
         is = λ l air gas. mismatch_north (rule_for l) (layer w rows) air gas (suc (rows * w)) (rows * w) w sides ∙ sym (limiter_plain l _);
-      }
-
-  -- the cells on the two sides of a face are cells of the layer
-  module _ {i : ℕ} (h : i < w + rows * w) where
-    pub south_in : south_of w i < 2 + rows * w
-    unfolding layer
-    south_in = (layer_regular w rows).low_in i (omega arith)
-
-    pub north_in : north_of (rows * w) i < 2 + rows * w
-    unfolding layer
-    north_in = (layer_regular w rows).high_in i (omega arith)
+      })
 
 -- ---- a piece through face i
 -- the cell c beside it can give m units of its air, whatever its neighbours

@@ -38,7 +38,7 @@ pub fn edges_serve(e: &[u64], k: usize) -> bool
 {
     let mut ok = true;
     for j in 0..k {
-        ok = ok & cell_serves(e[j], e[j + 1]);
+        ok &= cell_serves(e[j], e[j + 1]);
     }
     ok
 }
