@@ -52,30 +52,6 @@ impl Column {
     }
 }
 
-// What a tracer's remap in a column fills: its amounts, their ratios, the mismatches, and the new amounts. It is lent, so that it is made once for all tracers.
-#[derive(Drop)]
-struct Room {
-    gas: [u32; MOST_LAYERS],
-    q: [u64; MOST_LAYERS],
-    slopes: [Mismatch; MOST_LAYERS],
-    newgas: [u32; MOST_LAYERS],
-}
-
-impl Room {
-    fn empty() -> Self {
-        let none = Mismatch {
-            size: 0,
-            positive: false,
-        };
-        Room {
-            gas: [0; MOST_LAYERS],
-            q: [0; MOST_LAYERS],
-            slopes: [none; MOST_LAYERS],
-            newgas: [0; MOST_LAYERS],
-        }
-    }
-}
-
 // Copies a column of lent amounts to the first k entries of `column`.
 fn read_column(list: &[u32], p: Stand, column: &mut [u32])
     requires { ColumnNeed list.now p.c p.cells p.k × (p.k ≤ length column.old) }
@@ -141,25 +117,25 @@ fn is_cap(c: usize, cells: usize) -> bool
     (c == 0) | (c + 1 == cells)
 }
 
-// Remaps one tracer, by its limiter, in a column, by one walk.
-fn move_gas(l: Limiter, gas: &mut [u32], column: &Column, p: Stand, room: &mut Room) -> Walked
+// Remaps one tracer, by its limiter, in a column, by one walk. The lists after p are filled on the way; they are lent, so that they are made once for all tracers.
+// They are no struct: in one, the compiler cannot tell the new amounts, which are written, from the old ones, which are read (measured: a remap takes 1.04 of the time).
+fn move_gas(
+    l: Limiter,
+    gas: &mut [u32],
+    column: &Column,
+    p: Stand,
+    old: &mut [u32; MOST_LAYERS],
+    q: &mut [u64; MOST_LAYERS],
+    slopes: &mut [Mismatch; MOST_LAYERS],
+    new: &mut [u32; MOST_LAYERS],
+) -> Walked
     requires { GasNeed gas.old column.now.air column.now.e p.c p.cells p.k }
     ensures { IsGasMoved (limiter_of l) gas.old column.now.air column.now.e p.c p.cells p.k gas.new × (result.steps + 1 ≡ budget p.k) × IsCounted p.k column.now.air column.now.e result.ends }
 {
-    read_ratios(gas, &column.air, p, &mut room.gas, &mut room.q);
+    read_ratios(gas, &column.air, p, old, q);
     let cap = is_cap(p.c, p.cells);
-    let walked = remap_gas(
-        l,
-        &column.air,
-        &room.gas,
-        cap,
-        &column.e,
-        p.k,
-        &room.q,
-        &mut room.slopes,
-        &mut room.newgas,
-    );
-    write_column(&room.newgas, gas, p);
+    let walked = remap_gas(l, &column.air, old, cap, &column.e, p.k, q, slopes, new);
+    write_column(new, gas, p);
     walked
 }
 
@@ -168,13 +144,29 @@ fn move_column(tracers: &mut [u32], ledger: &[u32], column: &Column, p: Stand, n
     requires { ColumnTracersNeed tracers.old ledger.now column.now.air column.now.e p.c p.cells p.k n }
     ensures { AreTracersMoved tracers.old ledger.now column.now.air column.now.e p.c p.cells p.k n tracers.new × (result.steps + n ≡ n * budget p.k) × IsCounted p.k column.now.air column.now.e result.ends }
 {
-    let mut room = Room::empty();
+    let none = Mismatch {
+        size: 0,
+        positive: false,
+    };
+    let mut old = [0u32; MOST_LAYERS];
+    let mut q = [0u64; MOST_LAYERS];
+    let mut slopes = [none; MOST_LAYERS];
+    let mut new = [0u32; MOST_LAYERS];
     let mut all = Walked { steps: 0, ends: 0 };
     for t in 0..n {
         let a = t * (p.k * p.cells);
         let b = a + p.k * p.cells;
         let l = limiter_at(ledger, t);
-        let walked = move_gas(l, &mut tracers[a..b], column, p, &mut room);
+        let walked = move_gas(
+            l,
+            &mut tracers[a..b],
+            column,
+            p,
+            &mut old,
+            &mut q,
+            &mut slopes,
+            &mut new,
+        );
         all.steps += walked.steps;
         all.ends = walked.ends;
     }
