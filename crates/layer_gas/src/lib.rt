@@ -13,7 +13,6 @@ ghost use Rattle.model.specs.Sweep.{south_of, north_of, layer, cell_mismatch, pi
 ghost use Rattle.units.specs.Limiter.{limiter_of};
 ghost use Rattle.substep.specs.Faces.{flow_of, Same, stepped};
 ghost use Rattle.substep.specs.Pieces.{AreRatios, Neighbours};
-ghost use Rattle.layer.specs.Cells.{Faces};
 ghost use Rattle.layer_gas.specs.Gas.{GivesPiece, Step};
 
 use layer::{Shape, pass_layer};
@@ -70,7 +69,7 @@ fn northward(
     high_end(l, air, gas, q, a, c, b, m)
 }
 
-// The same southward, from the low end of the cell north of it.
+// The same southward, from the low end of the cell north of it. Two functions, as the document has two pieces: one for both ends would answer by cases.
 fn southward(
     l: Limiter,
     air: &[u32],
@@ -98,15 +97,12 @@ fn fill_pieces<const F: usize>(
     shape: Shape,
     carried: &mut Flow<F>,
 )
-    requires { Step shape.w shape.rows air.now gas.now flow.now.up flow.now.down q.now carried.old.up carried.old.down × AreRatios (layer shape.w shape.rows).cells air.now gas.now q.now }
-    ensures { Faces shape.w shape.rows carried.new.up carried.new.down × Same (layer shape.w shape.rows).faces (flow_of carried.new.up carried.new.down) (pieces (rule_for (limiter_of l)) (layer shape.w shape.rows) (flow_of flow.now.up flow.now.down) air.now gas.now) }
+    requires { Step shape.w shape.rows F air.now gas.now flow.now.up flow.now.down q.now × AreRatios (layer shape.w shape.rows).cells air.now gas.now q.now }
+    ensures { Same (layer shape.w shape.rows).faces (flow_of carried.new.up carried.new.down) (pieces (rule_for (limiter_of l)) (layer shape.w shape.rows) (flow_of flow.now.up flow.now.down) air.now gas.now) }
 {
-    // Slices, since the contract bounds the faces by the lists' length.
-    let up: &[u32] = &flow.up;
-    let down: &[u32] = &flow.down;
     for i in 0..shape.w + shape.rows * shape.w {
-        let to_north = Air::new(up[i]);
-        let to_south = Air::new(down[i]);
+        let to_north = Air::new(flow.up[i]);
+        let to_south = Air::new(flow.down[i]);
         let p = northward(l, air, gas, q, shape, i, to_north);
         let r = southward(l, air, gas, q, shape, i, to_south);
         carried.up[i] = p.units;
@@ -124,7 +120,7 @@ pub fn step_layer_gas<const F: usize>(
     q: &mut [u64],
     carried: &mut Flow<F>,
 )
-    requires { Step shape.w shape.rows air.now gas.old flow.now.up flow.now.down q.old carried.old.up carried.old.down }
+    requires { Step shape.w shape.rows F air.now gas.old flow.now.up flow.now.down q.old }
     ensures { gas.new ≡ stepped (rule_for (limiter_of l)) (layer shape.w shape.rows) (flow_of flow.now.up flow.now.down) air.now gas.old }
 {
     fill_ratios(air, &gas[..], air.len(), q);
