@@ -1,25 +1,23 @@
 -- What `emitter_place` finds: the named tracer's block, with a record that fits, and the tracer's total; and the calls that are tested so.
 -- Assumes of a call only that it lends no list of its own.
-use Rattle.std.specs.Prelude.{ℕ, suc, ◌+◌, ◌*◌, ◌-◌, ◌≤◌, ◌<◌, List, [], ◌∷◌, Bool, true, false, not, ◌||◌, ◌≡◌, leb, length}
+use Rattle.std.specs.Prelude.{ℕ, ◌≤◌, ◌<◌, List, [], ◌∷◌, Bool, true, false, not, ◌||◌, ◌≡◌, leb, Result}
 use Rattle.std.proofs.Math.Path.{refl}
-use Rattle.std.proofs.Common.{sym, ap, ◌∙◌, mul-le-mul_right, arith}
-use Rattle.model.specs.Limits.{most_emitters, block_numbers, most_tracers}
-use Rattle.model.specs.Basic.{part, every}
+use Rattle.std.proofs.Common.{sym, ap, ◌∙◌}
+use Rattle.model.specs.Limits.{total_limit, most_emitters}
+use Rattle.model.specs.Basic.{every}
 use Rattle.model.specs.World.{World, world_cells, block, gas_total}
 use Rattle.model.specs.Emitters.{standing, emitter_cell, kept_units, has_id, record_fits}
 use Rattle.model.specs.Step.{Call, Place, place, absent, no_room, broken_record, meaning, first_of, own_places, lent_fits, refusal, add_emitter, remove_emitter, tick, units_a_tick}
-use Rattle.model.proofs.Laws.Basic.{every_at, length_part}
+use Rattle.model.proofs.Laws.Basic.{every_at}
 use Rattle.model.proofs.Laws.Grid.{in_range_lem}
 use Rattle.model.proofs.Laws.Step.{Fits, passes, stops}
-use Rattle.units.specs.declared.Answer.{Answer}
-use Rattle.units.specs.Answer.{number_of, Agrees}
+use Rattle.units.specs.declared.Refusal.{Refusal}
+use Rattle.books.specs.Lent.{BlockThere, block_there}
 use Rattle.ledger.specs.Block.{Kept, record_kept}
-use Rattle.units.specs.Lent.{part_lent}
 use Rattle.places.specs.declared.Lent.TheVariants.{Nothing}
-use Rattle.places.specs.declared.Tested.{Tested}
-use Rattle.places.specs.declared.Placed.{Placed}
 use Rattle.places.specs.Walk.{Left, IsPlaced}
-use Rattle.places.specs.Tested.{Passed, IsTested}
+use Rattle.places.specs.Tested.{Passed}
+use Rattle.emitters.specs.declared.EmitterPlace.{EmitterPlace}
 
 -- ---- the calls that are refused first where tracer t is absent or a record broken, and then by the places `rest`
 pub record Names (w : World) (t : ℕ) (call : Call) (rest : List Place) : Type 0 where
@@ -31,41 +29,46 @@ pub record Names (w : World) (t : ℕ) (call : Call) (rest : List Place) : Type 
 abbrev pub named : ℕ → List Place
 named t = absent t (λ g. g.N) ∷ broken_record ∷ []
 
-module _ {w : World} {t : ℕ} {tested : Tested} where
-  pub names_left : Passed w Nothing tested → Left w (Names w t) (named t)
+module _ {w : World} {t : ℕ} where
+  pub names_left : {totals : List ℕ} → Passed w Nothing totals → Left w (Names w t) (named t)
   names_left passed =
       record { is = λ call rest names. passed.left.is call (own_places call) (record { fit = names.lent; limiters = names.limiters; books = names.books; own = refl }) ∙ names.places }
 
-  -- refused by the places before its own
-  pub names_refused : {answer : Answer} {Found : Type 0} → IsTested w Nothing tested → (number_of tested.answer ≡ 0 → ⊥) →
-      answer ≡ tested.answer → IsPlaced w (Names w t) answer Found
-  names_refused is refused same =
-      record {
-        refused = λ _ call rest names. rw same (is.refused refused call (own_places call) (record { fit = names.lent; limiters = names.limiters; books = names.books; own = refl }));
-        found = λ z. absurd (refused (rw same at z));
-      }
-
--- ---- what is found
-pub record EmittersFound (w : World) (t : ℕ) (p : Placed) : Type 0 where
+-- ---- what is found: the tracer's block, with a record that fits, and the tracer's total
+pub record EmittersFound (w : World) (t : ℕ) (p : EmitterPlace) : Type 0 where
   pub left : Left w (Names w t) []
   pub fits : Fits w
   pub there : t < w.grid.N
-  pub start : p.first ≡ t * block_numbers
-  pub record_fits_lem : record_fits (world_cells w.grid) (block w t) ≡ true
-  pub total : p.found ≡ gas_total w t
+  pub there_block : BlockThere w.ledger t
+  pub is : p.block ≡ block w t
+  pub kept : Kept p.block
+  pub cells : (i : ℕ) → i < standing p.block → emitter_cell p.block i < world_cells w.grid
+  pub total : p.total ≡ gas_total w t
+  pub limit : p.total ≤ total_limit
 
-abbrev pub IsEmitterPlace : World → ℕ → Placed → Type 0
-IsEmitterPlace w t p = IsPlaced w (Names w t) p.answer (EmittersFound w t p)
+abbrev pub IsEmitterPlace : World → ℕ → Result EmitterPlace Refusal → Type 0
+IsEmitterPlace w t = IsPlaced w (Names w t) (EmittersFound w t)
 
 -- the records' test, with the code's number of cells
 pub records_test : (w : World) {cells : ℕ} {r : Bool} → cells ≡ world_cells w.grid →
     r ≡ every w.grid.N (λ t. record_fits cells (block w t)) → r ≡ every w.grid.N (λ t. record_fits (world_cells w.grid) (block w t))
 records_test w {cells} same is = is ∙ ap (λ (c : ℕ). every w.grid.N (λ t. record_fits c (block w t))) same
 
-pub emitters_found : {w : World} {t : ℕ} {p : Placed} → Left w (Names w t) [] → Fits w → t < w.grid.N →
-    every w.grid.N (λ t. record_fits (world_cells w.grid) (block w t)) ≡ true → p.first ≡ t * block_numbers → p.found ≡ gas_total w t → EmittersFound w t p
-emitters_found {w} {t} left fits there all start total =
-    record { left = left; fits = fits; there = there; start = start; record_fits_lem = every_at _ _ all t there; total = total }
+pub emitters_found : {w : World} {t : ℕ} {p : EmitterPlace} → Left w (Names w t) [] → Fits w → t < w.grid.N →
+    every w.grid.N (λ t. record_fits (world_cells w.grid) (block w t)) ≡ true → p.block ≡ block w t → p.total ≡ gas_total w t → EmittersFound w t p
+emitters_found {w} {t} left fits there all is total =
+    let tested = record_kept (world_cells w.grid) (block w t) (every_at _ _ all t there) in
+    record {
+      left = left;
+      fits = fits;
+      there = there;
+      there_block = block_there w.ledger fits.ledger_length (in_range_lem w.grid fits.grid).high_n there;
+      is = is;
+      kept = rw is tested.0;
+      cells = rw is tested.1;
+      total = total;
+      limit = rw total (fits.totals t there);
+    }
 
 -- ---- the calls that `emitter_place` serves, each with the places that it has behind these
 abbrev pub no_place : ℕ → ℕ → Place
@@ -115,30 +118,6 @@ module _ {w : World} {t : ℕ} where
   unfolding own_places
   units_names = record { lent = refl; limiters = refl; books = refl; places = refl }
 
--- refused by what all of them test
-pub place_refuses : {w : World} {t : ℕ} {call : Call} {rest : List Place} {p : Placed} → IsEmitterPlace w t p → (number_of p.answer ≡ 0 → ⊥) →
-    Names w t call rest → Agrees w call p.answer w
-place_refuses {call = call} {rest = rest} is refused names = is.refused refused call rest names
-
--- ---- the block that is lent, as `&ledger[a..e]`
-module _ {w : World} {t : ℕ} {p : Placed} (found : EmittersFound w t p) where
-  pub places_left : {call : Call} {rest : List Place} → Names w t call rest → refusal w call ≡ first_of rest w
-  places_left {call} {rest} names = found.left.is call rest names
-
-  pub block_inside : (p.first + block_numbers ≤ length w.ledger) × (p.first + block_numbers ≤ most_tracers * block_numbers)
-  block_inside =
-      let below : suc t * block_numbers ≤ w.grid.N * block_numbers = mul-le-mul_right block_numbers found.there in (
-        omega (arith, found.start, found.fits.ledger_length),
-        omega (arith, found.start, (in_range_lem w.grid found.fits.grid).high_n),
-      )
-
-  pub block_lent : part w.ledger p.first (p.first + block_numbers - p.first) ≡ block w t
-  block_lent = part_lent w.ledger p.first block_numbers ∙ ap (λ (i : ℕ). part w.ledger i block_numbers) found.start
-
-  pub block_long : length (block w t) ≡ block_numbers
-  block_long =
-      length_part w.ledger (t * block_numbers) block_numbers
-      (omega (arith, found.fits.ledger_length, mul-le-mul_right block_numbers found.there))
-
-  pub block_kept : Kept (block w t) × ((i : ℕ) → i < standing (block w t) → emitter_cell (block w t) i < world_cells w.grid)
-  block_kept = record_kept (world_cells w.grid) (block w t) block_long found.record_fits_lem
+-- the places that are left to a call
+pub places_left : {w : World} {t : ℕ} {p : EmitterPlace} → EmittersFound w t p → {call : Call} {rest : List Place} → Names w t call rest → refusal w call ≡ first_of rest w
+places_left found {call} {rest} names = found.left.is call rest names

@@ -1,47 +1,47 @@
-// The calls on a tracer's standing emitters: one is added or removed, all of them emit in a tick, their units a tick are read.
+// The calls on a tracer's standing emitters: one is added or removed, all of them emit in a tick, their units a tick are read. Each takes the grid and the lent buffers one by one, as its C function does, so that its signature says which of them it writes.
 #![tactic(auto)]
 
-ghost use Rattle.std.specs.Prelude.{◌≡◌, ◌+◌, ◌≤◌, ◌<◌, length, set};
-ghost use Rattle.model.specs.Basic.{at};
+ghost use Rattle.std.specs.Prelude.{◌≡◌};
 ghost use Rattle.model.specs.Emitters.{standing, ticked};
 ghost use Rattle.model.specs.Step.{add_emitter, remove_emitter, tick as tick_call, units_a_tick};
-ghost use Rattle.units.specs.Grid.{world_of};
-ghost use Rattle.units.specs.Answer.{Agrees, AgreesWide};
+ghost use Rattle.units.specs.Grid.{world_of, world_in};
+ghost use Rattle.units.specs.Answer.{Agrees};
 ghost use Rattle.emitters.specs.Place.{IsEmitterPlace};
 ghost use Rattle.emitters.specs.Tick.{EmitNeed};
-ghost use Rattle.emitters.specs.Reading.{widened};
 
 use books::{emission_fits, enter_emitted};
-use ledger::{add, kept_units, place_of, records_fit, remove, standing_in, takes};
-use places::{Lent, Placed, common_places, not_placed};
-use units::{Answer, Grid, LEDGER_BLOCK, MOST_EMITTERS, Refusal, WideAnswer, number, world_cells};
+use ledger::{
+    Emitter, add, emitter_at, kept_units, place_of, records_fit, remove, standing_in, takes,
+};
+use limiters::{Block, block_at, put_block};
+use places::{Lent, common_places};
+use units::{Answer, Grid, Refusal, World, world_cells};
 
-// The places before a call's own, the named tracer and the records of all tracers: where the tracer's block starts, and the tracer's total.
-fn emitter_place(g: Grid, air: &[u32], tracers: &[u32], ledger: &[u32], tracer: u32) -> Placed
-    ensures { IsEmitterPlace (world_of g air.now tracers.now ledger.now) tracer result }
+// A tracer's block, whose record fits the world, and the tracer's total.
+#[derive(Clone, Copy)]
+struct EmitterPlace {
+    block: Block,
+    total: u64,
+}
+
+// The places before a call's own, the named tracer and the records of all tracers.
+fn emitter_place(w: World, tracer: u32) -> Answer<EmitterPlace>
+    ensures { IsEmitterPlace (world_in w.entry) tracer result }
 {
-    let tested = common_places(g, air, tracers, ledger, Lent::Nothing);
-    let answer = tested.answer;
-    if number(answer) == 0 {} else {
-        return not_placed(answer);
-    }
-    if tracer < g.n {} else {
-        return not_placed(Answer::Refused(Refusal::Index));
+    let totals = common_places(w, Lent::Nothing)?;
+    if tracer >= w.grid.n {
+        return Err(Refusal::Index);
     }
     let t = tracer as usize;
-    let n = g.n as usize;
-    let cells = world_cells(g) as usize;
-    if records_fit(ledger, n, cells) {} else {
-        return not_placed(Answer::Refused(Refusal::Index));
+    let n = w.grid.n as usize;
+    let cells = world_cells(w.grid) as usize;
+    if !records_fit(w.ledger, n, cells) {
+        return Err(Refusal::Index);
     }
-    let first = t * LEDGER_BLOCK;
-    let sums = tested.totals;
-    let total = sums[t];
-    Placed {
-        answer: Answer::Accepted(0),
-        first,
-        found: total,
-    }
+    Ok(EmitterPlace {
+        block: *block_at(w.ledger, t),
+        total: totals[t],
+    })
 }
 
 // Adds an emitter to a tracer, under an id that it has not.
@@ -57,21 +57,23 @@ pub fn add_emitter(
 ) -> Answer
     ensures { Agrees (world_of g air.now tracers.now ledger.old) (add_emitter tracer cell id units) result (world_of g air.now tracers.now ledger.new) }
 {
-    let place = emitter_place(g, air, tracers, ledger, tracer);
-    let answer = place.answer;
-    if number(answer) == 0 {} else {
-        return answer;
+    let w = World {
+        grid: g,
+        air,
+        tracers,
+        ledger,
+    };
+    let place = emitter_place(w, tracer)?;
+    if cell >= world_cells(g) {
+        return Err(Refusal::Index);
     }
-    if cell < world_cells(g) {} else {
-        return Answer::Refused(Refusal::Index);
+    let mut block = place.block;
+    if !takes(&block, id) {
+        return Err(Refusal::EmitterAdded);
     }
-    let a = place.first;
-    let e = a + LEDGER_BLOCK;
-    if takes(&ledger[a..e], id) {} else {
-        return Answer::Refused(Refusal::EmitterAdded);
-    }
-    add(&mut ledger[a..e], id, cell, units);
-    Answer::Accepted(0)
+    add(&mut block, Emitter { id, cell, units });
+    put_block(ledger, tracer as usize, &block);
+    Ok(0)
 }
 
 // Removes the emitter of that id from a tracer.
@@ -85,41 +87,30 @@ pub fn remove_emitter(
 ) -> Answer
     ensures { Agrees (world_of g air.now tracers.now ledger.old) (remove_emitter tracer id) result (world_of g air.now tracers.now ledger.new) }
 {
-    let place = emitter_place(g, air, tracers, ledger, tracer);
-    let answer = place.answer;
-    if number(answer) == 0 {} else {
-        return answer;
-    }
-    let a = place.first;
-    let e = a + LEDGER_BLOCK;
-    let i = place_of(&ledger[a..e], id);
-    if i < MOST_EMITTERS {} else {
-        return Answer::Refused(Refusal::EmitterAbsent);
-    }
-    remove(&mut ledger[a..e], i);
-    Answer::Accepted(0)
-}
-
-// Adds units to a cell's amount.
-fn emit_one(gas: &mut [u32], cell: usize, units: u32)
-    requires { (cell < length gas.old) × (at gas.old cell + units ≤ 4294967295) }
-    ensures { gas.new ≡ set gas.old cell (at gas.old cell + units) }
-{
-    gas[cell] = gas[cell] + units;
+    let w = World {
+        grid: g,
+        air,
+        tracers,
+        ledger,
+    };
+    let place = emitter_place(w, tracer)?;
+    let mut block = place.block;
+    let Some(i) = place_of(&block, id) else {
+        return Err(Refusal::EmitterAbsent);
+    };
+    remove(&mut block, i);
+    put_block(ledger, tracer as usize, &block);
+    Ok(0)
 }
 
 // Emits the units of every standing emitter.
-fn emit(gas: &mut [u32], block: &[u32])
+fn emit(gas: &mut [u32], block: &Block)
     requires { EmitNeed block.now gas.old }
     ensures { gas.new ≡ ticked block.now (standing block.now) gas.old }
 {
-    let n = standing_in(block);
-    let mut i = 0;
-    while i < n {
-        let cell = block[4 + 3 * i] as usize;
-        let units = block[5 + 3 * i];
-        emit_one(gas, cell, units);
-        i += 1;
+    for i in 0..standing_in(block) {
+        let emitter = emitter_at(block, i);
+        gas[emitter.cell as usize] += emitter.units;
     }
 }
 
@@ -127,36 +118,26 @@ fn emit(gas: &mut [u32], block: &[u32])
 pub fn tick(g: Grid, air: &[u32], tracers: &mut [u32], ledger: &mut [u32], tracer: u32) -> Answer
     ensures { Agrees (world_of g air.now tracers.old ledger.old) (tick_call tracer) result (world_of g air.now tracers.new ledger.new) }
 {
-    let place = emitter_place(g, air, tracers, ledger, tracer);
-    let answer = place.answer;
-    if number(answer) == 0 {} else {
-        return answer;
+    let w = World {
+        grid: g,
+        air,
+        tracers,
+        ledger,
+    };
+    let place = emitter_place(w, tracer)?;
+    let mut block = place.block;
+    let kept = kept_units(&block);
+    if !emission_fits(&block, place.total, kept) {
+        return Err(Refusal::Emission);
     }
-    let a = place.first;
-    let e = a + LEDGER_BLOCK;
-    let kept = kept_units(&ledger[a..e]);
-    if emission_fits(&ledger[a..e], place.found, kept) {} else {
-        return Answer::Refused(Refusal::Emission);
-    }
+    let t = tracer as usize;
     let cells = world_cells(g) as usize;
-    let start = (tracer as usize) * cells;
-    let end = start + cells;
-    emit(&mut tracers[start..end], &ledger[a..e]);
-    enter_emitted(&mut ledger[a..e], kept as u32);
-    Answer::Accepted(0)
-}
-
-// An answer as one of 64 bits.
-fn widen(a: Answer) -> WideAnswer
-    ensures { result ≡ widened a }
-{
-    match a {
-        Answer::Accepted(n) => {
-            let count = n as u64;
-            WideAnswer::Accepted(count)
-        }
-        Answer::Refused(r) => WideAnswer::Refused(r),
-    }
+    let a = t * cells;
+    let e = a + cells;
+    emit(&mut tracers[a..e], &block);
+    enter_emitted(&mut block, kept as u32);
+    put_block(ledger, t, &block);
+    Ok(0)
 }
 
 // A tracer's units a tick.
@@ -166,16 +147,15 @@ pub fn units_a_tick(
     tracers: &[u32],
     ledger: &[u32],
     tracer: u32,
-) -> WideAnswer
-    ensures { AgreesWide (world_of g air.now tracers.now ledger.now) (units_a_tick tracer) result (world_of g air.now tracers.now ledger.now) }
+) -> Answer<u64>
+    ensures { Agrees (world_of g air.now tracers.now ledger.now) (units_a_tick tracer) result (world_of g air.now tracers.now ledger.now) }
 {
-    let place = emitter_place(g, air, tracers, ledger, tracer);
-    let answer = place.answer;
-    if number(answer) == 0 {} else {
-        return widen(answer);
-    }
-    let a = place.first;
-    let e = a + LEDGER_BLOCK;
-    let kept = kept_units(&ledger[a..e]);
-    WideAnswer::Accepted(kept)
+    let w = World {
+        grid: g,
+        air,
+        tracers,
+        ledger,
+    };
+    let place = emitter_place(w, tracer)?;
+    Ok(kept_units(&place.block))
 }

@@ -37,9 +37,9 @@ impl Shape {
 }
 
 // What passes the w faces of a cap, from face `first` on, in one direction.
-fn cap<Of: Copy>(side: &[u32], first: usize, w: usize) -> Sum<Of>
+fn cap<const KIND: u8>(side: &[u32], first: usize, w: usize) -> Sum<KIND>
     requires { CapFaces (length side.now) first w }
-    ensures { IsSum side.now first w result.units }
+    ensures { IsSum side.now first w result.0 }
 {
     let mut total = Sum::new(0);
     for x in &side[first..first + w] {
@@ -50,9 +50,9 @@ fn cap<Of: Copy>(side: &[u32], first: usize, w: usize) -> Sum<Of>
 }
 
 // What passes the two faces of cell 1 + j, face j as in the first list and face w + j as in the second.
-fn across<Of: Copy>(low: &[u32], high: &[u32], w: usize, j: usize) -> Sum<Of>
+fn across<const KIND: u8>(low: &[u32], high: &[u32], w: usize, j: usize) -> Sum<KIND>
     requires { (j < length low.now) × (w + j < length high.now) }
-    ensures { (result.units ≡ at low.now j + at high.now (w + j)) × (result.units ≤ 8589934590) }
+    ensures { (result.0 ≡ at low.now j + at high.now (w + j)) × (result.0 ≤ 8589934590) }
 {
     both(Amount::new(low[j]), Amount::new(high[w + j]))
 }
@@ -88,31 +88,31 @@ pub fn layer_allowed<const F: usize>(air: &[u32], flow: &Flow<F>, shape: Shape) 
 }
 
 // Passes on the amounts of the cells between the caps, after that of the south cap.
-fn pass_rows<Of: Copy, const F: usize>(amounts: &mut [u32], flow: &Flow<F>, shape: Shape)
+fn pass_rows<const KIND: u8, const F: usize>(amounts: &mut [u32], flow: &Flow<F>, shape: Shape)
     requires { PassingRows shape.w shape.rows F amounts.old flow.now.up flow.now.down }
     ensures { PassedRows shape.w shape.rows F amounts.old flow.now.up flow.now.down amounts.new }
 {
     for j in 0..shape.rows * shape.w {
         let c = 1 + j;
-        let enters: Sum<Of> = across(&flow.up, &flow.down, shape.w, j);
-        let leaves: Sum<Of> = across(&flow.down, &flow.up, shape.w, j);
-        amounts[c] = after(Amount::new(amounts[c]), enters, leaves).units;
+        let enters: Sum<KIND> = across(&flow.up, &flow.down, shape.w, j);
+        let leaves: Sum<KIND> = across(&flow.down, &flow.up, shape.w, j);
+        amounts[c] = after(Amount::new(amounts[c]), enters, leaves).0;
     }
 }
 
 // Passes on a layer's air by the air that passes each face, or a tracer by the pieces that it carries.
-pub fn pass_layer<Of: Copy, const F: usize>(amounts: &mut [u32], flow: &Flow<F>, shape: Shape)
+pub fn pass_layer<const KIND: u8, const F: usize>(amounts: &mut [u32], flow: &Flow<F>, shape: Shape)
     requires { Passing shape.w shape.rows F amounts.old flow.now.up flow.now.down }
     ensures { amounts.new ≡ after_flow (layer shape.w shape.rows) (flow_of flow.now.up flow.now.down) amounts.old }
 {
     let w = shape.w;
     let n = shape.rows * w;
     let north = 1 + n;
-    let south_in: Sum<Of> = cap(&flow.down, 0, w);
-    let south_out: Sum<Of> = cap(&flow.up, 0, w);
-    amounts[0] = after(Amount::new(amounts[0]), south_in, south_out).units;
-    pass_rows::<Of, F>(amounts, flow, shape);
-    let north_in: Sum<Of> = cap(&flow.up, n, w);
-    let north_out: Sum<Of> = cap(&flow.down, n, w);
-    amounts[north] = after(Amount::new(amounts[north]), north_in, north_out).units;
+    let south_in: Sum<KIND> = cap(&flow.down, 0, w);
+    let south_out: Sum<KIND> = cap(&flow.up, 0, w);
+    amounts[0] = after(Amount::new(amounts[0]), south_in, south_out).0;
+    pass_rows::<KIND, F>(amounts, flow, shape);
+    let north_in: Sum<KIND> = cap(&flow.up, n, w);
+    let north_out: Sum<KIND> = cap(&flow.down, n, w);
+    amounts[north] = after(Amount::new(amounts[north]), north_in, north_out).0;
 }

@@ -17,7 +17,7 @@ ghost use Rattle.layer_gas.specs.Gas.{GivesPiece, Step};
 
 use layer::{Shape, pass_layer};
 use substep::{Flow, fill_ratios, high_end, low_end};
-use units::{Air, Limiter, OfTracer, Tracer};
+use units::{Air, Limiter, TRACER, Tracer};
 
 // The cell south of a face, and the cell north of it, where n cells lie between the caps.
 fn south_of(w: usize, face: usize) -> usize
@@ -61,8 +61,8 @@ fn northward(
     i: usize,
     m: Air,
 ) -> Tracer
-    requires { GivesPiece shape.w shape.rows air.now gas.now q.now i (south_of shape.w i) m.units }
-    ensures { result.units ≡ high_piece (cell_mismatch (rule_for (limiter_of l)) (layer shape.w shape.rows) air.now gas.now (south_of shape.w i)) (at air.now (south_of shape.w i)) (at gas.now (south_of shape.w i)) m.units }
+    requires { GivesPiece shape.w shape.rows air.now gas.now q.now i (south_of shape.w i) m.0 }
+    ensures { result.0 ≡ high_piece (cell_mismatch (rule_for (limiter_of l)) (layer shape.w shape.rows) air.now gas.now (south_of shape.w i)) (at air.now (south_of shape.w i)) (at gas.now (south_of shape.w i)) m.0 }
 {
     let c = south_of(shape.w, i);
     let (a, b) = neighbours(shape, c);
@@ -79,8 +79,8 @@ fn southward(
     i: usize,
     m: Air,
 ) -> Tracer
-    requires { GivesPiece shape.w shape.rows air.now gas.now q.now i (north_of (shape.rows * shape.w) i) m.units }
-    ensures { result.units ≡ low_piece (cell_mismatch (rule_for (limiter_of l)) (layer shape.w shape.rows) air.now gas.now (north_of (shape.rows * shape.w) i)) (at air.now (north_of (shape.rows * shape.w) i)) (at gas.now (north_of (shape.rows * shape.w) i)) m.units }
+    requires { GivesPiece shape.w shape.rows air.now gas.now q.now i (north_of (shape.rows * shape.w) i) m.0 }
+    ensures { result.0 ≡ low_piece (cell_mismatch (rule_for (limiter_of l)) (layer shape.w shape.rows) air.now gas.now (north_of (shape.rows * shape.w) i)) (at air.now (north_of (shape.rows * shape.w) i)) (at gas.now (north_of (shape.rows * shape.w) i)) m.0 }
 {
     let c = north_of(shape.rows * shape.w, i);
     let (a, b) = neighbours(shape, c);
@@ -105,8 +105,8 @@ fn fill_pieces<const F: usize>(
         let to_south = Air::new(flow.down[i]);
         let p = northward(l, air, gas, q, shape, i, to_north);
         let r = southward(l, air, gas, q, shape, i, to_south);
-        carried.up[i] = p.units;
-        carried.down[i] = r.units;
+        carried.up[i] = p.0;
+        carried.down[i] = r.0;
     }
 }
 
@@ -125,5 +125,5 @@ pub fn step_layer_gas<const F: usize>(
 {
     fill_ratios(air, &gas[..], air.len(), q);
     fill_pieces(l, air, &gas[..], q, flow, shape, carried);
-    pass_layer::<OfTracer, F>(gas, carried, shape);
+    pass_layer::<TRACER, F>(gas, carried, shape);
 }

@@ -14,8 +14,7 @@ use Rattle.units.specs.declared.Refusal.{Refusal}
 use Rattle.places.specs.Walk.{Left, IsPlaced, Like}
 use Rattle.units.specs.Lent.{part_lent}
 use Rattle.row_place.specs.RowPlace.{SweepsRow, RowIn, lent_row, length_lent, row_lent}
-use Rattle.line.specs.Line.{AirNeed}
-use Rattle.long_row.specs.Air.{LongNeed, air_need}
+use Rattle.long_row.specs.Air.{LongNeed}
 
 -- the places behind those of both sweeps: a flux above the row's air, and air afterwards out of range
 abbrev pub from_air : ℕ → ℕ → List ℤ → List Place
@@ -36,9 +35,6 @@ module _ {w : World} {fluxes : List ℤ} {first : ℕ} (row : RowIn w fluxes fir
 
   lent_wide : length (lent_row w first) ≤ most_columns
   lent_wide = rw (length_lent row) (in_range_lem w.grid row.fits.grid).high_w
-
-  pub lent_need : AirNeed (length (lent_row w first)) (lent_row w first)
-  lent_need = air_need lent_wide lent_in
 
   -- where the cells are row r of layer k
   module _ (k r : ℕ) (start : first ≡ row_start w.grid k r) where

@@ -21,9 +21,9 @@ use units::{Air, Answer, Grid, Refusal, World, world_cells};
 // The row's air.
 fn row_air(air: &[u32]) -> Air
     requires { AirNeed (length air.now) air.now }
-    ensures { result.units ≡ air_above air.now (length air.now) }
+    ensures { result.0 ≡ air_above air.now (length air.now) }
 {
-    Air::new(air_sum(air, air.len()).units as u32)
+    Air::new(air_sum(air, air.len()).0 as u32)
 }
 
 // Places 1 to 4, 21, 5, 8, 16 and 17, and then where the row starts.
@@ -55,14 +55,19 @@ fn sweep_row(
     ensures { IsSwept (grid_of g) tracers.old ledger.now air.old first fluxes.now air.new tracers.new }
 {
     let cells = world_cells(g) as usize;
-    let mut e = [0; MOST_DEPARTURES];
-    fill_departures(air, fluxes, &mut e);
+    let mut departures = [0; MOST_DEPARTURES];
+    fill_departures(air, fluxes, &mut departures);
     for t in 0..g.n as usize {
         let a = t * cells + first;
         let end = a + air.len();
-        move_gas(limiter_at(ledger, t), &mut tracers[a..end], air, &e);
+        move_gas(
+            limiter_at(ledger, t),
+            &mut tracers[a..end],
+            air,
+            &departures,
+        );
     }
-    move_air(&e, air);
+    move_air(&departures, air);
 }
 
 // Sweeps one row in one layer without substeps, in the air and in all tracers.

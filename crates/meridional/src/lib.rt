@@ -16,7 +16,7 @@ use limiters::limiter_at;
 use places::{Lent, common_places, fluxes_fit};
 use substep::{Flow, fill_parts};
 use units::{
-    Air, Answer, Grid, MERIDIONAL_LIMIT, MOST_FACES, MOST_LAYER_CELLS, OfAir, Refusal, World,
+    Air, Answer, Grid, MERIDIONAL_LIMIT, MOST_FACES, MOST_LAYER_CELLS, AIR, Refusal, World,
     layer_cells, layer_start, world_cells,
 };
 
@@ -108,6 +108,6 @@ pub fn meridional(
     let a = layer_place(w, layer, fluxes, &mut flow)?;
     let e = a + layer_cells(g) as usize;
     sweep_tracers(g, tracers, ledger, &air[a..e], &flow, a);
-    pass_layer::<OfAir, MOST_FACES>(&mut air[a..e], &flow, Shape::of(g));
+    pass_layer::<AIR, MOST_FACES>(&mut air[a..e], &flow, Shape::of(g));
     Ok(1)
 }

@@ -1,28 +1,14 @@
 -- `emitters::remove_emitter` meets its contract: one emitter fewer in the block that `emitter_place` found.
-use Rattle.std.proofs.Common.{sym, ◌∙◌}
-use Rattle.emitters.specs.Place.{remove_names, place_refuses, block_lent, block_long, block_kept}
-use Rattle.emitters.specs.Entered.{remove_refused, remove_need, remove_agrees}
+use Rattle.places.specs.Walk.{hands_on}
+use Rattle.emitters.specs.Place.{remove_names}
+use Rattle.emitters.specs.Entered.{remove_refused, remove_agrees}
 use Rattle.emitters.proofs.remove_emitter.Goals as goal
 
-pub returns-else-number-eq0 : goal.returns-else-number-eq0
-returns-else-number-eq0 c = place_refuses c.emitter_place-place.ensures (λ z. c.if-number-eq0.false (c.number.ensures ∙ z)) remove_names
+pub returns-in_err-place : goal.returns-in_err-place
+returns-in_err-place c = hands_on c.from_residual.ensures.1 c.in_err-place.ensures remove_names
 
-pub place_of-i-requires : goal.place_of-i-requires
-place_of-i-requires c =
-    let found = c.emitter_place-place.ensures.found (sym c.number.ensures ∙ c.if-number-eq0.true) in
-    rw (block_lent found) (block_long found, (block_kept found).0.few)
-
-pub returns-else-i-lt-MOST_EMITTERS : goal.returns-else-i-lt-MOST_EMITTERS
-returns-else-i-lt-MOST_EMITTERS c =
-    let found = c.emitter_place-place.ensures.found (sym c.number.ensures ∙ c.if-number-eq0.true) in
-    remove_refused found c.place_of-i.ensures c.if-i-lt-MOST_EMITTERS.false
-
-pub remove-requires : goal.remove-requires
-remove-requires c =
-    let found = c.emitter_place-place.ensures.found (sym c.number.ensures ∙ c.if-number-eq0.true) in
-    remove_need found c.place_of-i.ensures c.if-i-lt-MOST_EMITTERS.true
+pub returns-in_default : goal.returns-in_default
+returns-in_default c = remove_refused c.in_ok-place.ensures c.in_default.ensures
 
 pub returns : goal.returns
-returns c =
-    let found = c.emitter_place-place.ensures.found (sym c.number.ensures ∙ c.if-number-eq0.true) in
-    remove_agrees found c.place_of-i.ensures c.if-i-lt-MOST_EMITTERS.true c.remove.ensures
+returns c = rw (c.put_block.ensures, c.remove.ensures) (remove_agrees c.in_ok-place.ensures c.in-Some.ensures)

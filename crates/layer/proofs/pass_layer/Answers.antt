@@ -6,12 +6,12 @@ use Rattle.layer.proofs.pass_layer.Goals as goal
 use Rattle.layer.proofs.pass_layer.Goals.{After-after}
 
 pub after-requires : goal.after-requires
-after-requires g c = rw c.new.ensures (south_exchange c.requires c.cap-south_in.ensures c.cap-south_out.ensures)
+after-requires g c = (search rules, (search rules, rw c.new.ensures (south_exchange c.requires c.cap-south_in.ensures c.cap-south_out.ensures)))
 
 -- the amounts once the south cap's is passed on
 abbrev begun :
     (g : given.Over) (c : After-after g) →
-    PassingRows c.args.shape.w c.args.shape.rows g.row.F (set c.args.amounts.now 0 c.after.result.units) c.args.flow.now.up c.args.flow.now.down
+    PassingRows c.args.shape.w c.args.shape.rows g.row.F (set c.args.amounts.now 0 c.after.result.0) c.args.flow.now.up c.args.flow.now.down
 begun g c = south_begun c.requires c.cap-south_in.ensures c.cap-south_out.ensures (rw c.new.ensures at c.after.ensures)
 
 pub pass_rows-requires : goal.pass_rows-requires
@@ -19,7 +19,7 @@ pass_rows-requires g c = (search rules, begun g (goal.at.pass_rows-requires g c)
 
 pub after-requires-2 : goal.after-requires-2
 after-requires-2 g c =
-    rw c.new-2.ensures (north_exchange (begun g (goal.at.after-requires-2 g c).After-after) c.pass_rows.ensures c.cap-north_in.ensures c.cap-north_out.ensures)
+    (search rules, (search rules, rw c.new-2.ensures (north_exchange (begun g (goal.at.after-requires-2 g c).After-after) c.pass_rows.ensures c.cap-north_in.ensures c.cap-north_out.ensures)))
 
 pub returns : goal.returns
 returns g c =
