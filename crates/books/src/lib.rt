@@ -44,7 +44,7 @@ pub fn withdrawal_fits(block: &Block, had: u32, amount: u32) -> bool
     (amount <= had) & (withdrawn + u64::from(amount) <= SUM_LIMIT)
 }
 
-// Enters so many units emitted; and withdrawn.
+// Enters so many units emitted; and withdrawn. Two functions, so that a call names the entry that it makes: with the place as a parameter each call could name a place that is no entry.
 pub fn enter_emitted(block: &mut Block, units: u32)
     requires { emitted_sum block.old + units ≤ sum_limit }
     ensures { block.new ≡ entered block.old units 0 }

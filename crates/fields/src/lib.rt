@@ -9,7 +9,7 @@ ghost use Rattle.fields.specs.Field.{grid_at, IsAmount};
 
 use units::Grid;
 
-// The byte `at` of some bytes, and the number that 2 or 4 of them from there on hold, the low byte first.
+// The byte `at` of some bytes, and the number that 2 or 4 of them from there on hold, the low byte first: std has a conversion for each size, and no generic one.
 pub fn number_1(bytes: &[u8], at: usize) -> u32
     requires { at < length bytes.now }
     ensures { (result ≡ byte_at bytes.now at) × (result < 256) }

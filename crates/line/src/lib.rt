@@ -128,7 +128,7 @@ impl Place {
 }
 
 // Walks on along the n cells once, from the first, until the last edge or the last cell is passed.
-// A step passes cell c, or the high edge of new cell j where that is reached first. Where the edge is the cell's end, the piece is the whole cell, without a division.
+// A step passes cell c, or the high edge of new cell j where that is reached first, so that no range counts the steps. Where the edge is the cell's end, the piece is the whole cell, without a division.
 fn walk_turn(
     air: &[u32],
     gas: &[u32],
@@ -180,7 +180,7 @@ pub struct Walked {
 }
 
 // A tracer's amounts between m + 1 edges on the line that n cells make, laid one after the other: cell i of the line is cell i mod n.
-// The walk goes along the line once, turn after turn; a column has one.
+// The walk goes along the line once, turn after turn, until the last edge is passed; a column has one turn, and a row's turns are not known before.
 pub fn tracer_between(
     air: &[u32],
     gas: &[u32],

@@ -1,5 +1,5 @@
 // The long zonal sweep of one row in one layer: a sweep without substeps.
-// The call takes the grid and each lent buffer as a parameter of its own, as the C interface does: its signature says which buffers it writes.
+// The call and `sweep_row` take the grid and each lent buffer as a parameter of its own, as the C interface does: their signatures say which buffers they write.
 #![tactic(auto)]
 
 ghost use Rattle.std.specs.Prelude.{◌≡◌, length};
@@ -59,13 +59,8 @@ fn sweep_row(
     fill_departures(air, fluxes, &mut departures);
     for t in 0..g.n as usize {
         let a = t * cells + first;
-        let end = a + air.len();
-        move_gas(
-            limiter_at(ledger, t),
-            &mut tracers[a..end],
-            air,
-            &departures,
-        );
+        let row = &mut tracers[a..a + air.len()];
+        move_gas(limiter_at(ledger, t), row, air, &departures);
     }
     move_air(&departures, air);
 }

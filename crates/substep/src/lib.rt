@@ -76,7 +76,7 @@ pub fn high_end(
     high_piece(mismatch(l, q[a], q[c], q[b]), have, amount, m)
 }
 
-// The same from its low end.
+// The same from its low end: a function of its own, since the documents have two pieces, and one with the piece as a parameter would say neither.
 pub fn low_end(
     l: Limiter,
     air: &[u32],
@@ -117,7 +117,11 @@ pub fn cell_allows(have: Air, enters: AirSum, leaves: AirSum) -> bool
 }
 
 // A cell's amount with what enters it and without what leaves it.
-pub fn after<const KIND: u8>(have: Amount<KIND>, enters: Sum<KIND>, leaves: Sum<KIND>) -> Amount<KIND>
+pub fn after<const KIND: u8>(
+    have: Amount<KIND>,
+    enters: Sum<KIND>,
+    leaves: Sum<KIND>,
+) -> Amount<KIND>
     requires { CellFlows have.0 enters.0 leaves.0 }
     ensures { result.0 ≡ have.entry.0 + enters.entry.0 - leaves.entry.0 }
 {

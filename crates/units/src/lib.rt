@@ -8,7 +8,6 @@ ghost use Rattle.model.specs.Step.{grid_fits};
 ghost use Rattle.units.specs.Grid.{grid_of, InRange, LayerThere, RowThere};
 ghost use Rattle.units.specs.Answer.{refusal_number, number_of, count_of};
 
-
 // The limits that the code needs, each once. Contracts tie them to the model's (crates/model/specs/Limits.antt).
 pub const SCALE: u64 = 262144; // of ratio, mismatch and piece
 
@@ -50,7 +49,8 @@ pub const LIMITER_PLACE: usize = 51; // where its limiter stands in them
 
 pub const BOOK_PLACE: usize = 56; // and its book: loaded, emitted, withdrawn
 
-pub const PRESENT_LIMITER: u32 = 1; // a limiter's number, as set_limiter takes it
+// A limiter's number, as set_limiter takes it. Numbers and no enum: C may lend a ledger with any number there, and `limiters::limiter_at` gives it as it is.
+pub const PRESENT_LIMITER: u32 = 1;
 
 pub const POSITIVE_LIMITER: u32 = 2;
 
@@ -113,7 +113,7 @@ impl<const KIND: u8> Sum<KIND> {
     }
 }
 
-// A mismatch as its size and its sign.
+// A mismatch as its size and its sign, the two in which document 01 takes a piece: a signed number would be taken apart into them in each of its products.
 #[derive(Clone, Copy)]
 pub struct Mismatch {
     pub size: u64,

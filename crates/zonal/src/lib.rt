@@ -1,5 +1,5 @@
 // The zonal sweep of one row in one layer; the count before the sweep, and the sweep with a given count.
-// A call takes the grid and each lent buffer as a parameter of its own, as the C interface does: its signature says which buffers it writes.
+// The calls and `sweep_row` take the grid and each lent buffer as a parameter of its own, as the C interface does: their signatures say which buffers they write.
 #![tactic(auto)]
 
 ghost use Rattle.model.specs.Step.{zonal as zonal_call, count_zonal, zonal_with_count};

@@ -13,9 +13,9 @@ need c = rows_need c.requires c.fill_departures.ensures c.world_cells-cells.ensu
 pub loop-t-init : goal.loop-t-init
 loop-t-init c = changed_none (rows_change (need (goal.at.loop-t-init c).After-fill_departures))
 
-pub slice_bounds-move_gas-end : goal.slice_bounds-move_gas-end
-slice_bounds-move_gas-end c =
-    let room = row_room (need (goal.at.slice_bounds-move_gas-end c).After-fill_departures) c.loop-t-test.true in
+pub slice_bounds-row-end : goal.slice_bounds-row-end
+slice_bounds-row-end c =
+    let room = row_room (need (goal.at.slice_bounds-row-end c).After-fill_departures) c.loop-t-test.true in
     omega (arith, room.0, c.loop-t.auto.tracers)
 
 pub move_gas-requires : goal.move_gas-requires
