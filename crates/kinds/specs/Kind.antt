@@ -1,6 +1,8 @@
 -- The code's kinds as the model's.
-use Rattle.std.specs.Prelude.{Option, None, Some}
+use Rattle.std.specs.Prelude.{ℕ, ◌≡◌, Result, Ok, Err}
 use Rattle.program.specs.Records as program
+use Rattle.stages.specs.declared.Fault.{Fault}
+use Rattle.stages.specs.declared.Fault.TheVariants as fault
 use Rattle.kinds.specs.declared.Kind as code
 use Rattle.kinds.specs.declared.Kind.TheVariants.{Grid, Load, Emission, Withdrawal, Zonal, Meridional, Remap, Total, Cell}
 
@@ -15,7 +17,7 @@ kind_is Remap = program.remap_kind
 kind_is Total = program.total_kind
 kind_is Cell = program.cell_kind
 
--- .. with none for a byte that names no kind
-abbrev pub known_or_not : Option code.Kind → program.Kind
-known_or_not None = program.unknown
-known_or_not (Some k) = kind_is k
+-- what a byte names: a kind, or none, which is a fault of the kind
+abbrev pub Names : ℕ → Result code.Kind Fault → Type 0
+Names byte (Ok k) = kind_is k ≡ program.kind_of byte
+Names byte (Err f) = (program.unknown ≡ program.kind_of byte) × (f ≡ fault.Kind)

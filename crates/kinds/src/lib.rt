@@ -2,14 +2,14 @@
 #![tactic(auto)]
 
 ghost use Rattle.std.specs.Prelude.{◌≡◌, ◌≤◌};
-ghost use Rattle.program.specs.Records.{kind_of, is_start, is_loaded, in_place, body_length};
+ghost use Rattle.program.specs.Records.{is_start, is_loaded, in_place, body_length};
 ghost use Rattle.units.specs.Grid.{grid_of};
 ghost use Rattle.stages.specs.Buffers.{empty};
 ghost use Rattle.stages.specs.Limits.{program_body};
 ghost use Rattle.stages.specs.Stage.{plain_state, SmallGrid};
-ghost use Rattle.kinds.specs.Kind.{kind_is, known_or_not};
+ghost use Rattle.kinds.specs.Kind.{kind_is, Names};
 
-use stages::{Stage, cells_of};
+use stages::{Fault, Stage, cells_of};
 use units::Grid;
 
 #[derive(Clone, Copy, PartialEq, Eq, Debug)]
@@ -25,22 +25,26 @@ pub enum Kind {
     Cell,
 }
 
-// The kind that a byte names.
-pub fn kind_of(byte: u8) -> Option<Kind>
-    ensures { known_or_not result ≡ kind_of byte }
-{
-    Some(match byte {
-        1 => Kind::Grid,
-        2 => Kind::Load,
-        3 => Kind::Emission,
-        4 => Kind::Withdrawal,
-        5 => Kind::Zonal,
-        6 => Kind::Meridional,
-        7 => Kind::Remap,
-        8 => Kind::Total,
-        9 => Kind::Cell,
-        _ => return None,
-    })
+// The kind that a byte names; a byte that names none is refused as a kind out of place is.
+impl TryFrom<u8> for Kind {
+    type Error = Fault;
+
+    ghost try_from_gives = { Names };
+
+    fn try_from(byte: u8) -> Result<Self, Fault> {
+        Ok(match byte {
+            1 => Kind::Grid,
+            2 => Kind::Load,
+            3 => Kind::Emission,
+            4 => Kind::Withdrawal,
+            5 => Kind::Zonal,
+            6 => Kind::Meridional,
+            7 => Kind::Remap,
+            8 => Kind::Total,
+            9 => Kind::Cell,
+            _ => return Err(Fault::Kind),
+        })
+    }
 }
 
 fn is_start(stage: Stage) -> bool

@@ -59,7 +59,7 @@ fn across<const KIND: u8>(low: &[u32], high: &[u32], w: usize, j: usize) -> Sum<
 
 // Whether every cell between the caps allows the substep.
 fn rows_allow<const F: usize>(air: &[u32], flow: &Flow<F>, shape: Shape) -> bool
-    requires { Fit shape.w shape.rows air.now flow.now.up flow.now.down }
+    requires { Fit shape.w shape.rows F air.now }
     ensures { result ≡ every (shape.rows * shape.w) (λ j. cell_allowed (layer shape.w shape.rows) (flow_of flow.now.up flow.now.down) air.now (1 + j)) }
 {
     let mut ok = true;
@@ -73,7 +73,7 @@ fn rows_allow<const F: usize>(air: &[u32], flow: &Flow<F>, shape: Shape) -> bool
 
 // Whether the substep is allowed: by the south cap, the rows and the north cap.
 pub fn layer_allowed<const F: usize>(air: &[u32], flow: &Flow<F>, shape: Shape) -> bool
-    requires { Fit shape.w shape.rows air.now flow.now.up flow.now.down }
+    requires { Fit shape.w shape.rows F air.now }
     ensures { result ≡ allowed (layer shape.w shape.rows) (flow_of flow.now.up flow.now.down) air.now }
 {
     let w = shape.w;
@@ -89,8 +89,8 @@ pub fn layer_allowed<const F: usize>(air: &[u32], flow: &Flow<F>, shape: Shape) 
 
 // Passes on the amounts of the cells between the caps, after that of the south cap.
 fn pass_rows<const KIND: u8, const F: usize>(amounts: &mut [u32], flow: &Flow<F>, shape: Shape)
-    requires { PassingRows shape.w shape.rows amounts.old flow.now.up flow.now.down }
-    ensures { PassedRows shape.w shape.rows amounts.old flow.now.up flow.now.down amounts.new }
+    requires { PassingRows shape.w shape.rows F amounts.old flow.now.up flow.now.down }
+    ensures { PassedRows shape.w shape.rows F amounts.old flow.now.up flow.now.down amounts.new }
 {
     for j in 0..shape.rows * shape.w {
         let c = 1 + j;
@@ -102,7 +102,7 @@ fn pass_rows<const KIND: u8, const F: usize>(amounts: &mut [u32], flow: &Flow<F>
 
 // Passes on a layer's air by the air that passes each face, or a tracer by the pieces that it carries.
 pub fn pass_layer<const KIND: u8, const F: usize>(amounts: &mut [u32], flow: &Flow<F>, shape: Shape)
-    requires { Passing shape.w shape.rows amounts.old flow.now.up flow.now.down }
+    requires { Passing shape.w shape.rows F amounts.old flow.now.up flow.now.down }
     ensures { amounts.new ≡ after_flow (layer shape.w shape.rows) (flow_of flow.now.up flow.now.down) amounts.old }
 {
     let w = shape.w;

@@ -13,12 +13,11 @@ ghost use Rattle.model.specs.Sweep.{south_of, north_of, layer, cell_mismatch, pi
 ghost use Rattle.units.specs.Limiter.{limiter_of};
 ghost use Rattle.substep.specs.Faces.{flow_of, Same, stepped};
 ghost use Rattle.substep.specs.Pieces.{AreRatios, Neighbours};
-ghost use Rattle.layer.specs.Cells.{Faces};
 ghost use Rattle.layer_gas.specs.Gas.{GivesPiece, Step};
 
 use layer::{Shape, pass_layer};
 use substep::{Flow, fill_ratios, high_end, low_end};
-use units::{Air, Limiter, OfTracer, Tracer};
+use units::{Air, Limiter, TRACER, Tracer};
 
 // The cell south of a face, and the cell north of it, where n cells lie between the caps.
 fn south_of(w: usize, face: usize) -> usize
@@ -62,15 +61,15 @@ fn northward(
     i: usize,
     m: Air,
 ) -> Tracer
-    requires { GivesPiece shape.w shape.rows air.now gas.now q.now i (south_of shape.w i) m.units }
-    ensures { result.units ≡ high_piece (cell_mismatch (rule_for (limiter_of l)) (layer shape.w shape.rows) air.now gas.now (south_of shape.w i)) (at air.now (south_of shape.w i)) (at gas.now (south_of shape.w i)) m.units }
+    requires { GivesPiece shape.w shape.rows air.now gas.now q.now i (south_of shape.w i) m.0 }
+    ensures { result.0 ≡ high_piece (cell_mismatch (rule_for (limiter_of l)) (layer shape.w shape.rows) air.now gas.now (south_of shape.w i)) (at air.now (south_of shape.w i)) (at gas.now (south_of shape.w i)) m.0 }
 {
     let c = south_of(shape.w, i);
     let (a, b) = neighbours(shape, c);
     high_end(l, air, gas, q, a, c, b, m)
 }
 
-// The same southward, from the low end of the cell north of it.
+// The same southward, from the low end of the cell north of it. Two functions, as the document has two pieces: one for both ends would answer by cases.
 fn southward(
     l: Limiter,
     air: &[u32],
@@ -80,8 +79,8 @@ fn southward(
     i: usize,
     m: Air,
 ) -> Tracer
-    requires { GivesPiece shape.w shape.rows air.now gas.now q.now i (north_of (shape.rows * shape.w) i) m.units }
-    ensures { result.units ≡ low_piece (cell_mismatch (rule_for (limiter_of l)) (layer shape.w shape.rows) air.now gas.now (north_of (shape.rows * shape.w) i)) (at air.now (north_of (shape.rows * shape.w) i)) (at gas.now (north_of (shape.rows * shape.w) i)) m.units }
+    requires { GivesPiece shape.w shape.rows air.now gas.now q.now i (north_of (shape.rows * shape.w) i) m.0 }
+    ensures { result.0 ≡ low_piece (cell_mismatch (rule_for (limiter_of l)) (layer shape.w shape.rows) air.now gas.now (north_of (shape.rows * shape.w) i)) (at air.now (north_of (shape.rows * shape.w) i)) (at gas.now (north_of (shape.rows * shape.w) i)) m.0 }
 {
     let c = north_of(shape.rows * shape.w, i);
     let (a, b) = neighbours(shape, c);
@@ -98,19 +97,16 @@ fn fill_pieces<const F: usize>(
     shape: Shape,
     carried: &mut Flow<F>,
 )
-    requires { Step shape.w shape.rows air.now gas.now flow.now.up flow.now.down q.now carried.old.up carried.old.down × AreRatios (layer shape.w shape.rows).cells air.now gas.now q.now }
-    ensures { Faces shape.w shape.rows carried.new.up carried.new.down × Same (layer shape.w shape.rows).faces (flow_of carried.new.up carried.new.down) (pieces (rule_for (limiter_of l)) (layer shape.w shape.rows) (flow_of flow.now.up flow.now.down) air.now gas.now) }
+    requires { Step shape.w shape.rows F air.now gas.now flow.now.up flow.now.down q.now × AreRatios (layer shape.w shape.rows).cells air.now gas.now q.now }
+    ensures { Same (layer shape.w shape.rows).faces (flow_of carried.new.up carried.new.down) (pieces (rule_for (limiter_of l)) (layer shape.w shape.rows) (flow_of flow.now.up flow.now.down) air.now gas.now) }
 {
-    // Slices, since the contract bounds the faces by the lists' length.
-    let up: &[u32] = &flow.up;
-    let down: &[u32] = &flow.down;
     for i in 0..shape.w + shape.rows * shape.w {
-        let to_north = Air::new(up[i]);
-        let to_south = Air::new(down[i]);
+        let to_north = Air::new(flow.up[i]);
+        let to_south = Air::new(flow.down[i]);
         let p = northward(l, air, gas, q, shape, i, to_north);
         let r = southward(l, air, gas, q, shape, i, to_south);
-        carried.up[i] = p.units;
-        carried.down[i] = r.units;
+        carried.up[i] = p.0;
+        carried.down[i] = r.0;
     }
 }
 
@@ -124,10 +120,10 @@ pub fn step_layer_gas<const F: usize>(
     q: &mut [u64],
     carried: &mut Flow<F>,
 )
-    requires { Step shape.w shape.rows air.now gas.old flow.now.up flow.now.down q.old carried.old.up carried.old.down }
+    requires { Step shape.w shape.rows F air.now gas.old flow.now.up flow.now.down q.old }
     ensures { gas.new ≡ stepped (rule_for (limiter_of l)) (layer shape.w shape.rows) (flow_of flow.now.up flow.now.down) air.now gas.old }
 {
     fill_ratios(air, &gas[..], air.len(), q);
     fill_pieces(l, air, &gas[..], q, flow, shape, carried);
-    pass_layer::<OfTracer, F>(gas, carried, shape);
+    pass_layer::<TRACER, F>(gas, carried, shape);
 }

@@ -1,5 +1,5 @@
 -- A long sweep's own places in order, and what `long_place` finds: where the row starts.
-use Rattle.std.specs.Prelude.{ℕ, ◌≤◌, List, [], ◌∷◌, true, not, ◌≡◌, refl, ℤ, length}
+use Rattle.std.specs.Prelude.{ℕ, ◌≤◌, List, [], ◌∷◌, true, not, ◌≡◌, refl, ℤ, length, Result}
 use Rattle.std.proofs.Common.{sym, ap, ap₂, ◌∙◌, arith}
 use Rattle.model.specs.Limits.{most_columns}
 use Rattle.model.specs.World.{World, world_cells, row_start}
@@ -10,8 +10,7 @@ use Rattle.model.proofs.Laws.Grid.{in_range_lem}
 use Rattle.model.proofs.Laws.LongZonal.{flux_within}
 use Rattle.model.proofs.Laws.Part.{cells_in_lem}
 use Rattle.model.proofs.Laws.Substep.{AirIn}
-use Rattle.units.specs.Answer.{count_of}
-use Rattle.places.specs.declared.Placed.{Placed}
+use Rattle.units.specs.declared.Refusal.{Refusal}
 use Rattle.places.specs.Walk.{Left, IsPlaced, Like}
 use Rattle.units.specs.Lent.{part_lent}
 use Rattle.row_place.specs.RowPlace.{SweepsRow, RowIn, lent_row, length_lent, row_lent}
@@ -61,12 +60,11 @@ module _ {w : World} {fluxes : List ℤ} {first : ℕ} (row : RowIn w fluxes fir
     fits_is = ap₂ (λ (n : ℕ) (l : List ℕ). long_air_fits n fluxes l) (length_lent row) (row_lent row k r start)
 
 -- ---- what `long_place` finds
-pub record LongFound (w : World) (k r : ℕ) (fluxes : List ℤ) (p : Placed) : Type 0 where
+pub record LongFound (w : World) (k r : ℕ) (fluxes : List ℤ) (first : ℕ) : Type 0 where
   pub left : Left w (Like w (long_zonal k r fluxes)) []
-  pub row : RowIn w fluxes p.first
-  pub start : p.first ≡ row_start w.grid k r
+  pub row : RowIn w fluxes first
+  pub start : first ≡ row_start w.grid k r
   pub within : fluxes_within fluxes (air_above (row_air w k r) w.grid.W) ≡ true
-  pub count : count_of p.answer ≡ 0
 
-abbrev pub IsLongPlace : World → ℕ → ℕ → List ℤ → Placed → Type 0
-IsLongPlace w k r fluxes p = IsPlaced w (Like w (long_zonal k r fluxes)) p.answer (LongFound w k r fluxes p)
+abbrev pub IsLongPlace : World → ℕ → ℕ → List ℤ → Result ℕ Refusal → Type 0
+IsLongPlace w k r fluxes = IsPlaced w (Like w (long_zonal k r fluxes)) (LongFound w k r fluxes)

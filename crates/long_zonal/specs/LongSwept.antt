@@ -1,47 +1,37 @@
 -- A row swept in the air and in all tracers: what the long sweep needs, and that it leaves the model's `long_swept`.
-use Rattle.std.specs.Prelude.{ℕ, ◌+◌, ◌*◌, ◌-◌, ◌≤◌, ◌<◌, ◌≡◌, ℤ}
+use Rattle.std.specs.Prelude.{ℕ, ◌+◌, ◌-◌, ◌<◌, ◌≡◌, refl, ℤ, Ok}
 use mathlib.Core.List.{List}
 use Rattle.std.proofs.Math.Path.{ap, ap₂}
 use Rattle.std.proofs.Common.{◌∙◌}
 use borrow.Rule.Slice.PartMut.{put_mid}
 use Rattle.std.proofs.Math.ListN.{length}
-use Rattle.model.specs.Limits.{total_limit, block_numbers}
-use Rattle.model.specs.Basic.{at, part, written, sum, joined, tab}
+use Rattle.model.specs.Basic.{part, written, joined, tab}
 use Rattle.model.specs.World.{Grid, World, world_cells, with_amounts}
 use Rattle.model.specs.Limiters.{rule_for}
 use Rattle.model.specs.Long.{long_air, long_gas, long_swept}
 use Rattle.model.specs.Step.{row_air, long_zonal}
 use Rattle.model.proofs.Laws.Entries.{joined_ext}
-use Rattle.model.proofs.Laws.Grid.{InRange, in_range_lem, cells_most_lem}
+use Rattle.model.proofs.Laws.Grid.{cells_most_lem}
 use Rattle.model.proofs.Laws.Long.{length_long_air}
 use Rattle.model.proofs.Laws.LongZonal.{long_sweeps}
 use Rattle.model.proofs.Laws.Substep.{AirIn}
 use Rattle.units.specs.Limiter.{limiter_at}
-use Rattle.units.specs.Answer.{number_of, Agrees}
+use Rattle.units.specs.Answer.{Agrees}
 use Rattle.units.specs.Agrees.{accepted_agrees}
-use Rattle.places.specs.declared.Placed.{Placed}
 use Rattle.places.specs.Walk.{none}
 use Rattle.units.specs.Lent.{put_back}
-use Rattle.row_place.specs.RowPlace.{lent_row, length_lent, row_lent}
+use Rattle.row_place.specs.RowPlace.{RowInTracers, row_in_tracers, gas_of, lent_row, length_lent, row_lent}
 use Rattle.long_row.specs.Air.{LongNeed, AreDepartures, DeparturesServe, air_by, air_by_is, departures_serve}
 use Rattle.long_row.specs.Gas.{gas_by_is}
 use Rattle.long_zonal.specs.LongPlace.{LongFound, long_need}
 use Rattle.long_zonal.specs.LongTracers.{RowsNeed, rows_swept}
 
--- tracer t's amounts
-abbrev gas_of : Grid → List ℕ → ℕ → List ℕ
-gas_of g tracers t = part tracers (t * world_cells g) (world_cells g)
-
 -- a row of W columns from cell `first` on, in a world of the grid's lengths, its air, and fluxes that serve
 pub record RowReady (g : Grid) (tracers ledger air : List ℕ) (first : ℕ) (fluxes : List ℤ) : Type 0 where
-  pub range : InRange g
+  pub in_tracers : RowInTracers g tracers ledger first
   pub row : LongNeed air fluxes
   pub many : length air ≡ g.W
   pub serves : AirIn (length air) (long_air (length air) fluxes air)
-  pub tracers_long : length tracers ≡ g.N * world_cells g
-  pub ledger_long : length ledger ≡ g.N * block_numbers
-  pub inside : first + g.W ≤ world_cells g
-  pub total : (t : ℕ) → t < g.N → sum (world_cells g) (at (gas_of g tracers t)) ≤ total_limit
 
 -- every tracer's amounts with its row swept
 abbrev pub swept_tracers : Grid → List ℕ → List ℕ → List ℕ → ℕ → List ℤ → List ℕ
@@ -67,12 +57,12 @@ module _
     rows_need room =
         record {
           departures = departures room;
-          few = ready.range.high_n;
-          few_cells = rw same (cells_most_lem ready.range);
-          long = rw same ready.tracers_long;
-          blocks = ready.ledger_long;
-          inside = rw (same, ready.many) ready.inside;
-          totals = rw same ready.total;
+          few = ready.in_tracers.range.high_n;
+          few_cells = rw same (cells_most_lem ready.in_tracers.range);
+          long = rw same ready.in_tracers.tracers_long;
+          blocks = ready.in_tracers.ledger_long;
+          inside = rw (same, ready.many) ready.in_tracers.inside;
+          totals = rw same ready.in_tracers.total;
         }
 
     pub all_swept :
@@ -91,35 +81,30 @@ module _
         }
 
 -- ---- the call, once its row is found
-module _ {w : World} {k r : ℕ} {fluxes : List ℤ} {p : Placed} (found : LongFound w k r fluxes p) where
+module _ {w : World} {k r : ℕ} {fluxes : List ℤ} {first : ℕ} (found : LongFound w k r fluxes first) where
   abbrev lent : List ℕ
-  lent = lent_row w p.first
+  lent = lent_row w first
 
   lent_is : lent ≡ row_air w k r
   lent_is = row_lent found.row k r found.start
 
-  pub row_ready : RowReady w.grid w.tracers w.ledger lent p.first fluxes
+  pub row_ready : RowReady w.grid w.tracers w.ledger lent first fluxes
   row_ready =
       record {
-        range = in_range_lem w.grid found.row.fits.grid;
+        in_tracers = row_in_tracers found.row;
         row = long_need found.row k r found.start found.within;
         many = length_lent found.row;
         serves = rw (length_lent found.row, lent_is) (long_sweeps k r fluxes w (none found.left)).serves.air_in;
-        tracers_long = found.row.fits.tracers_length;
-        ledger_long = found.row.fits.ledger_length;
-        inside = found.row.inside;
-        total = found.row.fits.totals;
       }
 
-  module _ {new after : List ℕ} (done : IsSwept w.grid w.tracers w.ledger lent p.first fluxes new after) where
+  module _ {new after : List ℕ} (done : IsSwept w.grid w.tracers w.ledger lent first fluxes new after) where
     pub long_agrees :
-        number_of p.answer ≡ 0 →
-        Agrees w (long_zonal k r fluxes) p.answer (with_amounts w (put_mid p.first (p.first + w.grid.W - p.first) w.air new) after)
+        Agrees w (long_zonal k r fluxes) (Ok 0) (with_amounts w (put_mid first (first + w.grid.W - first) w.air new) after)
     unfolding long_swept
-    long_agrees zero =
-        accepted_agrees (none found.left) zero found.count
+    long_agrees =
+        accepted_agrees (none found.left) refl refl
         (ap₂ (with_amounts w)
-        (put_back w.air new p.first w.grid.W (ap length done.air_is ∙ length_long_air w.grid.W fluxes lent) ∙
+        (put_back w.air new first w.grid.W (ap length done.air_is ∙ length_long_air w.grid.W fluxes lent) ∙
         ap₂ (written w.air) found.start (done.air_is ∙ ap (long_air w.grid.W fluxes) lent_is))
         (done.tracers_are ∙
         ap₂ (λ (i : ℕ) (l : List ℕ). swept_tracers w.grid w.tracers w.ledger l i fluxes) found.start lent_is))

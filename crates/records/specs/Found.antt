@@ -5,6 +5,7 @@ use Rattle.program.specs.Records as program
 use Rattle.stages.specs.Buffers.{Buffers}
 use Rattle.stages.specs.Limits.{program_body}
 use Rattle.stages.specs.declared.Fault.{Fault}
+use Rattle.stages.specs.declared.Fault.TheVariants as fault
 use Rattle.stages.specs.declared.Stage.{Stage}
 use Rattle.stages.specs.Stage.{fault_number, state_of}
 use Rattle.commands.specs.declared.Command as command
@@ -18,9 +19,9 @@ pub record NeedsBytes (stage : Stage) (byte n : ℕ) : Type 0 where
   pub few : n ≤ program_body
 
 -- the kind that a byte names, if its record is in place
-abbrev pub IsPlaced : program.State → ℕ → Option code.Kind → Type 0
-IsPlaced s byte None = program.in_place s (program.kind_of byte) ≡ false
-IsPlaced s byte (Some k) = (kind_is k ≡ program.kind_of byte) × (program.in_place s (program.kind_of byte) ≡ true)
+abbrev pub IsPlaced : program.State → ℕ → Result code.Kind Fault → Type 0
+IsPlaced s byte (Err f) = (program.in_place s (program.kind_of byte) ≡ false) × (f ≡ fault.Kind)
+IsPlaced s byte (Ok k) = (kind_is k ≡ program.kind_of byte) × (program.in_place s (program.kind_of byte) ≡ true)
 
 -- what the reader answers: no record, a record with its command, a fault
 abbrev pub Found : Type 0

@@ -7,6 +7,7 @@ use Rattle.program.proofs.Laws.Records.{needed_none, needed_body, found_misplace
 use Rattle.stages.specs.Buffers.{Buffers, empty}
 use Rattle.stages.specs.Limits.{program_body}
 use Rattle.stages.specs.declared.Stage.{Stage}
+use Rattle.stages.specs.declared.Fault.{Fault}
 use Rattle.stages.specs.declared.Fault.TheVariants as fault
 use Rattle.stages.specs.Stage.{plain_state, state_of, grid_of_stage, IsSettled}
 use Rattle.stages.specs.Laws.{grid_any}
@@ -36,23 +37,24 @@ module _ {stage r : Stage} (settled : IsSettled stage r) (byte : ℕ) where
     grid_in_state : grid_of_stage r ≡ program.grid_of (state_of stage b)
     grid_in_state = sym (ap program.grid_of (settled.same b) ∙ grid_any r b)
 
-  module _ (misplaced : IsPlaced (plain_state r empty) byte None) where
+  module _ {f : Fault} (misplaced : IsPlaced (plain_state r empty) byte (Err f)) where
     pub needs_none : NeedsBytes stage byte 0
     needs_none =
         record {
-          number = λ b. sym (needed_none (state_of stage b) byte [] (in_state b false misplaced));
+          number = λ b. sym (needed_none (state_of stage b) byte [] (in_state b false misplaced.0));
           few = omega arith;
         }
 
-    pub finds_misplaced : (body : List ℕ) → Finds stage (byte ∷ body) (Err fault.Kind)
+    pub finds_misplaced : (body : List ℕ) → Finds stage (byte ∷ body) (Err f)
     finds_misplaced body =
+        rw misplaced.1
         record {
-          reading = λ b. sym (found_misplaced (state_of stage b) byte body (in_state b false misplaced));
+          reading = λ b. sym (found_misplaced (state_of stage b) byte body (in_state b false misplaced.0));
           whole = λ b. tt;
         }
 
   -- .. of a known kind in its place
-  module _ (k : code.Kind) (placed : IsPlaced (plain_state r empty) byte (Some k)) {g : model.Grid} (same : g ≡ grid_of_stage r) where
+  module _ (k : code.Kind) (placed : IsPlaced (plain_state r empty) byte (Ok k)) {g : model.Grid} (same : g ≡ grid_of_stage r) where
     length_in_state :
         (b : Buffers) → program.body_length g (kind_is k) ≡ program.body_length (program.grid_of (state_of stage b)) (program.kind_of byte)
     length_in_state b = ap₂ program.body_length (same ∙ grid_in_state b) placed.0

@@ -6,19 +6,18 @@ ghost use Rattle.stages.specs.Stage.{plain_state};
 ghost use Rattle.records.specs.Found.{IsPlaced, NeedsBytes, Finds};
 
 use commands::{Command, parse};
-use kinds::{Kind, body_length, in_place, kind_of};
+use kinds::{Kind, body_length, in_place};
 use stages::{Fault, Stage};
 
 // The kind that a byte names, where a record of it may come now.
-fn placed(stage: Stage, byte: u8) -> Option<Kind>
+fn placed(stage: Stage, byte: u8) -> Result<Kind, Fault>
     ensures { IsPlaced (plain_state stage empty) byte result }
 {
-    let kind = kind_of(byte)?;
-    if in_place(stage, kind) {
-        Some(kind)
-    } else {
-        None
+    let kind = Kind::try_from(byte)?;
+    if !in_place(stage, kind) {
+        return Err(Fault::Kind);
     }
+    Ok(kind)
 }
 
 // The bytes of a body that a kind needs: none where 13 follows.
@@ -27,8 +26,8 @@ pub fn body_bytes(stage: Stage, kind: u8) -> usize
 {
     let sound = stage.settled();
     match placed(sound, kind) {
-        Some(known) => body_length(sound.grid(), known),
-        None => 0,
+        Ok(known) => body_length(sound.grid(), known),
+        Err(_) => 0,
     }
 }
 
@@ -40,7 +39,7 @@ pub fn read(stage: Stage, input: &[u8]) -> Result<Option<Command>, Fault>
         return Ok(None);
     };
     let sound = stage.settled();
-    let kind = placed(sound, byte).ok_or(Fault::Kind)?;
+    let kind = placed(sound, byte)?;
     if body.len() < body_length(sound.grid(), kind) {
         return Err(Fault::Length);
     }

@@ -93,7 +93,7 @@ fn copy_serves(air: &[u32], fluxes: &[i32], n: u32) -> bool
     serves(row, fluxes, n)
 }
 
-// The smallest number of substeps from 1 to 16 that serves.
+// The smallest number of substeps from 1 to 16 that serves. A Range and not `1..=`: std's law of what `find` finds is of a Range.
 pub fn count(air: &[u32], fluxes: &[i32]) -> Option<u32>
     requires { RowNeed air.now fluxes.now }
     ensures { IsFound air.now fluxes.now result }

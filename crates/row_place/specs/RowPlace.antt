@@ -1,14 +1,14 @@
 -- The places that all sweeps of a row have before their own, and what `row_place` finds: where the row starts.
-use Rattle.std.specs.Prelude.{ℕ, ◌+◌, ◌-◌, ◌≤◌, true, ◌≡◌, eqb, ℤ, length, Result}
+use Rattle.std.specs.Prelude.{ℕ, ◌+◌, ◌*◌, ◌-◌, ◌<◌, ◌≤◌, true, ◌≡◌, eqb, ℤ, length, Result}
 use mathlib.Core.List.{List, [], ◌∷◌, ◌++◌, append_assoc}
 use Rattle.std.proofs.Math.Path.{refl, ap}
 use Rattle.std.proofs.Common.{◌∙◌, le_trans}
-use Rattle.model.specs.Limits.{zonal_limit, most_cells}
-use Rattle.model.specs.Basic.{part}
-use Rattle.model.specs.World.{World, world_cells, row_start}
+use Rattle.model.specs.Limits.{zonal_limit, total_limit, most_cells, block_numbers}
+use Rattle.model.specs.Basic.{at, part, sum}
+use Rattle.model.specs.World.{Grid, World, world_cells, row_start}
 use Rattle.model.specs.Step.{Call, absent, Place, meaning, first_of, own_places, lent_fits, flux_too_large, row_air}
 use Rattle.model.proofs.Laws.Basic.{length_part}
-use Rattle.model.proofs.Laws.Grid.{in_range_lem, cells_most_lem}
+use Rattle.model.proofs.Laws.Grid.{InRange, in_range_lem, cells_most_lem}
 use Rattle.model.proofs.Laws.Step.{Fits}
 use Rattle.units.specs.declared.Refusal.{Refusal}
 use Rattle.places.specs.declared.Lent.TheVariants.{RowFluxes}
@@ -56,6 +56,27 @@ module _ {w : World} {fluxes : List ℤ} {first : ℕ} (row : RowIn w fluxes fir
   -- where they are row r of layer k
   pub row_lent : (k r : ℕ) → first ≡ row_start w.grid k r → lent_row w first ≡ row_air w k r
   row_lent k r start = part_lent w.air first w.grid.W ∙ ap (λ (n : ℕ). part w.air n w.grid.W) start
+
+-- ---- the tracers of such a world, each with a row of W amounts from its cell `first` on; tracer t's amounts
+abbrev pub gas_of : Grid → List ℕ → ℕ → List ℕ
+gas_of g tracers t = part tracers (t * world_cells g) (world_cells g)
+
+pub record RowInTracers (g : Grid) (tracers ledger : List ℕ) (first : ℕ) : Type 0 where
+  pub range : InRange g
+  pub tracers_long : length tracers ≡ g.N * world_cells g
+  pub ledger_long : length ledger ≡ g.N * block_numbers
+  pub inside : first + g.W ≤ world_cells g
+  pub total : (t : ℕ) → t < g.N → sum (world_cells g) (at (gas_of g tracers t)) ≤ total_limit
+
+pub row_in_tracers : {w : World} {fluxes : List ℤ} {first : ℕ} → RowIn w fluxes first → RowInTracers w.grid w.tracers w.ledger first
+row_in_tracers {w} row =
+    record {
+      range = in_range_lem w.grid row.fits.grid;
+      tracers_long = row.fits.tracers_length;
+      ledger_long = row.fits.ledger_length;
+      inside = row.inside;
+      total = row.fits.totals;
+    }
 
 -- ---- what `row_place` finds
 pub record RowFound (w : World) (k r : ℕ) (fluxes : List ℤ) (first : ℕ) : Type 0 where

@@ -15,6 +15,7 @@ use substep::{Flow, fill_parts, fill_ratios, high_end, low_end};
 use units::{AIR, Air, Limiter, MOST_COLUMNS, MOST_TRACERS, TRACER};
 
 // The rows of all tracers: the first w amounts of each of the first n are used.
+// One array by value, with the number of tracers beside it and not a slice: docs/DECISIONS.md names this form for a row of all tracers.
 pub type Rows = [[u32; MOST_COLUMNS]; MOST_TRACERS];
 
 // Where a row lies in the lent amounts of n tracers of `cells` cells each: w cells of each tracer, from its cell `first` on.

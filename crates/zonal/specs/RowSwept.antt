@@ -5,14 +5,14 @@ use Rattle.std.proofs.Common.{sym, ◌∙◌, le_trans, mul-le-mul_right, arith,
 use Rattle.std.proofs.Math.Path.{ap, ap₂}
 use borrow.Rule.Slice.PartMut.{put_mid}
 use Rattle.std.proofs.Math.ListN.{length}
-use Rattle.model.specs.Limits.{total_limit, most_substeps, block_numbers}
+use Rattle.model.specs.Limits.{total_limit, most_substeps}
 use Rattle.model.specs.Basic.{at, part, written, joined, tab, sum}
 use Rattle.model.specs.World.{Grid, World, world_cells, row_start, with_amounts}
 use Rattle.model.specs.Limiters.{rule_for}
 use Rattle.model.specs.Sweep.{ring, air_after, gas_after, serves, swept}
 use Rattle.model.specs.Step.{row_air, zonal_count, zonal, zonal_with_count}
 use Rattle.model.proofs.Laws.Chain.{length_air_after}
-use Rattle.model.proofs.Laws.Grid.{InRange, in_range_lem, cells_most_lem}
+use Rattle.model.proofs.Laws.Grid.{cells_most_lem}
 use Rattle.model.proofs.Laws.Part.{cells_in_lem}
 use Rattle.model.proofs.Laws.Sweep.{Sweeps}
 use Rattle.model.proofs.Laws.Zonal.{zonal_sweeps}
@@ -25,16 +25,12 @@ use Rattle.units.specs.Agrees.{accepted_agrees}
 use Rattle.places.specs.Walk.{none, next, resume, refuse}
 use Rattle.units.specs.Lent.{put_back}
 use Rattle.row.specs.Substeps.{row_mesh, RowNeed, chain}
-use Rattle.row_place.specs.RowPlace.{lent_row, row_in_air, row_lent}
+use Rattle.row_place.specs.RowPlace.{RowInTracers, row_in_tracers, gas_of, lent_row, row_in_air, row_lent}
 use Rattle.rows.specs.Gas.{row_of}
 use Rattle.rows.specs.Rows.{RowsFit, AreRows, StoreNeed, stored_rows}
 use Rattle.rows.specs.Swept.{SweepNeed, AreSwept}
 use Rattle.zonal.specs.declared.ZonalRow.{ZonalRow}
 use Rattle.zonal.specs.ZonalPlace.{ZonalFound, given_like, row_need}
-
--- tracer t's amounts
-abbrev gas_of : Grid → List ℕ → ℕ → List ℕ
-gas_of g tracers t = part tracers (t * world_cells g) (world_cells g)
 
 -- the W cells of the air from cell `first` on, lent as `&mut air[first..end]`
 abbrev pub row_part : Grid → List ℕ → ℕ → List ℕ
@@ -42,17 +38,13 @@ row_part g air first = part air first (first + g.W - first)
 
 -- a row of W columns from cell `first` on, in a world of the grid's lengths, and a count that serves
 pub record RowReady (g : Grid) (air tracers ledger : List ℕ) (first : ℕ) (fluxes : List ℤ) (n : ℕ) : Type 0 where
-  pub range : InRange g
+  pub in_tracers : RowInTracers g tracers ledger first
   pub long : length fluxes ≡ g.W
   pub row : RowNeed (row_part g air first) fluxes
   pub in_air : first + g.W ≤ length air
-  pub tracers_long : length tracers ≡ g.N * world_cells g
-  pub ledger_long : length ledger ≡ g.N * block_numbers
-  pub inside : first + g.W ≤ world_cells g
   pub most : n ≤ most_substeps
   pub serving : serves (row_mesh fluxes) fluxes (row_part g air first) n ≡ true
   pub air_in : AirIn (length fluxes) (row_part g air first)
-  pub total : (t : ℕ) → t < g.N → sum (world_cells g) (at (gas_of g tracers t)) ≤ total_limit
 
 -- every tracer's amounts with its row swept, by the limiter of its block
 abbrev pub swept_tracers : Grid → List ℕ → List ℕ → List ℕ → ℕ → List ℤ → ℕ → List ℕ
@@ -76,11 +68,11 @@ module _
   pub rows_fit : RowsFit tracers first cells g.W g.N
   rows_fit =
       record {
-        few_columns = ready.range.high_w;
-        row_inside = rw e ready.inside;
-        few_cells = rw e (cells_most_lem ready.range);
-        few_tracers = ready.range.high_n;
-        long = rw e ready.tracers_long;
+        few_columns = ready.in_tracers.range.high_w;
+        row_inside = rw e ready.in_tracers.inside;
+        few_cells = rw e (cells_most_lem ready.in_tracers.range);
+        few_tracers = ready.in_tracers.range.high_n;
+        long = rw e ready.in_tracers.tracers_long;
       }
 
   module _ {rows : List (List ℕ)} (loaded : AreRows tracers first cells g.W g.N rows) where
@@ -89,13 +81,13 @@ module _
     row_of_gas t h =
         let below : suc t * world_cells g ≤ g.N * world_cells g = mul-le-mul_right (world_cells g) h in
         (rw e at (loaded.each t h)) ∙
-        sym (part_part tracers (t * world_cells g) (world_cells g) first g.W (omega (arith, ready.tracers_long)) ready.inside)
+        sym (part_part tracers (t * world_cells g) (world_cells g) first g.W (omega (arith, ready.in_tracers.tracers_long)) ready.in_tracers.inside)
 
     -- its sum is at most the tracer's total
     row_total : (t : ℕ) → t < g.N → sum g.W (at (row_of g.W rows t)) ≤ total_limit
     row_total t h =
         rw (row_of_gas t h)
-        (le_trans (part_sum_le (world_cells g) (gas_of g tracers t) first g.W ready.inside) (ready.total t h))
+        (le_trans (part_sum_le (world_cells g) (gas_of g tracers t) first g.W ready.in_tracers.inside) (ready.in_tracers.total t h))
 
     pub rows_sweep : SweepNeed rows ledger lent fluxes n g.N
     rows_sweep =
@@ -104,8 +96,8 @@ module _
           most = ready.most;
           serving = ready.serving;
           air_in = ready.air_in;
-          few = ready.range.high_n;
-          blocks = omega (arith, ready.ledger_long);
+          few = ready.in_tracers.range.high_n;
+          blocks = omega (arith, ready.in_tracers.ledger_long);
           wide_rows = loaded.wide_rows;
           total = λ t h. rw ready.long (row_total t h);
         }
@@ -147,13 +139,10 @@ module _ {w : World} {k r : ℕ} {fluxes : List ℤ} {z : ZonalRow} (found : Zon
   unfolding ring
   row_ready =
       record {
-        range = in_range_lem w.grid found.row.fits.grid;
+        in_tracers = row_in_tracers found.row;
         long = found.row.long;
         row = row_need found.row;
         in_air = row_in_air found.row;
-        tracers_long = found.row.fits.tracers_length;
-        ledger_long = found.row.fits.ledger_length;
-        inside = found.row.inside;
         most = found.most;
         serving =
             ap₂ (λ (m : ℕ) (l : List ℕ). serves (ring m) fluxes l z.substeps) found.row.long lent_is ∙
@@ -161,7 +150,6 @@ module _ {w : World} {k r : ℕ} {fluxes : List ℤ} {z : ZonalRow} (found : Zon
         air_in =
             rw (lent_is, found.row.long)
             (cells_in_lem (row_start w.grid k r) w.grid.W (world_cells w.grid) sweeps.inside w.air found.row.fits.air);
-        total = found.row.fits.totals;
       }
 
   module _ {air after : List ℕ} (done : IsSwept w.grid w.air w.tracers w.ledger z.first fluxes z.substeps air after) where

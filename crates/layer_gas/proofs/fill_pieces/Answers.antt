@@ -7,16 +7,6 @@ use Rattle.layer.specs.Cells.{layer_faces}
 use Rattle.layer_gas.specs.Gas.{gives_north, gives_south, piece_north, piece_south}
 use Rattle.layer_gas.proofs.fill_pieces.Goals as goal
 
-pub bounds-carried-i : goal.bounds-carried-i
-bounds-carried-i g c =
-    let long : length c.loop-i.carried.up ≡ g.row.F = search rules in
-    omega (arith, long, c.loop-i.invariant.0, c.requires.0.pieces.high)
-
-pub bounds-carried-i-in-loop-i : goal.bounds-carried-i-in-loop-i
-bounds-carried-i-in-loop-i g c =
-    let long : length c.loop-i.carried.down ≡ g.row.F = search rules in
-    omega (arith, long, c.loop-i.invariant.1, c.requires.0.pieces.low)
-
 pub northward-p-requires : goal.northward-p-requires
 northward-p-requires g c =
     rw c.new-to_north.ensures (gives_north (limiter_of c.args.l) c.requires.0 c.requires.1 c.loop-i.i c.loop-i-test.true)
@@ -28,19 +18,15 @@ southward-r-requires g c =
 pub loop-i-preserved : goal.loop-i-preserved
 loop-i-preserved g c =
     let l = c.loop-i in
-    let limiter = limiter_of c.args.l in (
-      search rules,
-      search rules,
-      same_more l.carried.up l.carried.down (omega (arith, l.invariant.0, c.requires.0.pieces.high)) (omega (arith, l.invariant.1, c.requires.0.pieces.low)) l.invariant.2
-          (rw c.new-to_north.ensures at c.northward-p.ensures ∙ piece_north limiter c.requires.0 c.requires.1 l.i c.loop-i-test.true)
-          (rw c.new-to_south.ensures at c.southward-r.ensures ∙ piece_south limiter c.requires.0 c.requires.1 l.i c.loop-i-test.true),
-    )
+    let limiter = limiter_of c.args.l in
+    let high : length l.carried.up ≡ g.row.F = search rules in
+    let low : length l.carried.down ≡ g.row.F = search rules in
+    same_more l.carried.up l.carried.down (omega (arith, high, c.requires.0.faces)) (omega (arith, low, c.requires.0.faces)) l.invariant
+    (rw c.new-to_north.ensures at c.northward-p.ensures ∙ piece_north limiter c.requires.0 c.requires.1 l.i c.loop-i-test.true)
+    (rw c.new-to_south.ensures at c.southward-r.ensures ∙ piece_south limiter c.requires.0 c.requires.1 l.i c.loop-i-test.true)
 
 pub returns : goal.returns
 returns g c =
     let l = c.loop-i in
-    let room = c.requires.0.pieces in
-    let done : l.i ≡ (layer c.args.shape.w c.args.shape.rows).faces = omega (arith, layer_faces c.args.shape.w c.args.shape.rows) in (
-      record { high = rw l.invariant.0 room.high; low = rw l.invariant.1 room.low },
-      rw done at l.invariant.2,
-    )
+    let done : l.i ≡ (layer c.args.shape.w c.args.shape.rows).faces = omega (arith, layer_faces c.args.shape.w c.args.shape.rows) in
+    rw done at l.invariant

@@ -20,12 +20,12 @@ pass_layer-requires g c =
     let long = need.gas_long ∙ layer_cells_lem a.shape.w a.shape.rows in (
       search rules,
       (
-        record { long = long; faces = c.fill_pieces.ensures.0 },
-        gas_moves (limiter_of a.l) (layer_regular a.shape.w a.shape.rows) need c.fill_pieces.ensures.1,
+        record { long = long; faces = c.requires.faces },
+        gas_moves (limiter_of a.l) (layer_regular a.shape.w a.shape.rows) need c.fill_pieces.ensures,
       ),
     )
 
 pub returns : goal.returns
 returns g c =
     let a = c.args in
-    c.pass_layer.ensures ∙ gas_after_lem (limiter_of a.l) (layer_regular a.shape.w a.shape.rows) c.requires.need c.fill_pieces.ensures.1
+    c.pass_layer.ensures ∙ gas_after_lem (limiter_of a.l) (layer_regular a.shape.w a.shape.rows) c.requires.need c.fill_pieces.ensures

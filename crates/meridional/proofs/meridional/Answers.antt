@@ -1,28 +1,26 @@
 -- `meridional::meridional` meets its contract: the layer found by `layer_place`, swept in all tracers and in the air.
-use Rattle.std.proofs.Common.{sym, ◌∙◌, rules}
-use Rattle.places.specs.Walk.{itself, refuses}
+use Rattle.std.proofs.Common.{rules}
+use Rattle.std.proofs.lemmas.Result.{err_from_is_err_and}
+use Rattle.places.specs.Walk.{itself}
 use Rattle.meridional.specs.LayerSwept.{layer_in_air, tracers_need, air_need, meridional_agrees}
 use Rattle.meridional.proofs.meridional.Goals as goal
 
-pub returns-else-number-eq0 : goal.returns-else-number-eq0
-returns-else-number-eq0 c = refuses c.layer_place-place.ensures (λ z. c.if-number-eq0.false (c.number.ensures ∙ z)) itself
+pub returns-in_err-a : goal.returns-in_err-a
+returns-in_err-a c =
+    let p = err_from_is_err_and c.from_residual.result c.from_residual.ensures.1 in
+    rw (p.1, p.2) (c.in_err-a.ensures _ _ itself)
 
 pub slice_bounds-sweep_tracers-end : goal.slice_bounds-sweep_tracers-end
-slice_bounds-sweep_tracers-end c =
-    let found = c.layer_place-place.ensures.found (sym c.number.ensures ∙ c.if-number-eq0.true) in
-    layer_in_air found c.layer_cells.ensures.0
+slice_bounds-sweep_tracers-end c = layer_in_air c.in_ok-a.ensures c.layer_cells.ensures.0
 
 pub sweep_tracers-requires : goal.sweep_tracers-requires
 sweep_tracers-requires c =
-    let found = c.layer_place-place.ensures.found (sym c.number.ensures ∙ c.if-number-eq0.true) in
-    (record { high = search rules; low = search rules }, tracers_need found c.layer_cells.ensures.0)
+    tracers_need c.in_ok-a.ensures c.layer_cells.ensures.0
 
-pub pass_layer_air-requires : goal.pass_layer_air-requires
-pass_layer_air-requires c =
-    let found = c.layer_place-place.ensures.found (sym c.number.ensures ∙ c.if-number-eq0.true) in
-    air_need found c.layer_cells.ensures.0 (record { high = search rules; low = search rules })
+pub pass_layer-requires : goal.pass_layer-requires
+pass_layer-requires c =
+    (search rules, rw (c.of.ensures.0, c.of.ensures.1) (air_need c.in_ok-a.ensures c.layer_cells.ensures.0))
 
 pub returns : goal.returns
 returns c =
-    let found = c.layer_place-place.ensures.found (sym c.number.ensures ∙ c.if-number-eq0.true) in
-    meridional_agrees found c.layer_cells.ensures.0 c.pass_layer_air.ensures c.sweep_tracers.ensures
+    meridional_agrees c.in_ok-a.ensures c.layer_cells.ensures.0 (rw (c.of.ensures.0, c.of.ensures.1) at c.pass_layer.ensures) c.sweep_tracers.ensures

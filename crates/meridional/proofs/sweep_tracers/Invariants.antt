@@ -1,6 +1,6 @@
 -- `meridional::sweep_tracers`: the layers of the tracers passed are swept, the others are as lent; the room is as long as declared.
-use Rattle.std.proofs.Common.{length, ◌≤◌, ◌-◌, ◌≡◌}
-use Rattle.model.specs.Limits.{most_layer_cells, most_faces}
+use Rattle.std.proofs.Common.{length, ◌≡◌}
+use Rattle.model.specs.Limits.{most_layer_cells}
 use Rattle.units.specs.Grid.{grid_of}
 use Rattle.substep.specs.Faces.{flow_of}
 use Rattle.meridional.specs.LayerTracers.{swept_up_to}
@@ -8,11 +8,5 @@ use Rattle.meridional.proofs.sweep_tracers.Given as goal
 
 abbrev pub invariant-loop-t : goal.invariant-loop-t
 invariant-loop-t l =
-    (l.t ≤ l.n)
-    × (l.tracers ≡ swept_up_to (grid_of l.g) l.fn.tracers l.ledger l.air (flow_of l.airup l.airdown) l.first l.t)
+    (l.tracers ≡ swept_up_to (grid_of l.fn.g) l.fn.tracers l.ledger l.air (flow_of l.flow.up l.flow.down) l.first l.t)
     × (length l.q ≡ most_layer_cells)
-    × (length l.gasup ≡ most_faces)
-    × (length l.gasdown ≡ most_faces)
-
-abbrev pub decreases-loop-t : goal.decreases-loop-t
-decreases-loop-t l = l.n - l.t
