@@ -1,6 +1,6 @@
 -- 32 bits as a signed number: the library's cast is the document's `signed`.
-use Rattle.std.specs.Prelude.{ℕ, suc, ◌-◌, ◌≤◌, ◌<◌, ◌⊎◌, ◌≡◌, pos, negsuc}
-use Rattle.std.proofs.Common.{inl, inr, sym, ◌∙◌, ap, arith, lt-ltb, le-ltb}
+use Rattle.std.specs.Prelude.{ℕ, suc, ◌-◌, ◌≤◌, ◌<◌, ◌⊎◌, ◌≡◌}
+use Rattle.std.proofs.Common.{inl, inr, arith, lt-ltb, le-ltb}
 use Rattle.std.specs.Int.{w32, cast_signed}
 use Rattle.model.proofs.Laws.Entries.{below_or_not}
 use Rattle.program.specs.Bytes.{signed}

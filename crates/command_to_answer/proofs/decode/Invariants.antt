@@ -1,5 +1,5 @@
 -- `command_to_answer::decode` fills the first i entries with the numbers of their own four bytes.
-use Rattle.std.proofs.Common.{◌≡◌, length, take}
+use Rattle.std.proofs.Common.{◌≡◌, take}
 use Rattle.command_to_answer.specs.Fill.{decoded}
 use Rattle.command_to_answer.proofs.decode.Given as goal
 
