@@ -1,9 +1,14 @@
 -- A list filled entry by entry is the list of its values; the law of the two decoding loops.
-use Rattle.std.specs.Prelude.{ℕ, ◌+◌, ◌≤◌, ◌<◌, List, [], ◌∷◌, ◌++◌, ◌≡◌, length, set, take}
+use Rattle.std.specs.Prelude.{ℕ, ◌+◌, ◌*◌, ◌≤◌, ◌<◌, List, [], ◌∷◌, ◌++◌, ◌≡◌, length, set, take}
 use Rattle.std.proofs.Math.Path.{refl}
 use Rattle.std.proofs.Common.{sym, ◌∙◌, ap, add-one, arith, take_all, take-suc-set}
 use Rattle.model.specs.Basic.{tab, tab_from}
+use Rattle.program.specs.Bytes.{number_at}
 use Rattle.model.proofs.Laws.Entries.{tab_more}
+
+-- the n numbers of 4 bytes each at the start of some bytes, each read as `of` says
+abbrev pub decoded : {A : Type 0} → (ℕ → A) → List ℕ → ℕ → List A
+decoded of bytes n = tab n (λ i. of (number_at bytes (0 + 4 * i) 4))
 
 module _ {A : Type 0} (l : List A) (f : ℕ → A) where
   pub filled_none : take 0 l ≡ tab 0 f

@@ -2,4 +2,3 @@ pub mod Fill
 pub mod Signed
 pub mod Makes
 pub mod Room
-pub mod Laws

@@ -1,12 +1,12 @@
 -- A list of numbers decoded into the first entries of some room, and a record's numbers counted from its body's start.
-use Rattle.std.specs.Prelude.{ℕ, ◌+◌, ◌*◌, ◌-◌, ◌≤◌, List, ◌++◌, ◌≡◌, ℤ, length, take, drop}
+use Rattle.std.specs.Prelude.{ℕ, ◌+◌, ◌*◌, ◌-◌, ◌≤◌, List, ◌++◌, ◌≡◌, ℤ, Result, length, take, drop}
 use Rattle.std.proofs.Common.{sym, ◌∙◌, ap, subst, zero-add, arith, length-append, length-take, length-drop, take_at, drop-drop, length-take-le}
 use Rattle.std.proofs.Math.Nat.{min-le_left}
 use Rattle.model.specs.Basic.{tab}
 use Rattle.model.specs.World.{World}
 use Rattle.model.specs.Step.{Call}
 use Rattle.model.proofs.Laws.Basic.{length_tab}
-use Rattle.units.specs.declared.Answer.{Answer}
+use Rattle.units.specs.declared.Refusal.{Refusal}
 use Rattle.units.specs.Answer.{Agrees}
 use Rattle.program.specs.Bytes.{number, number_at, numbers_at, signed, fluxes_at}
 use Rattle.program.proofs.Laws.Records.{tab_same}
@@ -59,9 +59,9 @@ filled_fluxes room n body a {new} fits is =
     (filled fits (λ j. signed (number_at (take (length body - a) (drop a body)) (0 + 4 * j) 4)) is)
 
 -- ---- a call with equal lists is the same call
-pub agrees_same : (w : World) (call call' : Call) (x : Answer) (next : World) → call ≡ call' → Agrees w call x next → Agrees w call' x next
+pub agrees_same : (w : World) (call call' : Call) (x : Result ℕ Refusal) (next : World) → call ≡ call' → Agrees w call x next → Agrees w call' x next
 agrees_same w call call' x next e agrees = subst (λ (y : Call). Agrees w y x next) e agrees
 
 -- .. and one in an equal world
-pub agrees_in : {w v : World} {call : Call} {x : Answer} {next : World} → w ≡ v → Agrees w call x next → Agrees v call x next
+pub agrees_in : {w v : World} {call : Call} {x : Result ℕ Refusal} {next : World} → w ≡ v → Agrees w call x next → Agrees v call x next
 agrees_in {call = call} {x = x} {next = next} e agrees = subst (λ (u : World). Agrees u call x next) e agrees

@@ -2,22 +2,14 @@
 // are proved in the crates below; here it is read and written.
 #![tactic(auto)]
 
-ghost use Rattle.std.specs.Prelude.{◌≡◌, ◌+◌, ◌≤◌, length};
-ghost use Rattle.stages.specs.Limits.{program_body};
+ghost use Rattle.std.specs.Prelude.{◌≤◌, length};
 
 use lines::{Line, line_text};
-use record_to_line::{Outcome, air_space, carry_out, ledger_space, tracer_space};
+use record_to_line::carry_out;
 use records::body_bytes;
-use stages::Stage;
-use std::io::{Input, Print, Read};
-use units::{PROGRAM_AMOUNTS, PROGRAM_BODY, PROGRAM_CELLS, PROGRAM_LEDGER};
-
-// Room for the longest record, a kind and its body.
-fn record_space() -> [u8; PROGRAM_BODY + 1]
-    ensures { length result ≡ program_body + 1 }
-{
-    [0; PROGRAM_BODY + 1]
-}
+use stages::{Buffers, Stage};
+use std::io::{self, Input, Print, Read};
+use units::PROGRAM_BODY;
 
 // Reads until `buf` is full, the input ends or a read fails, and answers how many bytes stand at the start of `buf`.
 fn read_full<R: Read>(input: &mut R, buf: &mut [u8]) -> usize
@@ -36,76 +28,42 @@ fn read_full<R: Read>(input: &mut R, buf: &mut [u8]) -> usize
     done
 }
 
-// Prints a line, and answers whether all of it was written.
-fn print(rt: &impl Print, line: Line) -> bool {
+fn print(rt: &impl Print, line: Line) -> io::Result<()> {
     let mut text = [0u8; 33];
     let at = line_text(line, &mut text);
-    rt.write_all(&text[at..]).is_ok()
+    rt.write_all(&text[at..])
 }
 
-// Where a turn of the loop leaves the program: at the next stage, or at its end.
-#[derive(Clone, Copy)]
-enum After {
-    Next(Stage),
-    Done,
-}
-
-// One byte, then the bytes that it needs or what is left of them, then the record carried out, then its line.
+// One byte, then the bytes that it needs or what is left of them, then the record carried out, then its line. None at
+// the end of the program, which a line that cannot be written ends too.
 fn turn<R: Read>(
     rt: &impl Print,
     input: &mut R,
     stage: Stage,
-    bytes: &mut [u8],
-    air: &mut [u32; PROGRAM_CELLS],
-    tracers: &mut [u32; PROGRAM_AMOUNTS],
-    ledger: &mut [u32; PROGRAM_LEDGER],
-) -> After
-    requires { length bytes.old ≡ program_body + 1 }
-{
+    bytes: &mut [u8; PROGRAM_BODY + 1],
+    buffers: &mut Buffers,
+) -> Option<Stage> {
     let first = read_full(input, &mut bytes[..1]);
     if first == 0 {
-        return After::Done;
+        return None;
     }
     let end = 1 + body_bytes(stage, bytes[0]);
     let body = read_full(input, &mut bytes[1..end]);
-    match carry_out(stage, &bytes[..1 + body], air, tracers, ledger) {
-        Outcome::Nothing => After::Done,
-        Outcome::Next(line, next) => {
-            if print(rt, line) {
-                After::Next(next)
-            } else {
-                After::Done
-            }
-        }
-        Outcome::Last(line) => {
-            print(rt, line);
-            After::Done
-        }
-    }
+    let outcome = carry_out(stage, &bytes[..1 + body], buffers)?;
+    print(rt, outcome.line).ok()?;
+    outcome.next
 }
 
-// A proved loop has to end, and nothing says that the input does. So it counts its turns down from a number that no run uses up.
+// A proved loop has to end, and nothing says that the input does: no run makes so many turns.
 pub fn run(rt: &(impl Input + Print)) {
     let mut input = rt.reader();
-    let mut bytes = record_space();
-    let mut air = air_space();
-    let mut tracers = tracer_space();
-    let mut ledger = ledger_space();
+    let mut bytes = [0u8; PROGRAM_BODY + 1]; // the longest record, a kind and its body
+    let mut buffers = Buffers::new();
     let mut stage = Stage::Start;
-    let mut turns = u64::MAX;
-    while turns > 0 {
-        let After::Next(next) = turn(
-            rt,
-            &mut input,
-            stage,
-            &mut bytes,
-            &mut air,
-            &mut tracers,
-            &mut ledger,
-        ) else {
+    for _ in 0..u64::MAX {
+        let Some(next) = turn(rt, &mut input, stage, &mut bytes, &mut buffers) else {
             return;
         };
         stage = next;
-        turns -= 1;
     }
 }

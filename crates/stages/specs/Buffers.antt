@@ -1,10 +1,11 @@
 -- The program's buffers as one value: a list for each, the world at the start of the lists, and the room in them.
-use Rattle.std.specs.Prelude.{ℕ, ◌*◌, ◌≤◌, List, [], length, take}
+use Rattle.std.specs.Prelude.{ℕ, ◌*◌, ◌≤◌, List, [], length, take, replicate}
 use Rattle.model.specs.Limits.{block_numbers, program_cells}
 use Rattle.model.specs.Basic.{written}
 use Rattle.model.specs.World as model
 use Rattle.units.specs.declared.Grid as declared
 use Rattle.units.specs.Grid.{world_of}
+use Rattle.stages.specs.declared.Buffers as code
 use Rattle.stages.specs.Limits.{program_amounts, program_ledger}
 
 -- the program's three buffers; a world stands at their start
@@ -18,6 +19,13 @@ buffers air tracers ledger = record { air = air; tracers = tracers; ledger = led
 
 abbrev pub empty : Buffers
 empty = buffers [] [] []
+
+-- the code's buffers, and what they hold before the first load
+abbrev pub buffers_in : code.Buffers → Buffers
+buffers_in b = buffers b.air b.tracers b.ledger
+
+abbrev pub no_world : Buffers
+no_world = buffers (replicate program_cells 0) (replicate program_amounts 0) (replicate program_ledger 0)
 
 -- the world whose lists are the whole buffers
 abbrev pub world_in : declared.Grid → Buffers → model.World

@@ -6,9 +6,13 @@ ghost use Rattle.model.specs.Limits.{program_cells};
 ghost use Rattle.model.specs.World.{world_cells};
 ghost use Rattle.program.specs.Records.{grid_refusal};
 ghost use Rattle.units.specs.Grid.{grid_of};
+ghost use Rattle.stages.specs.Buffers.{no_world, buffers_in};
 ghost use Rattle.stages.specs.Stage.{grid_of_stage, fault_number, refused_number, refusal_of, IsSettled, SmallGrid};
 
-use units::{Grid, PROGRAM_CELLS, PROGRAM_TRACERS, Refusal, grid_fits, world_cells};
+use units::{
+    Grid, PROGRAM_AMOUNTS, PROGRAM_CELLS, PROGRAM_LEDGER, PROGRAM_TRACERS, Refusal, grid_fits,
+    world_cells,
+};
 
 // What the records so far have set up: nothing, a grid, a world in the program's buffers.
 #[derive(Clone, Copy)]
@@ -16,6 +20,27 @@ pub enum Stage {
     Start,
     Gridded(Grid),
     Loaded(Grid),
+}
+
+// The program's buffers, with room for every world that it takes; a world stands at their start.
+#[derive(Drop)]
+pub struct Buffers {
+    pub air: [u32; PROGRAM_CELLS],
+    pub tracers: [u32; PROGRAM_AMOUNTS],
+    pub ledger: [u32; PROGRAM_LEDGER],
+}
+
+impl Buffers {
+    // Before the first load: zeros.
+    pub fn new() -> Self
+        ensures { buffers_in result ≡ no_world }
+    {
+        Buffers {
+            air: [0; PROGRAM_CELLS],
+            tracers: [0; PROGRAM_AMOUNTS],
+            ledger: [0; PROGRAM_LEDGER],
+        }
+    }
 }
 
 // The program's own refusals, by their number.

@@ -1,5 +1,5 @@
 -- `command_to_answer::make_meridional` meets its contract: the fluxes decoded from the body are those that the call is made with.
-use Rattle.std.proofs.Common.{◌+◌, ◌*◌, ◌≤◌, ap, arith, length}
+use Rattle.std.proofs.Common.{◌+◌, ◌*◌, ap, arith}
 use Rattle.model.specs.Step.{meridional}
 use Rattle.stages.specs.Laws.{few_faces}
 use Rattle.command_to_answer.specs.Room.{filled_fluxes, agrees_same}
@@ -9,6 +9,5 @@ pub returns : goal.returns
 returns c =
     let faces = c.args.g.w * (c.args.g.r + 1) in
     let few = few_faces c.args.g c.requires.0 c.requires.1 in
-    let fits : faces ≤ length c.layer_space-fluxes.result = omega (arith, c.layer_space-fluxes.ensures, few) in
-    let fluxes = (filled_fluxes c.layer_space-fluxes.result faces c.args.body.now 1 fits c.decode_fluxes.ensures).back in
-    agrees_same _ _ _ _ _ (ap (meridional c.args.p.layer) fluxes) c.meridional.ensures
+    let fluxes = (filled_fluxes _ faces c.args.body.now 1 (omega (arith, few)) c.decode.ensures).back in
+    agrees_same _ _ _ _ _ (ap (meridional c.args.layer) fluxes) c.meridional.ensures

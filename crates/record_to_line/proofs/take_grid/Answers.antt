@@ -1,9 +1,12 @@
 -- `record_to_line::take_grid` meets its contract: the two outcomes of a grid's record.
-use Rattle.record_to_line.specs.Laws.{grid_taken, grid_refused}
+use Rattle.std.proofs.Common.{sym, ◌∙◌}
+use Rattle.record_to_line.specs.Laws.{refused_nonzero, grid_taken, grid_refused}
 use Rattle.record_to_line.proofs.take_grid.Goals as goal
 
-pub returns-then-refusal-eq0 : goal.returns-then-refusal-eq0
-returns-then-refusal-eq0 c = grid_taken c.args.kind c.args.wanted _ c.grid_refusal-refusal.ensures c.if-refusal-eq0.true
+pub returns-in-Err : goal.returns-in-Err
+returns-in-Err c =
+    let number = c.from.ensures in
+    grid_refused c.args.kind c.args.wanted _ (sym (rw c.in-Err.is at c.grid_refusal.ensures) ∙ sym number) (λ e. refused_nonzero c.in-Err.refusal (sym number ∙ e)) c.last_line.ensures.0 c.last_line.ensures.1
 
-pub returns-else-refusal-eq0 : goal.returns-else-refusal-eq0
-returns-else-refusal-eq0 c = grid_refused c.args.kind c.args.wanted _ c.grid_refusal-refusal.ensures c.if-refusal-eq0.false
+pub returns-in-Ok : goal.returns-in-Ok
+returns-in-Ok c = grid_taken c.args.kind c.args.wanted (sym (rw c.in-Ok.is at c.grid_refusal.ensures)) c.line_of.ensures
