@@ -13,13 +13,7 @@ fn amounts(rt: &impl Print, l: &[u32]) -> io::Result<()> {
     Ok(())
 }
 
-fn report(
-    rt: &impl Print,
-    name: &str,
-    answer: Answer,
-    air: &[u32],
-    gas: &[u32],
-) -> io::Result<()> {
+fn report(rt: &impl Print, name: &str, answer: Answer, air: &[u32], gas: &[u32]) -> io::Result<()> {
     let number = units::number(answer);
     let count = units::count(answer);
     print!(rt; "{name} {number} {count} air")?;

@@ -16,7 +16,7 @@ use limiters::limiter_at;
 use places::{Lent, common_places, fluxes_fit};
 use substep::{Flow, fill_parts};
 use units::{
-    Air, Answer, Grid, MERIDIONAL_LIMIT, MOST_FACES, MOST_LAYER_CELLS, AIR, Refusal, World,
+    AIR, Air, Answer, Grid, MERIDIONAL_LIMIT, MOST_FACES, MOST_LAYER_CELLS, Refusal, World,
     layer_cells, layer_start, world_cells,
 };
 
