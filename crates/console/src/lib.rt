@@ -11,7 +11,7 @@ use stages::{Buffers, Stage};
 use std::io::{self, Input, Print, Read};
 use units::PROGRAM_BODY;
 
-// Reads until `buf` is full, the input ends or a read fails, and answers how many bytes stand at the start of `buf`.
+// Reads until `buf` is full, the input ends or a read fails, and answers how many bytes stand at the start of `buf`. A read gives as many bytes as it likes, so that no range counts the reads.
 fn read_full<R: Read>(input: &mut R, buf: &mut [u8]) -> usize
     ensures { result ≤ length buf.new }
 {
