@@ -250,7 +250,8 @@ def check_boundary(calls):
 def check_refusals(calls, refusals):
     """Fails unless the refusals are those of crates/units, and each call names only such."""
     source = open("crates/units/src/lib.rt", encoding="utf-8").read()
-    numbered = [(int(number), name) for name, number in re.findall(r"Refusal::(\w+) => (\d+),", source)]
+    enum = re.search(r"^pub enum Refusal \{\n(.*?)^\}", source, re.M | re.S)
+    numbered = [(int(number), name) for name, number in re.findall(r"^    (\w+) = (\d+),$", enum.group(1) if enum else "", re.M)]
     if numbered != [(r.number, r.name) for r in refusals]:
         sys.exit("bindings/refusals.txt: not as in crates/units/src/lib.rt")
     for call in calls:
