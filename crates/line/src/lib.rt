@@ -61,6 +61,7 @@ pub fn new_air(e: &[u64], k: usize, newair: &mut [u32])
     }
 }
 
+// The sum and the difference of two amounts of one kind. Functions of their own and no `impl Add`: here their requires says that they fit.
 fn plus<const KIND: u8>(a: Amount<KIND>, b: Amount<KIND>) -> Amount<KIND>
     requires { a.0 + b.0 ≤ 4294967295 }
     ensures { result.0 ≡ a.entry.0 + b.entry.0 }
