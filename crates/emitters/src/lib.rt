@@ -133,8 +133,7 @@ pub fn tick(g: Grid, air: &[u32], tracers: &mut [u32], ledger: &mut [u32], trace
     let t = tracer as usize;
     let cells = world_cells(g) as usize;
     let a = t * cells;
-    let e = a + cells;
-    emit(&mut tracers[a..e], &block);
+    emit(&mut tracers[a..a + cells], &block);
     enter_emitted(&mut block, kept as u32);
     put_block(ledger, t, &block);
     Ok(0)

@@ -73,11 +73,10 @@ fn sweep_tracers(
     let mut carried: Flow<MOST_FACES> = Flow::none();
     for t in 0..g.n as usize {
         let a = t * cells + first;
-        let e = a + wide;
         let l = limiter_at(ledger, t);
         step_layer_gas(
             l,
-            &mut tracers[a..e],
+            &mut tracers[a..a + wide],
             air,
             flow,
             shape,
@@ -106,7 +105,7 @@ pub fn meridional(
         ledger,
     };
     let a = layer_place(w, layer, fluxes, &mut flow)?;
-    let e = a + layer_cells(g) as usize;
+    let e = a + layer_cells(g) as usize; // of the layer's part, which is lent twice
     sweep_tracers(g, tracers, ledger, &air[a..e], &flow, a);
     pass_layer::<AIR, MOST_FACES>(&mut air[a..e], &flow, Shape::of(g));
     Ok(1)

@@ -98,8 +98,7 @@ pub fn totals(tracers: &[u32], cells: usize, n: usize) -> Totals
     let mut sums = [0u64; MOST_TRACERS];
     for t in 0..n {
         let a = t * cells;
-        let e = a + cells;
-        sums[t] = gas_total(&tracers[a..e]);
+        sums[t] = gas_total(&tracers[a..a + cells]);
     }
     sums
 }

@@ -1,4 +1,5 @@
 // The remap of all columns.
+// The call takes the grid and each lent buffer as a parameter of its own, as the C interface does: its signature says which buffers it writes.
 #![tactic(auto)]
 
 ghost use Rattle.std.specs.Prelude.{◌≡◌, ◌||◌, ◌+◌, ◌*◌, ◌≤◌, ◌<◌, eqb, length};
