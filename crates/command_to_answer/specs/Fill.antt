@@ -1,7 +1,7 @@
--- A list filled entry by entry is the list of its values; the law of the two decoding loops.
-use Rattle.std.specs.Prelude.{ℕ, ◌+◌, ◌*◌, ◌≤◌, ◌<◌, List, [], ◌∷◌, ◌++◌, ◌≡◌, length, set, take}
+-- A list filled entry by entry is the list of its values; the law of the decoding loop.
+use Rattle.std.specs.Prelude.{ℕ, ◌+◌, ◌*◌, ◌<◌, List, [], ◌∷◌, ◌++◌, ◌≡◌, length, set, take}
 use Rattle.std.proofs.Math.Path.{refl}
-use Rattle.std.proofs.Common.{sym, ◌∙◌, ap, add-one, arith, take_all, take-suc-set}
+use Rattle.std.proofs.Common.{sym, ◌∙◌, ap, add-one, take-suc-set}
 use Rattle.model.specs.Basic.{tab, tab_from}
 use Rattle.program.specs.Bytes.{number_at}
 use Rattle.model.proofs.Laws.Entries.{tab_more}
@@ -18,9 +18,3 @@ module _ {A : Type 0} (l : List A) (f : ℕ → A) where
   pub filled_more : (i : ℕ) (x : A) → x ≡ f i → i < length l → take i l ≡ tab i f → take (i + 1) (set l i x) ≡ tab (i + 1) f
   filled_more i x is h e =
       rw (add-one i) (take-suc-set l i x h) ∙ ap (λ (y : List A). y ++ (x ∷ [])) e ∙ ap (λ (y : A). tab i f ++ (y ∷ [])) is ∙ sym (tab_more i f)
-
-  -- filled to its end
-  pub filled : (i n : ℕ) → take i l ≡ tab i f → n ≤ i → i ≤ length l → length l ≡ n → l ≡ tab n f
-  filled i n e h k len =
-      let same : i ≡ n = omega arith in
-      sym (take_all i l (omega arith)) ∙ e ∙ ap (λ (m : ℕ). tab m f) same

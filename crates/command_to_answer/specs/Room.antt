@@ -1,23 +1,16 @@
 -- A list of numbers decoded into the first entries of some room, and a record's numbers counted from its body's start.
-use Rattle.std.specs.Prelude.{ℕ, ◌+◌, ◌*◌, ◌-◌, ◌≤◌, List, ◌++◌, ◌≡◌, ℤ, Result, length, take, drop}
-use Rattle.std.proofs.Common.{sym, ◌∙◌, ap, subst, zero-add, arith, length-append, length-take, length-drop, take_at, drop-drop, length-take-le}
-use Rattle.std.proofs.Math.Nat.{min-le_left}
+use Rattle.std.specs.Prelude.{ℕ, ◌+◌, ◌*◌, ◌-◌, ◌≤◌, List, ◌++◌, ◌≡◌, Result, length, take, drop}
+use Rattle.std.proofs.Common.{◌∙◌, ap, subst, zero-add, take_at, drop-drop, length-take-le}
 use Rattle.model.specs.Basic.{tab}
 use Rattle.model.specs.World.{World}
 use Rattle.model.specs.Step.{Call}
 use Rattle.model.proofs.Laws.Basic.{length_tab}
 use Rattle.units.specs.declared.Refusal.{Refusal}
 use Rattle.units.specs.Answer.{Agrees}
-use Rattle.program.specs.Bytes.{number, number_at, numbers_at, signed, fluxes_at}
+use Rattle.program.specs.Bytes.{number, number_at}
 use Rattle.program.proofs.Laws.Records.{tab_same}
 use Rattle.records.specs.Laws.{take_rest}
-
--- the first n entries are at most n, and what follows the first a entries is all but a
-pub take_short : {A : Type 0} (n : ℕ) (l : List A) → length (take n l) ≤ n
-take_short n l = rw (length-take n l) (min-le_left n (length l))
-
-pub rest_long : (l : List ℕ) (a : ℕ) → length (take (length l - a) (drop a l)) ≡ length l - a
-rest_long l a = rw (take_rest l a) (length-drop a l)
+use Rattle.command_to_answer.specs.Fill.{decoded}
 
 -- ---- numbers counted from byte a of a body on
 number_from : (body : List ℕ) (a j : ℕ) → number_at (drop a body) (0 + 4 * j) 4 ≡ number_at body (a + 4 * j) 4
@@ -25,38 +18,19 @@ number_from body a j =
     ap (λ (x : ℕ). number (take 4 (drop x (drop a body)))) (zero-add (4 * j)) ∙
     ap (λ (x : List ℕ). number (take 4 x)) (drop-drop (4 * j) a body)
 
-pub numbers_from : (body : List ℕ) (a n : ℕ) → numbers_at (take (length body - a) (drop a body)) 0 n ≡ numbers_at body a n
-numbers_from body a n = rw (take_rest body a) (tab_same n _ _ (λ j h. number_from body a j))
+pub decoded_from :
+    {A : Type 0} (of : ℕ → A) (body : List ℕ) (a n : ℕ) →
+    decoded of (take (length body - a) (drop a body)) n ≡ tab n (λ i. of (number_at body (a + 4 * i) 4))
+decoded_from of body a n = rw (take_rest body a) (tab_same n _ _ (λ j h. ap of (number_from body a j)))
 
-fluxes_from : (body : List ℕ) (a n : ℕ) → fluxes_at (take (length body - a) (drop a body)) 0 n ≡ fluxes_at body a n
-fluxes_from body a n = rw (take_rest body a) (tab_same n _ _ (λ j h. ap signed (number_from body a j)))
-
--- ---- values decoded into the first n entries of some room, which then are lent on
-pub record Filled {A : Type 0} (room new : List A) (n : ℕ) (values : List A) : Type 0 where
-  pub back : take n (new ++ drop n room) ≡ values
-  pub long : n ≤ length (new ++ drop n room)
-  pub sized : n ≡ length (take n (new ++ drop n room))
-
-module _ {A : Type 0} {room new : List A} {n : ℕ} (fits : n ≤ length room) where
-  filled : (f : ℕ → A) → new ≡ tab (length (take n room)) f → Filled room new n (tab n f)
-  filled f is =
-      let values : new ≡ tab n f = is ∙ ap (λ (m : ℕ). tab m f) (length-take-le n room fits) in
-      let size : length new ≡ n = ap length values ∙ length_tab n f in
-      let back : take n (new ++ drop n room) ≡ tab n f = take_at new (drop n room) n size ∙ values in
-      record { back = back; long = omega (arith, length-append new (drop n room)); sized = sym (ap length back ∙ length_tab n f) }
-
-pub filled_numbers :
-    (room : List ℕ) (n : ℕ) (body : List ℕ) {new : List ℕ} → n ≤ length room → new ≡ numbers_at body 0 (length (take n room)) →
-    Filled room new n (numbers_at body 0 n)
-filled_numbers room n body fits is = filled fits (λ j. number_at body (0 + 4 * j) 4) is
-
--- fluxes from byte a of a body on
-pub filled_fluxes :
-    (room : List ℤ) (n : ℕ) (body : List ℕ) (a : ℕ) {new : List ℤ} → n ≤ length room →
-    new ≡ fluxes_at (take (length body - a) (drop a body)) 0 (length (take n room)) → Filled room new n (fluxes_at body a n)
-filled_fluxes room n body a {new} fits is =
-    subst (Filled room new n) (fluxes_from body a n)
-    (filled fits (λ j. signed (number_at (take (length body - a) (drop a body)) (0 + 4 * j) 4)) is)
+-- ---- values decoded from byte a on into the first n entries of some room: what these entries then hold
+pub filled_from :
+    {A : Type 0} (of : ℕ → A) (room : List A) {new : List A} {n : ℕ} (body : List ℕ) (a : ℕ) → n ≤ length room →
+    new ≡ decoded of (take (length body - a) (drop a body)) (length (take n room)) →
+    take n (new ++ drop n room) ≡ tab n (λ i. of (number_at body (a + 4 * i) 4))
+filled_from of room {new} {n} body a fits is =
+    let values = is ∙ ap (decoded of (take (length body - a) (drop a body))) (length-take-le n room fits) ∙ decoded_from of body a n in
+    take_at new (drop n room) n (ap length values ∙ length_tab n _) ∙ values
 
 -- ---- a call with equal lists is the same call
 pub agrees_same : (w : World) (call call' : Call) (x : Result ℕ Refusal) (next : World) → call ≡ call' → Agrees w call x next → Agrees w call' x next

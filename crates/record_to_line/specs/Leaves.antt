@@ -1,44 +1,22 @@
 -- Laws of what a record leaves in the program's buffers: a world written over their first entries, or nothing written.
-use Rattle.std.specs.Prelude.{ℕ, zero, suc, ◌*◌, List, ◌++◌, ◌≡◌, length, take, drop, Some, Result}
+use Rattle.std.specs.Prelude.{ℕ, zero, suc, List, ◌≡◌, Some, Result}
 use Rattle.std.proofs.Math.Path.{refl, ap, ap₂, subst}
-use Rattle.std.proofs.Common.{sym, ◌∙◌, zero-add, take_at}
-use Rattle.model.specs.Limits.{block_numbers}
-use Rattle.model.specs.Basic.{written}
+use Rattle.std.proofs.Common.{sym, ◌∙◌}
 use Rattle.model.specs.World as model
 use Rattle.model.specs.Step.{Call, load, step}
 use Rattle.model.specs.Lists.{loaded_world}
 use Rattle.units.specs.declared.Grid as declared
 use Rattle.units.specs.declared.Refusal.{Refusal}
-use Rattle.units.specs.Answer.{number_of, count_of, Agrees}
-use Rattle.units.specs.Grid.{grid_of, world_of}
+use Rattle.units.specs.Answer.{number_of, count_of}
+use Rattle.units.specs.Grid.{grid_of}
 use Rattle.program.specs.Records as program
 use Rattle.stages.specs.declared.Stage.{Stage}
 use Rattle.stages.specs.declared.Stage.TheVariants.{Gridded, Loaded}
-use Rattle.stages.specs.Buffers.{Buffers, buffers, world_in, held, over}
+use Rattle.stages.specs.Buffers.{Buffers, held}
 use Rattle.stages.specs.Stage.{state_of}
 use Rattle.lines.specs.declared.Line as lines
 use Rattle.record_to_line.specs.declared.Outcome as code
 use Rattle.record_to_line.specs.Outcome.{line_is, load_world, Leaves, AnswersLoad, Made, TakesLoad}
-
--- the parts of the buffers that a grid's world has, and the buffers with other lists in those parts
-abbrev pub parts : declared.Grid → ℕ → Buffers → Buffers
-parts g cells b =
-    buffers (take cells b.air) (take (g.n * cells) b.tracers) (take (g.n * block_numbers) b.ledger)
-
-abbrev pub joined : declared.Grid → ℕ → Buffers → Buffers → Buffers
-joined g cells new b =
-    buffers (new.air ++ drop cells b.air) (new.tracers ++ drop (g.n * cells) b.tracers)
-    (new.ledger ++ drop (g.n * block_numbers) b.ledger)
-
--- lists as long as the parts
-pub record Sized (g : declared.Grid) (cells : ℕ) (new : Buffers) : Type 0 where
-  pub air : length new.air ≡ cells
-  pub tracers : length new.tracers ≡ g.n * cells
-  pub ledger : length new.ledger ≡ g.n * block_numbers
-
--- a list written over the first entries
-written_first : (l new : List ℕ) (n : ℕ) → length new ≡ n → new ++ drop n l ≡ written l 0 new
-written_first l new n e = ap (λ (m : ℕ). new ++ drop m l) (sym (zero-add (length new) ∙ e))
 
 -- a line is that of a call's answer, and the program goes on after it
 abbrev pub IsLine : lines.Line → ℕ → Result ℕ Refusal → Type 0
@@ -54,37 +32,6 @@ loaded_after w e = rw (e, program.after_load)
 gridded_after : (w : model.World) (n : ℕ) → (step w load).answer ≡ n → (n ≡ 0 → ⊥) → program.after_load w ≡ program.gridded w.grid
 gridded_after w zero e nonzero = absurd (nonzero refl)
 gridded_after w (suc n) e nonzero = rw (e, program.after_load)
-
--- ---- the buffers with new lists in the world's parts
-module _ {g : declared.Grid} {cells : ℕ} (sized : cells ≡ model.world_cells (grid_of g)) (b : Buffers) where
-  pub held_parts : held (grid_of g) b ≡ world_in g (parts g cells b)
-  held_parts = ap (λ (n : ℕ). world_in g (parts g n b)) (sym sized)
-
-  module _ (new : Buffers) (long : Sized g cells new) where
-    held_joined : held (grid_of g) (joined g cells new b) ≡ world_in g new
-    held_joined =
-        let air = take_at new.air (drop cells b.air) cells long.air in
-        let tracers = take_at new.tracers (drop (g.n * cells) b.tracers) (g.n * cells) long.tracers in
-        let ledger = take_at new.ledger (drop (g.n * block_numbers) b.ledger) (g.n * block_numbers) long.ledger in
-        ap (λ (n : ℕ). world_in g (parts g n (joined g cells new b))) (sym sized) ∙
-        (λ i. world_of g (air i) (tracers i) (ledger i))
-
-    over_joined : joined g cells new b ≡ over b (world_in g new)
-    over_joined =
-        let air = written_first b.air new.air cells long.air in
-        let tracers = written_first b.tracers new.tracers (g.n * cells) long.tracers in
-        let ledger = written_first b.ledger new.ledger (g.n * block_numbers) long.ledger in
-        λ i. buffers (air i) (tracers i) (ledger i)
-
-    -- a call that was made in those parts
-    pub made_in : {w : model.World} {call : Call} {x : Result ℕ Refusal} → Agrees w call x (world_in g new) → Made g w call x b (joined g cells new b)
-    made_in agrees =
-        record {
-          number = agrees.number;
-          count = agrees.count;
-          held_is = held_joined ∙ agrees.left;
-          left_is = over_joined ∙ ap (over b) agrees.left;
-        }
 
 -- ---- a call's record, and a load's
 module _ {g : declared.Grid} (taken : program.grid_refusal (grid_of g) ≡ 0) where
