@@ -19,7 +19,7 @@ pub fn book_balances(block: &Block, cells: u64) -> bool
     came == gone + cells
 }
 
-// Whether those of the first n tracers do, with their totals.
+// Whether the books of the first n tracers agree with their totals.
 pub fn books_balance(ledger: &[u32], totals: [u64; MOST_TRACERS], n: usize) -> bool
     requires { (n * block_numbers ≤ length ledger.now) × (n ≤ 8) × (every n (λ t. leb (at totals t) total_limit) ≡ true) }
     ensures { result ≡ every n (λ t. balances (part ledger.now (t * block_numbers) block_numbers) (at totals t)) }
@@ -44,7 +44,7 @@ pub fn withdrawal_fits(block: &Block, had: u32, amount: u32) -> bool
     (amount <= had) & (withdrawn + u64::from(amount) <= SUM_LIMIT)
 }
 
-// Enters so many units emitted; and withdrawn. Two functions, so that a call names the entry that it makes: with the place as a parameter each call could name a place that is no entry.
+// Enters so many units emitted; and withdrawn. Two functions, each named by its entry: one with a flag, or with the place, would be told what to write by a value that says less than the name.
 pub fn enter_emitted(block: &mut Block, units: u32)
     requires { emitted_sum block.old + units ≤ sum_limit }
     ensures { block.new ≡ entered block.old units 0 }

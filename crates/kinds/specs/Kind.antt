@@ -1,5 +1,5 @@
 -- The code's kinds as the model's.
-use Rattle.std.specs.Prelude.{ℕ, ◌≡◌, Result, Ok, Err}
+use Rattle.std.specs.Prelude.{ℕ, ◌≡◌, Option, None, Some, Result, Ok, Err}
 use Rattle.program.specs.Records as program
 use Rattle.stages.specs.declared.Fault.{Fault}
 use Rattle.stages.specs.declared.Fault.TheVariants as fault
@@ -16,6 +16,11 @@ kind_is Meridional = program.meridional_kind
 kind_is Remap = program.remap_kind
 kind_is Total = program.total_kind
 kind_is Cell = program.cell_kind
+
+-- .. with none for a record of no kind
+abbrev pub known_or_not : Option code.Kind → program.Kind
+known_or_not None = program.unknown
+known_or_not (Some k) = kind_is k
 
 -- what a byte names: a kind, or none, which is a fault of the kind
 abbrev pub Names : ℕ → Result code.Kind Fault → Type 0

@@ -7,7 +7,7 @@ ghost use Rattle.units.specs.Grid.{grid_of};
 ghost use Rattle.stages.specs.Buffers.{empty};
 ghost use Rattle.stages.specs.Limits.{program_body};
 ghost use Rattle.stages.specs.Stage.{plain_state, SmallGrid};
-ghost use Rattle.kinds.specs.Kind.{kind_is, Names};
+ghost use Rattle.kinds.specs.Kind.{known_or_not, Names};
 
 use stages::{Fault, Stage, cells_of};
 use units::Grid;
@@ -59,27 +59,30 @@ fn is_loaded(stage: Stage) -> bool
     matches!(stage, Stage::Loaded(_))
 }
 
-// Place 13: whether a record of this kind may come now.
-pub fn in_place(stage: Stage, kind: Kind) -> bool
-    ensures { result ≡ in_place (plain_state stage empty) (kind_is kind) }
+// Place 13: whether a record of this kind may come now; one of no kind may not.
+pub fn in_place(stage: Stage, kind: Option<Kind>) -> bool
+    ensures { result ≡ in_place (plain_state stage empty) (known_or_not kind) }
 {
     match kind {
-        Kind::Grid => is_start(stage),
-        Kind::Load => !is_start(stage),
-        Kind::Emission
-        | Kind::Withdrawal
-        | Kind::Zonal
-        | Kind::Meridional
-        | Kind::Remap
-        | Kind::Total
-        | Kind::Cell => is_loaded(stage),
+        None => false,
+        Some(Kind::Grid) => is_start(stage),
+        Some(Kind::Load) => !is_start(stage),
+        Some(
+            Kind::Emission
+            | Kind::Withdrawal
+            | Kind::Zonal
+            | Kind::Meridional
+            | Kind::Remap
+            | Kind::Total
+            | Kind::Cell,
+        ) => is_loaded(stage),
     }
 }
 
-// The length of a body, which the kind and the grid fix.
-pub fn body_length(g: Grid, kind: Kind) -> usize
+// The length of a body, which the kind and the grid fix; none of no kind.
+pub fn body_length(g: Grid, kind: Option<Kind>) -> usize
     requires { SmallGrid g }
-    ensures { (result ≡ body_length (grid_of g) (kind_is kind)) × (result ≤ program_body) }
+    ensures { (result ≡ body_length (grid_of g) (known_or_not kind)) × (result ≤ program_body) }
 {
     let w = g.w as usize;
     let r = g.r as usize;
@@ -87,13 +90,14 @@ pub fn body_length(g: Grid, kind: Kind) -> usize
     let n = g.n as usize;
     let cells = cells_of(g);
     match kind {
-        Kind::Grid => 4,
-        Kind::Load => 4 * (cells + n * cells),
-        Kind::Emission | Kind::Withdrawal => 7,
-        Kind::Zonal => 2 + 4 * w,
-        Kind::Meridional => 1 + 4 * (w * (r + 1)),
-        Kind::Remap => 4 * (2 * (k + 1)),
-        Kind::Total => 1,
-        Kind::Cell => 3,
+        None => 0,
+        Some(Kind::Grid) => 4,
+        Some(Kind::Load) => 4 * (cells + n * cells),
+        Some(Kind::Emission | Kind::Withdrawal) => 7,
+        Some(Kind::Zonal) => 2 + 4 * w,
+        Some(Kind::Meridional) => 1 + 4 * (w * (r + 1)),
+        Some(Kind::Remap) => 4 * (2 * (k + 1)),
+        Some(Kind::Total) => 1,
+        Some(Kind::Cell) => 3,
     }
 }

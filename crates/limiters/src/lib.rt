@@ -84,7 +84,7 @@ pub fn limiter_fits(l: Limiter) -> bool
     (PRESENT_LIMITER <= l.number) & (l.number <= FIXED_LIMITER) & (l.lo <= l.hi)
 }
 
-// Whether the limiters of the first n tracers are.
+// Whether the limiters of the first n tracers fit.
 pub fn limiters_fit(ledger: &[u32], n: usize) -> bool
     requires { (n * block_numbers ≤ length ledger.now) × (n ≤ 8) }
     ensures { result ≡ every n (λ t. limiter_fits (limiter_at ledger.now t)) }

@@ -23,6 +23,7 @@ fn put_byte(b: u8, out: &mut [u8], end: usize) -> usize
     at
 }
 
+// Writes a number's digits, of which no range counts how many there are.
 // Not std's `write!` in an `impl Display`: it may answer Err, and line_text may not; and into a slice it says nothing of the bytes.
 fn put_decimal(n: u32, out: &mut [u8], end: usize) -> usize
     requires { (10 ≤ end) × (end ≤ length out.old) }

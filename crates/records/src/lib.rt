@@ -14,7 +14,7 @@ fn placed(stage: Stage, byte: u8) -> Result<Kind, Fault>
     ensures { IsPlaced (plain_state stage empty) byte result }
 {
     let kind = Kind::try_from(byte)?;
-    if !in_place(stage, kind) {
+    if !in_place(stage, Some(kind)) {
         return Err(Fault::Kind);
     }
     Ok(kind)
@@ -26,7 +26,7 @@ pub fn body_bytes(stage: Stage, kind: u8) -> usize
 {
     let sound = stage.settled();
     match placed(sound, kind) {
-        Ok(known) => body_length(sound.grid(), known),
+        Ok(known) => body_length(sound.grid(), Some(known)),
         Err(_) => 0,
     }
 }
@@ -40,7 +40,7 @@ pub fn read(stage: Stage, input: &[u8]) -> Result<Option<Command>, Fault>
     };
     let sound = stage.settled();
     let kind = placed(sound, byte)?;
-    if body.len() < body_length(sound.grid(), kind) {
+    if body.len() < body_length(sound.grid(), Some(kind)) {
         return Err(Fault::Length);
     }
     Ok(Some(parse(kind, body)))

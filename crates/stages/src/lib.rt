@@ -77,7 +77,7 @@ impl From<GridRefusal> for u32 {
     }
 }
 
-// Whether the program takes a grid: 15 after 1.
+// Whether the program takes a grid, or why not: 15 after 1.
 pub fn grid_refusal(g: Grid) -> Result<(), GridRefusal>
     ensures { refusal_of result ≡ grid_refusal (grid_of g) }
 {
@@ -117,7 +117,7 @@ impl Stage {
     }
 }
 
-// All cells of a grid that the program takes.
+// All cells of a grid that the program takes, or none of the grid at the start, of which units::world_cells does not speak.
 pub fn cells_of(g: Grid) -> usize
     requires { SmallGrid g }
     ensures { (result ≡ world_cells (grid_of g)) × (result ≤ program_cells) }

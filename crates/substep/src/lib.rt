@@ -2,7 +2,7 @@
 // A lent list holds numbers, and its parameter's name says of what: air, or a tracer (gas). A number becomes an amount, `Air::new(..)` or `Tracer::new(..)`, where it is read; amounts are added and subtracted only by functions that take and give amounts of one unit.
 #![tactic(auto)]
 
-ghost use Rattle.std.specs.Prelude.{◌≡◌, ◌+◌, ◌-◌, ◌≤◌, length};
+ghost use Rattle.std.specs.Prelude.{◌≡◌, ◌+◌, ◌-◌, ◌≤◌, length, replicate};
 ghost use Rattle.model.specs.Basic.{at};
 ghost use Rattle.model.specs.Scheme.{high_piece, low_piece};
 ghost use Rattle.units.specs.Limiter.{limiter_of};
@@ -22,7 +22,10 @@ pub struct Flow<const F: usize> {
 
 impl<const F: usize> Flow<F> {
     // A flow in which nothing passes.
-    pub fn none() -> Self {
+    pub fn none() -> Self
+        ensures up { result.up ≡ replicate F 0 }
+        ensures down { result.down ≡ replicate F 0 }
+    {
         Flow {
             up: [0; F],
             down: [0; F],

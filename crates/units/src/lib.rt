@@ -27,6 +27,7 @@ pub const TABLE_LIMIT: u32 = 2097120;
 
 pub const MOST_SUBSTEPS: u32 = 16;
 
+// The sizes of arrays, of which a grid uses the first entries: the library has no heap, so that each has room for the largest grid.
 pub const MOST_COLUMNS: usize = 72;
 
 pub const MOST_ROWS: usize = 44;
@@ -68,7 +69,7 @@ pub const PROGRAM_FACES: usize = 2118; // of a layer that the program takes
 
 pub const PROGRAM_BODY: usize = 24576; // bytes of the longest body of a record
 
-// What an amount is of: a const parameter of its type.
+// What an amount is of: a const parameter of its type. A number and no type: document 01 wants structs of one field, and a type as parameter wants a second one.
 pub const AIR: u8 = 0;
 
 pub const TRACER: u8 = 1;
