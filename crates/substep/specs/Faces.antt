@@ -16,6 +16,10 @@ use Rattle.model.proofs.Laws.Mesh.{Regular, leaving_times, entering_times}
 abbrev pub flow_of : List ℕ → List ℕ → Flow
 flow_of up down = record { to_high = at up; to_low = at down }
 
+-- .. and nothing passes any face
+abbrev pub NothingPasses : List ℕ → List ℕ → Type 0
+NothingPasses up down = (face : ℕ) → (at up face ≡ 0) × (at down face ≡ 0)
+
 -- two flows agree at the first n faces
 pub record Same (n : ℕ) (one other : Flow) : Type 0 where
   pub high : (k : ℕ) → k < n → one.to_high k ≡ other.to_high k

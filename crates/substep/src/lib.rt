@@ -2,11 +2,11 @@
 // A lent list holds numbers, and its parameter's name says of what: air, or a tracer (gas). A number becomes an amount, `Air::new(..)` or `Tracer::new(..)`, where it is read; amounts are added and subtracted only by functions that take and give amounts of one unit.
 #![tactic(auto)]
 
-ghost use Rattle.std.specs.Prelude.{◌≡◌, ◌+◌, ◌-◌, ◌≤◌, length, replicate};
+ghost use Rattle.std.specs.Prelude.{◌≡◌, ◌+◌, ◌-◌, ◌≤◌, length};
 ghost use Rattle.model.specs.Basic.{at};
 ghost use Rattle.model.specs.Scheme.{high_piece, low_piece};
 ghost use Rattle.units.specs.Limiter.{limiter_of};
-ghost use Rattle.substep.specs.Faces.{PartsNeed, AreParts};
+ghost use Rattle.substep.specs.Faces.{NothingPasses, PartsNeed, AreParts};
 ghost use Rattle.substep.specs.Cells.{CellFlows, Sums, may_pass};
 ghost use Rattle.substep.specs.Pieces.{HasAir, AreRatios, PieceNeed, mismatch_in};
 
@@ -23,8 +23,7 @@ pub struct Flow<const F: usize> {
 impl<const F: usize> Flow<F> {
     // A flow in which nothing passes.
     pub fn none() -> Self
-        ensures up { result.up ≡ replicate F 0 }
-        ensures down { result.down ≡ replicate F 0 }
+        ensures { NothingPasses result.up result.down }
     {
         Flow {
             up: [0; F],
