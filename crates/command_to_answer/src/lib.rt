@@ -10,9 +10,9 @@ ghost use Rattle.units.specs.Grid.{world_of};
 ghost use Rattle.stages.specs.Buffers.{buffers};
 ghost use Rattle.stages.specs.Stage.{SmallGrid};
 ghost use Rattle.command_to_answer.specs.Fill.{decoded};
-ghost use Rattle.command_to_answer.specs.Makes.{MakeNeed, Makes, LoadNeed, MakesLoad};
+ghost use Rattle.command_to_answer.specs.Makes.{CallNeed, MakesCall, MakeNeed, Makes, LoadNeed, MakesLoad};
 
-use commands::Call;
+use commands::{Call, Command};
 use fields::number_4;
 use units::{Answer, Grid, MOST_COLUMNS, MOST_EDGES, PROGRAM_FACES};
 
@@ -99,7 +99,7 @@ fn make_remap(g: Grid, body: &[u8], air: &mut [u32], tracers: &mut [u32], ledger
 }
 
 // Makes a call in the world of exactly these slices.
-pub fn make(
+pub fn make_call(
     g: Grid,
     call: Call,
     body: &[u8],
@@ -107,8 +107,8 @@ pub fn make(
     tracers: &mut [u32],
     ledger: &mut [u32],
 ) -> Answer
-    requires { MakeNeed g call body.now }
-    ensures { Makes g call body.now result (buffers air.old tracers.old ledger.old) (buffers air.new tracers.new ledger.new) }
+    requires { CallNeed g call body.now }
+    ensures { MakesCall g call body.now result (buffers air.old tracers.old ledger.old) (buffers air.new tracers.new ledger.new) }
 {
     match call {
         Call::Emission(e) => {
@@ -122,6 +122,24 @@ pub fn make(
         Call::Remap => make_remap(g, body, air, tracers, ledger),
         Call::Total { tracer } => amounts::total(g, air, tracers, ledger, tracer),
         Call::Cell { tracer, cell } => amounts::cell(g, air, tracers, ledger, tracer, cell),
+    }
+}
+
+// Makes the call that a command asks for there. A grid and a load are no calls: of them it makes none.
+pub fn make(
+    g: Grid,
+    c: Command,
+    body: &[u8],
+    air: &mut [u32],
+    tracers: &mut [u32],
+    ledger: &mut [u32],
+) -> Answer
+    requires { MakeNeed g c body.now }
+    ensures { Makes g c body.now result (buffers air.old tracers.old ledger.old) (buffers air.new tracers.new ledger.new) }
+{
+    match c {
+        Command::Call(call) => make_call(g, call, body, air, tracers, ledger),
+        Command::Grid(_) | Command::Load => Ok(0),
     }
 }
 

@@ -10,7 +10,7 @@ ghost use Rattle.units.specs.Answer.{number_of, count_of};
 ghost use Rattle.program.specs.Records.{line};
 ghost use Rattle.record_to_line.specs.Outcome.{line_is, load_world, AnswersLoad, Made, TakesGrid, TakeNeed, TakesLoad, TakesCall, CarryNeed, CarriesCommand, Carries};
 
-use command_to_answer::{make, make_load};
+use command_to_answer::{make_call, make_load};
 use commands::{Call, Command};
 use lines::Line;
 use records::read;
@@ -106,7 +106,7 @@ fn call_in(
 {
     let cells = cells_of(g);
     let n = g.n as usize;
-    make(
+    make_call(
         g,
         call,
         body,
