@@ -6,11 +6,11 @@ ghost use Rattle.units.specs.Grid.{world_of, world_in};
 ghost use Rattle.units.specs.Answer.{Agrees};
 ghost use Rattle.amounts.specs.Amount.{IsCellPlace};
 
-use books::{emission_fits, enter_emitted, enter_withdrawn, withdrawal_fits};
+use books::{emission_fits, enter_emitted_in, enter_withdrawn_in, withdrawal_fits};
 use ledger::renew;
-use limiters::{block_at, put_block};
+use limiters::block_at;
 use places::{Lent, common_places, world_places};
-use units::{Answer, Grid, Refusal, World, world_cells};
+use units::{Answer, Grid, LEDGER_BLOCK, Refusal, World, world_cells};
 
 // Tests lent air and tracers, and leaves for every tracer no emitter, the first limiter, and its total in its book.
 pub fn load(g: Grid, air: &[u32], tracers: &[u32], ledger: &mut [u32]) -> Answer
@@ -104,13 +104,12 @@ pub fn emission(
     };
     let place = amount_place(w, tracer, cell)?;
     let t = tracer as usize;
-    let mut block = *block_at(ledger, t);
-    if !emission_fits(&block, place.total, u64::from(amount)) {
+    if !emission_fits(block_at(ledger, t), place.total, u64::from(amount)) {
         return Err(Refusal::Emission);
     }
     tracers[place.index] += amount;
-    enter_emitted(&mut block, amount);
-    put_block(ledger, t, &block);
+    let a = t * LEDGER_BLOCK;
+    enter_emitted_in(&mut ledger[a..a + LEDGER_BLOCK], amount);
     Ok(0) // counts not named are 0
 }
 
@@ -135,12 +134,11 @@ pub fn withdrawal(
     let place = amount_place(w, tracer, cell)?;
     let had = tracers[place.index];
     let t = tracer as usize;
-    let mut block = *block_at(ledger, t);
-    if !withdrawal_fits(&block, had, amount) {
+    if !withdrawal_fits(block_at(ledger, t), had, amount) {
         return Err(Refusal::Withdrawal);
     }
     tracers[place.index] = had - amount;
-    enter_withdrawn(&mut block, amount);
-    put_block(ledger, t, &block);
+    let a = t * LEDGER_BLOCK;
+    enter_withdrawn_in(&mut ledger[a..a + LEDGER_BLOCK], amount);
     Ok(0)
 }

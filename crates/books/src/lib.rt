@@ -58,3 +58,24 @@ pub fn enter_withdrawn(block: &mut Block, units: u32)
 {
     block[BOOK_PLACE + 2] += units;
 }
+
+// The same two in the tracer's part of the ledger, written where it is lent: a copy of the block would want a function of libc, and so more stack than the calls.
+pub fn enter_emitted_in(part: &mut [u32], units: u32)
+    requires { (length part.old ≡ block_numbers) × (emitted_sum part.old + units ≤ sum_limit) }
+    ensures { (part.new ≡ entered part.old units 0) × (length part.new ≡ block_numbers) }
+{
+    let Some(block) = part.as_mut_array() else {
+        unreachable!()
+    };
+    enter_emitted(block, units);
+}
+
+pub fn enter_withdrawn_in(part: &mut [u32], units: u32)
+    requires { (length part.old ≡ block_numbers) × (withdrawn_sum part.old + units ≤ sum_limit) }
+    ensures { (part.new ≡ entered part.old 0 units) × (length part.new ≡ block_numbers) }
+{
+    let Some(block) = part.as_mut_array() else {
+        unreachable!()
+    };
+    enter_withdrawn(block, units);
+}

@@ -1,13 +1,28 @@
 // The call that sets one tracer's limiter and its bounds. It takes the grid and the lent buffers one by one, as its C function does, so that its signature says which of them it writes.
 #![tactic(auto)]
 
+ghost use Rattle.std.specs.Prelude.{◌≡◌, length};
+ghost use Rattle.model.specs.Limits.{block_numbers};
+ghost use Rattle.model.specs.Limiters.{with_limiter};
 ghost use Rattle.model.specs.Step.{set_limiter};
+ghost use Rattle.units.specs.Limiter.{limiter_of};
 ghost use Rattle.units.specs.Answer.{Agrees};
 ghost use Rattle.units.specs.Grid.{world_of};
 
-use limiters::{block_at, limiter_fits, put_block, write_limiter};
+use limiters::{limiter_fits, write_limiter};
 use places::{Lent, common_places};
-use units::{Answer, Grid, Limiter, Refusal, World};
+use units::{Answer, Grid, LEDGER_BLOCK, Limiter, Refusal, World};
+
+// Writes a limiter in a tracer's part of the ledger, where it is lent: a copy of the block would want a function of libc, and so more stack than the call.
+fn write_in(part: &mut [u32], l: Limiter)
+    requires { length part.old ≡ block_numbers }
+    ensures { (part.new ≡ with_limiter part.old (limiter_of l)) × (length part.new ≡ block_numbers) }
+{
+    let Some(block) = part.as_mut_array() else {
+        unreachable!()
+    };
+    write_limiter(block, l);
+}
 
 // Stores the given limiter and bounds as they are given, if the limiter is one of the three and `lo` is at most `hi`; what stood there is not tested.
 pub fn set_limiter(
@@ -40,9 +55,7 @@ pub fn set_limiter(
     if !limiter_fits(given) {
         return Err(Refusal::Limiters);
     }
-    let t = tracer as usize;
-    let mut block = *block_at(ledger, t);
-    write_limiter(&mut block, given);
-    put_block(ledger, t, &block);
+    let a = (tracer as usize) * LEDGER_BLOCK;
+    write_in(&mut ledger[a..a + LEDGER_BLOCK], given);
     Ok(0)
 }

@@ -1,23 +1,23 @@
--- What `emitter_place` finds: the named tracer's block, with a record that fits, and the tracer's total; and the calls that are tested so.
+-- What `emitter_place` finds: the named tracer's total, and that its record fits; and the calls that are tested so.
 -- Assumes of a call only that it lends no list of its own.
-use Rattle.std.specs.Prelude.{ℕ, ◌≤◌, ◌<◌, List, [], ◌∷◌, Bool, true, false, not, ◌||◌, ◌≡◌, leb, Result}
+use Rattle.std.specs.Prelude.{ℕ, ◌+◌, ◌*◌, ◌-◌, ◌≤◌, ◌<◌, List, [], ◌∷◌, Bool, true, false, not, ◌||◌, ◌≡◌, leb, length, Result}
 use Rattle.std.proofs.Math.Path.{refl}
 use Rattle.std.proofs.Common.{sym, ap, ◌∙◌}
-use Rattle.model.specs.Limits.{total_limit, most_emitters}
-use Rattle.model.specs.Basic.{every}
+use Rattle.model.specs.Limits.{total_limit, most_emitters, block_numbers}
+use Rattle.model.specs.Basic.{part, every}
 use Rattle.model.specs.World.{World, world_cells, block, gas_total}
 use Rattle.model.specs.Emitters.{standing, emitter_cell, kept_units, has_id, record_fits}
 use Rattle.model.specs.Step.{Call, Place, place, absent, no_room, broken_record, meaning, first_of, own_places, lent_fits, refusal, add_emitter, remove_emitter, tick, units_a_tick}
-use Rattle.model.proofs.Laws.Basic.{every_at}
+use Rattle.model.proofs.Laws.Basic.{every_at, length_part}
 use Rattle.model.proofs.Laws.Grid.{in_range_lem}
 use Rattle.model.proofs.Laws.Step.{Fits, passes, stops}
 use Rattle.units.specs.declared.Refusal.{Refusal}
+use Rattle.units.specs.Lent.{part_lent}
 use Rattle.books.specs.Lent.{BlockThere, block_there}
 use Rattle.ledger.specs.Block.{Kept, record_kept}
 use Rattle.places.specs.declared.Lent.TheVariants.{Nothing}
 use Rattle.places.specs.Walk.{Left, IsPlaced}
 use Rattle.places.specs.Tested.{Passed}
-use Rattle.emitters.specs.declared.EmitterPlace.{EmitterPlace}
 
 -- ---- the calls that are refused first where tracer t is absent or a record broken, and then by the places `rest`
 pub record Names (w : World) (t : ℕ) (call : Call) (rest : List Place) : Type 0 where
@@ -34,40 +34,51 @@ module _ {w : World} {t : ℕ} where
   names_left passed =
       record { is = λ call rest names. passed.left.is call (own_places call) (record { fit = names.lent; limiters = names.limiters; books = names.books; own = refl }) ∙ names.places }
 
--- ---- what is found: the tracer's block, with a record that fits, and the tracer's total
-pub record EmittersFound (w : World) (t : ℕ) (p : EmitterPlace) : Type 0 where
+-- ---- what is found: the tracer's total, and that its block lies in the ledger, with a record that fits
+pub record EmittersFound (w : World) (t total : ℕ) : Type 0 where
   pub left : Left w (Names w t) []
   pub fits : Fits w
   pub there : t < w.grid.N
   pub there_block : BlockThere w.ledger t
-  pub is : p.block ≡ block w t
-  pub kept : Kept p.block
-  pub cells : (i : ℕ) → i < standing p.block → emitter_cell p.block i < world_cells w.grid
-  pub total : p.total ≡ gas_total w t
-  pub limit : p.total ≤ total_limit
+  pub record_fits_lem : record_fits (world_cells w.grid) (block w t) ≡ true
+  pub kept : Kept (block w t)
+  pub cells : (i : ℕ) → i < standing (block w t) → emitter_cell (block w t) i < world_cells w.grid
+  pub is : total ≡ gas_total w t
+  pub limit : total ≤ total_limit
 
-abbrev pub IsEmitterPlace : World → ℕ → Result EmitterPlace Refusal → Type 0
+abbrev pub IsEmitterPlace : World → ℕ → Result ℕ Refusal → Type 0
 IsEmitterPlace w t = IsPlaced w (Names w t) (EmittersFound w t)
+
+-- the tracer's part of the ledger as a call lends it on: it is the block, of 59 numbers
+abbrev pub lent_block : World → ℕ → List ℕ
+lent_block w t = part w.ledger (t * block_numbers) (t * block_numbers + block_numbers - t * block_numbers)
+
+pub block_lent : (w : World) (t : ℕ) → lent_block w t ≡ block w t
+block_lent w t = part_lent w.ledger (t * block_numbers) block_numbers
+
+pub lent_long : {w : World} {t total : ℕ} → EmittersFound w t total → length (lent_block w t) ≡ block_numbers
+lent_long {w} {t} found = ap length (block_lent w t) ∙ length_part w.ledger (t * block_numbers) block_numbers found.there_block.inside
 
 -- the records' test, with the code's number of cells
 pub records_test : (w : World) {cells : ℕ} {r : Bool} → cells ≡ world_cells w.grid →
     r ≡ every w.grid.N (λ t. record_fits cells (block w t)) → r ≡ every w.grid.N (λ t. record_fits (world_cells w.grid) (block w t))
 records_test w {cells} same is = is ∙ ap (λ (c : ℕ). every w.grid.N (λ t. record_fits c (block w t))) same
 
-pub emitters_found : {w : World} {t : ℕ} {p : EmitterPlace} → Left w (Names w t) [] → Fits w → t < w.grid.N →
-    every w.grid.N (λ t. record_fits (world_cells w.grid) (block w t)) ≡ true → p.block ≡ block w t → p.total ≡ gas_total w t → EmittersFound w t p
-emitters_found {w} {t} left fits there all is total =
-    let tested = record_kept (world_cells w.grid) (block w t) (every_at _ _ all t there) in
+pub emitters_found : {w : World} {t total : ℕ} → Left w (Names w t) [] → Fits w → t < w.grid.N →
+    every w.grid.N (λ t. record_fits (world_cells w.grid) (block w t)) ≡ true → total ≡ gas_total w t → EmittersFound w t total
+emitters_found {w} {t} left fits there all is =
+    let record_is = every_at _ _ all t there in
+    let tested = record_kept (world_cells w.grid) (block w t) record_is in
     record {
       left = left;
       fits = fits;
       there = there;
       there_block = block_there w.ledger fits.ledger_length (in_range_lem w.grid fits.grid).high_n there;
+      record_fits_lem = record_is;
+      kept = tested.0;
+      cells = tested.1;
       is = is;
-      kept = rw is tested.0;
-      cells = rw is tested.1;
-      total = total;
-      limit = rw total (fits.totals t there);
+      limit = rw is (fits.totals t there);
     }
 
 -- ---- the calls that `emitter_place` serves, each with the places that it has behind these
@@ -119,5 +130,5 @@ module _ {w : World} {t : ℕ} where
   units_names = record { lent = refl; limiters = refl; books = refl; places = refl }
 
 -- the places that are left to a call
-pub places_left : {w : World} {t : ℕ} {p : EmitterPlace} → EmittersFound w t p → {call : Call} {rest : List Place} → Names w t call rest → refusal w call ≡ first_of rest w
+pub places_left : {w : World} {t total : ℕ} → EmittersFound w t total → {call : Call} {rest : List Place} → Names w t call rest → refusal w call ≡ first_of rest w
 places_left found {call} {rest} names = found.left.is call rest names

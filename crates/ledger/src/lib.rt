@@ -9,7 +9,7 @@ ghost use Rattle.model.specs.Emitters.{standing, emitter_id, emitter_cell, emitt
 ghost use Rattle.model.specs.Books.{fresh_block};
 ghost use Rattle.ledger.specs.Block.{Searched, Kept};
 
-use limiters::{Block, block_at, put_block, set_wide, wide_in, write_limiter};
+use limiters::{Block, block_at, set_wide, wide_in, write_limiter};
 use units::{BOOK_PLACE, LEDGER_BLOCK, Limiter, MOST_EMITTERS, MOST_TRACERS, PRESENT_LIMITER};
 
 // A standing emitter: its id, the cell that it emits into, and its units a tick.
@@ -20,14 +20,18 @@ pub struct Emitter {
     pub units: u32,
 }
 
-// A block as a load of so many units leaves it: no emitter stands, the first limiter with both bounds 0, and in the book what was loaded.
-fn fresh_block(total: u64) -> Block
-    requires { total ≤ total_limit }
-    ensures { result ≡ fresh_block total }
+// Leaves in a tracer's part of the ledger the block of a load of so many units: no emitter stands, the first limiter with both bounds 0, and in the book what was loaded.
+// The block is written where it is lent: a copy of it would want a function of libc, and so more stack than the call.
+fn renew_block(part: &mut [u32], total: u64)
+    requires { (length part.old ≡ block_numbers) × (total ≤ total_limit) }
+    ensures { part.new ≡ fresh_block total }
 {
-    let mut block = [0; LEDGER_BLOCK];
+    let Some(block) = part.as_mut_array() else {
+        unreachable!()
+    };
+    block.fill(0);
     write_limiter(
-        &mut block,
+        block,
         Limiter {
             number: PRESENT_LIMITER,
             lo: 0,
@@ -35,7 +39,6 @@ fn fresh_block(total: u64) -> Block
         },
     );
     block[BOOK_PLACE] = total as u32;
-    block
 }
 
 // The blocks of n tracers as a load leaves them, with their totals; what stood there is not read.
@@ -44,7 +47,8 @@ pub fn renew(ledger: &mut [u32], totals: [u64; MOST_TRACERS], n: usize)
     ensures { ledger.new ≡ joined (tab n (λ t. fresh_block (at totals t))) }
 {
     for t in 0..n {
-        put_block(ledger, t, &fresh_block(totals[t]));
+        let a = t * LEDGER_BLOCK;
+        renew_block(&mut ledger[a..a + LEDGER_BLOCK], totals[t]);
     }
 }
 

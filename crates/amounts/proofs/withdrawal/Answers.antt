@@ -1,4 +1,7 @@
 -- `amounts::withdrawal` meets its contract: what is taken is at most the cell's amount, and the entry is within its limit.
+use Rattle.std.proofs.Common.{◌*◌}
+use Rattle.model.specs.Limits.{block_numbers}
+use Rattle.units.specs.Lent.{part_lent, put_back}
 use Rattle.places.specs.Walk.{hands_on}
 use Rattle.amounts.specs.Amount.{withdrawal_like, withdrawal_refused, withdrawal_agrees}
 use Rattle.amounts.proofs.withdrawal.Goals as goal
@@ -13,4 +16,5 @@ returns-then-not-withdrawal_fits c =
 pub returns : goal.returns
 returns c =
     let is = rw c.block_at.ensures at c.withdrawal_fits.ensures in
-    rw (c.put_block.ensures, c.enter_withdrawn.ensures, c.block_at.ensures) (withdrawal_agrees c.in_ok-place.ensures c.args.amount is c.if-not-withdrawal_fits.false)
+    rw (put_back c.args.ledger.now _ (c.args.tracer * block_numbers) block_numbers c.enter_withdrawn_in.ensures.1, c.enter_withdrawn_in.ensures.0, part_lent c.args.ledger.now (c.args.tracer * block_numbers) block_numbers)
+    (withdrawal_agrees c.in_ok-place.ensures c.args.amount is c.if-not-withdrawal_fits.false)

@@ -9,7 +9,7 @@ loop-i-init c = sym (ticked_none _ _)
 pub overflow_add-gas : goal.overflow_add-gas
 overflow_add-gas c =
     let e = c.emitter_at-emitter.ensures in
-    omega (arith, next_fits c.requires {i = c.loop-i.i} (omega arith) c.loop-i.invariant e.cell e.units)
+    omega (arith, (next_fits c.requires {i = c.loop-i.i} (omega arith) c.loop-i.invariant e.cell e.units).1)
 
 pub loop-i-preserved : goal.loop-i-preserved
 loop-i-preserved c =

@@ -26,4 +26,4 @@ returns c =
     let passed = c.in_ok-totals.ensures in
     let is = records_test (world_in c.args.w) c.world_cells-cells.ensures.0 c.records_fit.ensures in
     emitters_found (next (past_tracer c.args.tracer passed c.if-tracer-w.false) (fits is c.if-not-records_fit.false)) passed.fits c.if-tracer-w.false
-    (sym is ∙ c.if-not-records_fit.false) c.block_at.ensures (passed.total c.args.tracer c.if-tracer-w.false)
+    (sym is ∙ c.if-not-records_fit.false) (passed.total c.args.tracer c.if-tracer-w.false)
