@@ -51,6 +51,14 @@ fn air_between(low: u64, high: u64) -> Air
     Air::new((high - low) as u32)
 }
 
+// The air from the end of the cells passed to an edge in the cell after them. Its own function, since what is passed is air and no edge, so that its type is asked for.
+fn air_inside(passed: AirSum, edge: u64) -> Air
+    requires { (passed.0 ≤ edge) × (edge - passed.0 ≤ air_limit) }
+    ensures { result.0 ≡ edge - passed.0 }
+{
+    air_between(passed.0, edge)
+}
+
 // The air of the k new cells between k + 1 edges.
 pub fn new_air(e: &[u64], k: usize, newair: &mut [u32])
     requires { Served k e.now × (k ≤ length newair.old) }
@@ -165,7 +173,7 @@ fn walk_turn(
             place.ends += 1;
             continue;
         }
-        let inside = air_between(place.passed.0, edge);
+        let inside = air_inside(place.passed, edge);
         let next = plus(place.whole, low_piece(slopes[c], have, t, inside));
         newgas[place.j] = minus(next, place.last).0;
         place = place.past_edge(next);

@@ -187,8 +187,8 @@ loop-place-preserved-then-end-edge-2 c =
     })
 
 -- ---- an edge inside the cell
-pub air_between-inside-requires : goal.air_between-inside-requires
-air_between-inside-requires c =
+pub air_inside-inside-requires : goal.air_inside-inside-requires
+air_inside-inside-requires c =
     let i = c.loop-place.invariant in
     let ahead = ahead_here c.requires.line i.walking.stands c.loop-place-test.true in
     let most = c.requires.line.most c.loop-place.c i.inside in
@@ -197,7 +197,7 @@ air_between-inside-requires c =
 pub low_piece-requires : goal.low_piece-requires
 low_piece-requires c =
     cell_giver c.requires.line c.loop-place.invariant.inside refl c.new-have.ensures c.new-t.ensures
-    (omega (arith, c.air_between-inside.ensures, c.plus-end.ensures, c.if-end-edge.false))
+    (omega (arith, c.air_inside-inside.ensures, c.plus-end.ensures, c.if-end-edge.false))
 
 pub plus-next-requires : goal.plus-next-requires
 plus-next-requires c = omega (arith, fits (at_step c.requires c.loop-place.auto.newgas c.loop-place.invariant c.loop-place-test.true c.new-have.ensures c.new-t.ensures c.plus-end.ensures), c.low_piece.ensures.within)
@@ -205,13 +205,13 @@ plus-next-requires c = omega (arith, fits (at_step c.requires c.loop-place.auto.
 pub minus-requires-in-loop-place : goal.minus-requires-in-loop-place
 minus-requires-in-loop-place c =
     let s = at_step c.requires c.loop-place.auto.newgas c.loop-place.invariant c.loop-place-test.true c.new-have.ensures c.new-t.ensures c.plus-end.ensures in
-    (search rules, rises s c.if-end-edge.false (adds_piece s c.if-end-edge.false c.plus-next.ensures c.low_piece.ensures.is c.air_between-inside.ensures))
+    (search rules, rises s c.if-end-edge.false (adds_piece s c.if-end-edge.false c.plus-next.ensures c.low_piece.ensures.is c.air_inside-inside.ensures))
 
 pub loop-place-preserved : goal.loop-place-preserved
 loop-place-preserved c =
     let i = c.loop-place.invariant in
     let s = at_step c.requires c.loop-place.auto.newgas c.loop-place.invariant c.loop-place-test.true c.new-have.ensures c.new-t.ensures c.plus-end.ensures in
-    let adds = adds_piece s c.if-end-edge.false c.plus-next.ensures c.low_piece.ensures.is c.air_between-inside.ensures in
+    let adds = adds_piece s c.if-end-edge.false c.plus-next.ensures c.low_piece.ensures.is c.air_inside-inside.ensures in
     rw c.past_edge-place-in-loop-place.ensures
     (record {
       walking = edge_passed s c.if-end-edge.false adds c.minus-in-loop-place.ensures (edge_inside s c.if-end-edge.false c.if-end-edge-2.false);
