@@ -2,7 +2,8 @@
 // are proved in the crates below; here it is read and written.
 #![tactic(auto)]
 
-ghost use Rattle.std.specs.Prelude.{◌≤◌, length};
+ghost use Rattle.std.specs.Prelude.{◌≡◌, ◌+◌, ◌≤◌, length};
+ghost use Rattle.stages.specs.Limits.{program_body};
 
 use lines::{Line, line_text};
 use record_to_line::carry_out;
@@ -42,7 +43,9 @@ fn turn<R: Read>(
     stage: Stage,
     bytes: &mut [u8; PROGRAM_BODY + 1],
     buffers: &mut Buffers,
-) -> Option<Stage> {
+) -> Option<Stage>
+    requires { length bytes.old ≡ program_body + 1 }
+{
     let first = read_full(input, &mut bytes[..1]);
     if first == 0 {
         return None;
