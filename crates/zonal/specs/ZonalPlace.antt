@@ -1,5 +1,5 @@
 -- The places of the three calls of a zonal sweep after those that they share with the long sweep, and what `zonal_place` finds: where the row starts, and its substep count.
-use Rattle.std.specs.Prelude.{ℕ, ◌<◌, ◌≤◌, List, [], ◌∷◌, ◌≡◌, refl, eqb, ℤ, Option, None, Some, Result, Ok, MatchResult, ok_or}
+use Rattle.std.specs.Prelude.{ℕ, ◌<◌, ◌≤◌, List, [], ◌∷◌, ◌≡◌, refl, eqb, ℤ, Option, None, Some, Result, Ok, Err, MatchResult, ok_or}
 use Rattle.std.proofs.Common.{sym, ap₂, ◌∙◌}
 use Rattle.model.specs.Limits.{most_substeps}
 use Rattle.model.specs.World.{World, row_start}
@@ -60,6 +60,17 @@ abbrev pub IsZonalPlace : World → ℕ → ℕ → List ℤ → Result ZonalRow
 IsZonalPlace w k r fluxes = IsPlaced w (Like w (zonal k r fluxes)) (ZonalFound w k r fluxes)
 
 -- the count found is that of the call that only counts
-pub count_agrees : {w : World} {k r : ℕ} {fluxes : List ℤ} {found : ZonalRow} → ZonalFound w k r fluxes found →
+pub found_agrees : {w : World} {k r : ℕ} {fluxes : List ℤ} {found : ZonalRow} → ZonalFound w k r fluxes found →
     Agrees w (count_zonal k r fluxes) (Ok found.substeps) w
-count_agrees found = accepted_agrees (none (resume found.left count_like)) refl found.count refl
+found_agrees found = accepted_agrees (none (resume found.left count_like)) refl found.count refl
+
+-- what was answered, of the row found its count alone
+abbrev pub count_answered : Result ZonalRow Refusal → Result ℕ Refusal
+count_answered (Ok found) = Ok found.substeps
+count_answered (Err r) = Err r
+
+-- so the answer that `zonal_place` gives is that of the count before the sweep, accepted or refused
+pub count_agrees : {w : World} {k r : ℕ} {fluxes : List ℤ} (answer : Result ZonalRow Refusal) → IsZonalPlace w k r fluxes answer →
+    Agrees w (count_zonal k r fluxes) (count_answered answer) w
+count_agrees (Ok found) is = found_agrees is
+count_agrees (Err r) refuses = refuses _ _ count_like
