@@ -67,13 +67,7 @@ fn step_gas(l: Limiter, gas: &mut [u32], air: &[u32], flow: LentFlow)
 }
 
 // The rows of the first `tracers` tracers after one substep, each with the limiter of its block of the ledger.
-fn step_rows(
-    rows: &mut Rows,
-    ledger: &[u32],
-    air: &[u32],
-    flow: LentFlow,
-    tracers: usize,
-)
+fn step_rows(rows: &mut Rows, ledger: &[u32], air: &[u32], flow: LentFlow, tracers: usize)
     requires { StepsNeed tracers rows.old ledger.now air.now flow.up.now flow.down.now }
     ensures { AreSteps tracers rows.old ledger.now air.now flow.entry.up.now flow.entry.down.now rows.new }
 {

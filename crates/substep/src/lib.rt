@@ -38,9 +38,9 @@ impl<const F: usize> Flow<F> {
         }
     }
 
-    // The flow, to be read.
+    // The flow, to be read: two lists, each with room for F faces.
     pub fn lent(&self) -> LentFlow<'_>
-        ensures { (result.up.now ≡ self.now.up) × (result.down.now ≡ self.now.down) }
+        ensures { (result.up.now ≡ self.now.up) × (result.down.now ≡ self.now.down) × (length result.up.now ≡ F) × (length result.down.now ≡ F) }
     {
         LentFlow {
             up: &self.up,

@@ -22,8 +22,8 @@ loop-i-preserved c =
       search rules,
       search rules,
       same_more l.gas_up l.gas_down (search rules) (search rules) l.invariant.2
-      (rw c.new-to_north.ensures at c.northward-p.ensures ∙ piece_north limiter c.requires.0 c.requires.1 l.i c.loop-i-test.true)
-      (rw c.new-to_south.ensures at c.southward-r.ensures ∙ piece_south limiter c.requires.0 c.requires.1 l.i c.loop-i-test.true),
+          (rw c.new-to_north.ensures at c.northward-p.ensures ∙ piece_north limiter c.requires.0 c.requires.1 l.i c.loop-i-test.true)
+          (rw c.new-to_south.ensures at c.southward-r.ensures ∙ piece_south limiter c.requires.0 c.requires.1 l.i c.loop-i-test.true),
     )
 
 pub returns : goal.returns

@@ -21,8 +21,8 @@ loop-i-preserved c =
       search rules,
       search rules,
       same_more l.up l.down (search rules) (search rules) l.invariant.2
-      ((rw c.new-eastward.ensures at c.high_end-p.ensures) ∙ face_high (limiter_of c.args.l) c.requires h east c.west_of-west.ensures.0)
-      ((rw c.new-westward.ensures at c.low_end-r.ensures) ∙ face_low (limiter_of c.args.l) c.requires h east c.east_of-next.ensures.0),
+          ((rw c.new-eastward.ensures at c.high_end-p.ensures) ∙ face_high (limiter_of c.args.l) c.requires h east c.west_of-west.ensures.0)
+          ((rw c.new-westward.ensures at c.low_end-r.ensures) ∙ face_low (limiter_of c.args.l) c.requires h east c.east_of-next.ensures.0),
     )
 
 pub returns : goal.returns

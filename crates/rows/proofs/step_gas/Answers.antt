@@ -13,7 +13,7 @@ are_pieces :
 are_pieces c = rw (c.lent.ensures.0, c.lent.ensures.1) c.fill_pieces.ensures
 
 pub pass-requires : goal.pass-requires
-pass-requires c = pieces_pass c.requires (limiter_of c.args.l) _ _ (are_pieces (goal.at.pass-requires c).After-lent) (rw (c.lent.ensures.0, c.lent.ensures.1) (search rules))
+pass-requires c = pieces_pass c.requires (limiter_of c.args.l) _ _ (are_pieces (goal.at.pass-requires c).After-lent) (search rules)
 
 pub returns : goal.returns
 returns c =

@@ -11,7 +11,7 @@ are_parts : (c : After-lent-passes) → AreParts c.args.fluxes.now c.args.n (c.l
 are_parts c = rw (c.lent-passes.ensures.0, c.lent-passes.ensures.1) c.fill_parts.ensures
 
 room : (c : After-lent-passes) → FaceRoom (length c.args.fluxes.now) c.lent-passes.result.up.now c.lent-passes.result.down.now
-room c = rw (c.lent-passes.ensures.0, c.lent-passes.ensures.1) (search rules)
+room c = search rules
 
 pub loop-s-init : goal.loop-s-init
 loop-s-init c = after_none c.requires
