@@ -24,14 +24,6 @@ pub struct Shape {
 }
 
 impl Shape {
-    // Any of the size of a grid's layers.
-    pub fn new(w: usize, rows: usize) -> Self
-        requires { Size w rows }
-        ensures { (result.w ≡ w) × (result.rows ≡ rows) }
-    {
-        Shape { w, rows }
-    }
-
     // That of the layers of a grid.
     pub fn of(g: Grid) -> Self
         requires { InRange g }
