@@ -47,9 +47,9 @@
  *   puldeho_raw_load                   16,880
  *   puldeho_raw_emission               17,040
  *   puldeho_raw_withdrawal             16,912
- *   puldeho_raw_zonal                  27,776
+ *   puldeho_raw_zonal                  27,760
  *   puldeho_raw_count_zonal            17,616
- *   puldeho_raw_zonal_with_count       27,776
+ *   puldeho_raw_zonal_with_count       27,760
  *   puldeho_raw_long_zonal             19,184
  *   puldeho_raw_meridional             94,000
  *   puldeho_raw_remap                  18,128

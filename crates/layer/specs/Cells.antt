@@ -17,10 +17,15 @@ pub record Size (w rows : ℕ) : Type 0 where
   pub columns : w ≤ 72
   pub cells : rows * w ≤ 3168
 
--- an amount for each of its cells, and room for what passes its faces
-pub record Fit (w rows room : ℕ) (l : List ℕ) : Type 0 where
+-- two lists with an entry for each of its faces
+pub record Faces (w rows : ℕ) (up down : List ℕ) : Type 0 where
+  pub high : w + rows * w ≤ length up
+  pub low : w + rows * w ≤ length down
+
+-- an amount for each of its cells, and what passes its faces
+pub record Fit (w rows : ℕ) (l up down : List ℕ) : Type 0 where
   pub long : length l ≡ 2 + rows * w
-  pub faces : w + rows * w ≤ room
+  pub faces : Faces w rows up down
 
 pub layer_cells_lem : (w rows : ℕ) → (layer w rows).cells ≡ 2 + rows * w
 unfolding layer

@@ -18,27 +18,27 @@ abbrev pub MovedOn : Mesh → Flow → List ℕ → ℕ → List ℕ → ℕ →
 MovedOn mesh flow l c after d = (b : Begun mesh flow l c) → Moved mesh flow b.first after d
 
 -- ---- amounts and what passes the faces: before the south cap is passed on, after it, and after the rows
-abbrev pub Passing : ℕ → ℕ → ℕ → List ℕ → List ℕ → List ℕ → Type 0
-Passing w rows room l up down = Fit w rows room l × Moves (layer w rows) (flow_of up down) l
+abbrev pub Passing : ℕ → ℕ → List ℕ → List ℕ → List ℕ → Type 0
+Passing w rows l up down = Fit w rows l up down × Moves (layer w rows) (flow_of up down) l
 
-abbrev pub PassingRows : ℕ → ℕ → ℕ → List ℕ → List ℕ → List ℕ → Type 0
-PassingRows w rows room l up down = Fit w rows room l × Begun (layer w rows) (flow_of up down) l 1
+abbrev pub PassingRows : ℕ → ℕ → List ℕ → List ℕ → List ℕ → Type 0
+PassingRows w rows l up down = Fit w rows l up down × Begun (layer w rows) (flow_of up down) l 1
 
-abbrev pub PassedRows : ℕ → ℕ → ℕ → List ℕ → List ℕ → List ℕ → List ℕ → Type 0
-PassedRows w rows room l up down after =
-    Fit w rows room after × MovedOn (layer w rows) (flow_of up down) l 1 after (1 + rows * w)
+abbrev pub PassedRows : ℕ → ℕ → List ℕ → List ℕ → List ℕ → List ℕ → Type 0
+PassedRows w rows l up down after =
+    Fit w rows after up down × MovedOn (layer w rows) (flow_of up down) l 1 after (1 + rows * w)
 
 -- as many amounts as before
-pub still_fit : {w rows room : ℕ} {l after : List ℕ} → length after ≡ length l → Fit w rows room l → Fit w rows room after
+pub still_fit : {w rows : ℕ} {l after up down : List ℕ} → length after ≡ length l → Fit w rows l up down → Fit w rows after up down
 still_fit long fit = record { long = long ∙ fit.long; faces = fit.faces }
 
 -- ---- the south cap
-module _ {w rows room : ℕ} {l up down : List ℕ} (passing : Passing w rows room l up down) {e o : ℕ} (enters : IsSum down 0 w e)
+module _ {w rows : ℕ} {l up down : List ℕ} (passing : Passing w rows l up down) {e o : ℕ} (enters : IsSum down 0 w e)
     (leaves : IsSum up 0 w o) where
   pub south_exchange : CellFlows (at l 0) e o
   south_exchange = moved_exchange passing.1 (moved_none passing.1) (south_cell w rows up down enters leaves)
 
-  abbrev pub south_begun : {x : ℕ} → x ≡ at l 0 + e - o → PassingRows w rows room (set l 0 x) up down
+  abbrev pub south_begun : {x : ℕ} → x ≡ at l 0 + e - o → PassingRows w rows (set l 0 x) up down
   south_begun {x} is = (
     still_fit (length-set l 0 x) passing.0,
     record {
@@ -57,7 +57,7 @@ pub record RowsMoved (w rows : ℕ) (before up down l : List ℕ) (j : ℕ) : Ty
 module _ {w rows : ℕ} {before up down l : List ℕ} {j : ℕ} (sofar : RowsMoved w rows before up down l j) where
   -- the cell whose turn it is
   module _ {e o : ℕ} (h : j < rows * w) (enters : e ≡ at up j + at down (w + j)) (leaves : o ≡ at down j + at up (w + j)) where
-    pub row_exchange : {room : ℕ} → PassingRows w rows room before up down → CellFlows (at l (1 + j)) e o
+    pub row_exchange : PassingRows w rows before up down → CellFlows (at l (1 + j)) e o
     row_exchange (fit, begun) =
         moved_exchange begun.moves (sofar.moved begun) (row_cell_lem w rows up down j h enters leaves)
 
@@ -71,7 +71,7 @@ module _ {w rows : ℕ} {before up down l : List ℕ} {j : ℕ} (sofar : RowsMov
         }
 
 -- ---- the north cap
-module _ {w rows room : ℕ} {before up down l : List ℕ} (passing : PassingRows w rows room before up down) (passed : PassedRows w rows room before up down l)
+module _ {w rows : ℕ} {before up down l : List ℕ} (passing : PassingRows w rows before up down) (passed : PassedRows w rows before up down l)
     {e o : ℕ} (enters : IsSum up (rows * w) w e) (leaves : IsSum down (rows * w) w o) where
   pub north_exchange : CellFlows (at l (1 + rows * w)) e o
   north_exchange =

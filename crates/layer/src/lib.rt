@@ -12,7 +12,7 @@ ghost use Rattle.substep.specs.Cells.{cell_allowed};
 ghost use Rattle.layer.specs.Cells.{Size, Fit, CapFaces, IsSum};
 ghost use Rattle.layer.specs.Passing.{Passing, PassingRows, PassedRows};
 
-use substep::{Flow, after, both, cell_allows};
+use substep::{LentFlow, after, both, cell_allows};
 use units::{Air, AirSum, Amount, Grid, Sum};
 
 // The shape of a layer: w columns, and the rows between its caps.
@@ -58,61 +58,61 @@ fn across<const KIND: u8>(low: &[u32], high: &[u32], w: usize, j: usize) -> Sum<
 }
 
 // Whether every cell between the caps allows the substep.
-fn rows_allow<const F: usize>(air: &[u32], flow: &Flow<F>, shape: Shape) -> bool
-    requires { Fit shape.w shape.rows F air.now }
-    ensures { result ≡ every (shape.rows * shape.w) (λ j. cell_allowed (layer shape.w shape.rows) (flow_of flow.now.up flow.now.down) air.now (1 + j)) }
+fn rows_allow(air: &[u32], flow: LentFlow, shape: Shape) -> bool
+    requires { Fit shape.w shape.rows air.now flow.up.now flow.down.now }
+    ensures { result ≡ every (shape.rows * shape.w) (λ j. cell_allowed (layer shape.w shape.rows) (flow_of flow.entry.up.now flow.entry.down.now) air.now (1 + j)) }
 {
     let mut ok = true;
     for j in 0..shape.rows * shape.w {
-        let enters = across(&flow.up, &flow.down, shape.w, j);
-        let leaves = across(&flow.down, &flow.up, shape.w, j);
+        let enters = across(flow.up, flow.down, shape.w, j);
+        let leaves = across(flow.down, flow.up, shape.w, j);
         ok &= cell_allows(Air::new(air[1 + j]), enters, leaves);
     }
     ok
 }
 
 // Whether the substep is allowed: by the south cap, the rows and the north cap.
-pub fn layer_allowed<const F: usize>(air: &[u32], flow: &Flow<F>, shape: Shape) -> bool
-    requires { Fit shape.w shape.rows F air.now }
-    ensures { result ≡ allowed (layer shape.w shape.rows) (flow_of flow.now.up flow.now.down) air.now }
+pub fn layer_allowed(air: &[u32], flow: LentFlow, shape: Shape) -> bool
+    requires { Fit shape.w shape.rows air.now flow.up.now flow.down.now }
+    ensures { result ≡ allowed (layer shape.w shape.rows) (flow_of flow.entry.up.now flow.entry.down.now) air.now }
 {
     let w = shape.w;
     let n = shape.rows * w;
-    let south_in: AirSum = cap(&flow.down, 0, w);
-    let south_out: AirSum = cap(&flow.up, 0, w);
-    let north_in: AirSum = cap(&flow.up, n, w);
-    let north_out: AirSum = cap(&flow.down, n, w);
+    let south_in: AirSum = cap(flow.down, 0, w);
+    let south_out: AirSum = cap(flow.up, 0, w);
+    let north_in: AirSum = cap(flow.up, n, w);
+    let north_out: AirSum = cap(flow.down, n, w);
     let at_south = cell_allows(Air::new(air[0]), south_in, south_out);
     let at_north = cell_allows(Air::new(air[1 + n]), north_in, north_out);
     at_south & rows_allow(air, flow, shape) & at_north
 }
 
 // Passes on the amounts of the cells between the caps, after that of the south cap.
-fn pass_rows<const KIND: u8, const F: usize>(amounts: &mut [u32], flow: &Flow<F>, shape: Shape)
-    requires { PassingRows shape.w shape.rows F amounts.old flow.now.up flow.now.down }
-    ensures { PassedRows shape.w shape.rows F amounts.old flow.now.up flow.now.down amounts.new }
+fn pass_rows<const KIND: u8>(amounts: &mut [u32], flow: LentFlow, shape: Shape)
+    requires { PassingRows shape.w shape.rows amounts.old flow.up.now flow.down.now }
+    ensures { PassedRows shape.w shape.rows amounts.old flow.entry.up.now flow.entry.down.now amounts.new }
 {
     for j in 0..shape.rows * shape.w {
         let c = 1 + j;
-        let enters: Sum<KIND> = across(&flow.up, &flow.down, shape.w, j);
-        let leaves: Sum<KIND> = across(&flow.down, &flow.up, shape.w, j);
+        let enters: Sum<KIND> = across(flow.up, flow.down, shape.w, j);
+        let leaves: Sum<KIND> = across(flow.down, flow.up, shape.w, j);
         amounts[c] = after(Amount::new(amounts[c]), enters, leaves).0;
     }
 }
 
 // Passes on a layer's air by the air that passes each face, or a tracer by the pieces that it carries.
-pub fn pass_layer<const KIND: u8, const F: usize>(amounts: &mut [u32], flow: &Flow<F>, shape: Shape)
-    requires { Passing shape.w shape.rows F amounts.old flow.now.up flow.now.down }
-    ensures { amounts.new ≡ after_flow (layer shape.w shape.rows) (flow_of flow.now.up flow.now.down) amounts.old }
+pub fn pass_layer<const KIND: u8>(amounts: &mut [u32], flow: LentFlow, shape: Shape)
+    requires { Passing shape.w shape.rows amounts.old flow.up.now flow.down.now }
+    ensures { amounts.new ≡ after_flow (layer shape.w shape.rows) (flow_of flow.entry.up.now flow.entry.down.now) amounts.old }
 {
     let w = shape.w;
     let n = shape.rows * w;
     let north = 1 + n;
-    let south_in: Sum<KIND> = cap(&flow.down, 0, w);
-    let south_out: Sum<KIND> = cap(&flow.up, 0, w);
+    let south_in: Sum<KIND> = cap(flow.down, 0, w);
+    let south_out: Sum<KIND> = cap(flow.up, 0, w);
     amounts[0] = after(Amount::new(amounts[0]), south_in, south_out).0;
-    pass_rows::<KIND, F>(amounts, flow, shape);
-    let north_in: Sum<KIND> = cap(&flow.up, n, w);
-    let north_out: Sum<KIND> = cap(&flow.down, n, w);
+    pass_rows::<KIND>(amounts, flow, shape);
+    let north_in: Sum<KIND> = cap(flow.up, n, w);
+    let north_out: Sum<KIND> = cap(flow.down, n, w);
     amounts[north] = after(Amount::new(amounts[north]), north_in, north_out).0;
 }

@@ -12,6 +12,7 @@ use Rattle.model.proofs.Laws.Layer.{sides_inner, sides_north, south_cap_lem, sou
 use Rattle.model.proofs.Laws.Substep.{mismatch_between, mismatch_south, mismatch_north, piece_up, piece_down}
 use Rattle.substep.specs.Faces.{flow_of}
 use Rattle.substep.specs.Pieces.{GasNeed, AreRatios, Neighbours, PieceNeed, high_need, low_need}
+use Rattle.layer.specs.Cells.{Faces}
 
 -- ---- neighbours; a cap is its own on both sides, which gives D = 0 by every limiter
 module _ (w rows : ℕ) where
@@ -66,12 +67,13 @@ pub record GivesPiece (w rows : ℕ) (air gas q : List ℕ) (i c m : ℕ) : Type
   pub need : (a b : ℕ) → Neighbours (layer w rows) a c b → PieceNeed air gas q a c b m
 
 -- ---- a substep of one tracer, with room for its ratios and pieces
-pub record Step (w rows room : ℕ) (air gas airup airdown q : List ℕ) : Type 0 where
-  pub faces : w + rows * w ≤ room
+pub record Step (w rows : ℕ) (air gas airup airdown q gasup gasdown : List ℕ) : Type 0 where
+  pub passes : Faces w rows airup airdown
   pub ratios : 2 + rows * w ≤ length q
+  pub pieces : Faces w rows gasup gasdown
   pub need : GasNeed (layer w rows) (flow_of airup airdown) air gas
 
-module _ (l : Limiter) {w rows room : ℕ} {air gas airup airdown q : List ℕ} (step : Step w rows room air gas airup airdown q)
+module _ (l : Limiter) {w rows : ℕ} {air gas airup airdown q gasup gasdown : List ℕ} (step : Step w rows air gas airup airdown q gasup gasdown)
     (ratios : AreRatios (layer w rows).cells air gas q) (i : ℕ) (h : i < w + rows * w) where
   -- the cells on its two sides, and the pieces of the model
   abbrev south : ℕ

@@ -1,6 +1,6 @@
 // A tracer of one layer through the meridional substep: the pieces that the air carries through each face, and what they leave.
 // Cell 0 is the south cap, cell 1 + j the cell between face j and face w + j, and the last cell the north cap.
-// `flow` is the air that passes each face, up northward and down southward, and `carried` the tracer that it carries.
+// `flow` is the air that passes each face, up northward and down southward; `gas_up` and `gas_down` are the tracer that it carries.
 // Every piece is taken before any amount changes.
 #![tactic(auto)]
 
@@ -16,7 +16,7 @@ ghost use Rattle.substep.specs.Pieces.{AreRatios, Neighbours};
 ghost use Rattle.layer_gas.specs.Gas.{GivesPiece, Step};
 
 use layer::{Shape, pass_layer};
-use substep::{Flow, fill_ratios, high_end, low_end};
+use substep::{LentFlow, fill_ratios, high_end, low_end};
 use units::{Air, Limiter, TRACER, Tracer};
 
 // The cell south of a face, and the cell north of it, where n cells lie between the caps.
@@ -81,42 +81,48 @@ fn southward(
 }
 
 // The pieces through each face, in both directions.
-fn fill_pieces<const F: usize>(
+fn fill_pieces(
     l: Limiter,
     air: &[u32],
     gas: &[u32],
     q: &[u64],
-    flow: &Flow<F>,
+    flow: LentFlow,
     shape: Shape,
-    carried: &mut Flow<F>,
+    gas_up: &mut [u32],
+    gas_down: &mut [u32],
 )
-    requires { Step shape.w shape.rows F air.now gas.now flow.now.up flow.now.down q.now × AreRatios (layer shape.w shape.rows).cells air.now gas.now q.now }
-    ensures { Same (layer shape.w shape.rows).faces (flow_of carried.new.up carried.new.down) (pieces (rule_for (limiter_of l)) (layer shape.w shape.rows) (flow_of flow.now.up flow.now.down) air.now gas.now) }
+    requires { Step shape.w shape.rows air.now gas.now flow.up.now flow.down.now q.now gas_up.old gas_down.old × AreRatios (layer shape.w shape.rows).cells air.now gas.now q.now }
+    ensures { Same (layer shape.w shape.rows).faces (flow_of gas_up.new gas_down.new) (pieces (rule_for (limiter_of l)) (layer shape.w shape.rows) (flow_of flow.entry.up.now flow.entry.down.now) air.now gas.now) }
 {
     for i in 0..shape.w + shape.rows * shape.w {
         let to_north = Air::new(flow.up[i]);
         let to_south = Air::new(flow.down[i]);
         let p = northward(l, air, gas, q, shape, i, to_north);
         let r = southward(l, air, gas, q, shape, i, to_south);
-        carried.up[i] = p.0;
-        carried.down[i] = r.0;
+        gas_up[i] = p.0;
+        gas_down[i] = r.0;
     }
 }
 
-// A layer's tracer after an allowed substep; q and carried are room for its ratios and pieces.
-pub fn step_layer_gas<const F: usize>(
+// A layer's tracer after an allowed substep; q, gas_up and gas_down are room for its ratios and pieces.
+pub fn step_layer_gas(
     l: Limiter,
     gas: &mut [u32],
     air: &[u32],
-    flow: &Flow<F>,
+    flow: LentFlow,
     shape: Shape,
     q: &mut [u64],
-    carried: &mut Flow<F>,
+    gas_up: &mut [u32],
+    gas_down: &mut [u32],
 )
-    requires { Step shape.w shape.rows F air.now gas.old flow.now.up flow.now.down q.old }
-    ensures { gas.new ≡ stepped (rule_for (limiter_of l)) (layer shape.w shape.rows) (flow_of flow.now.up flow.now.down) air.now gas.old }
+    requires { Step shape.w shape.rows air.now gas.old flow.up.now flow.down.now q.old gas_up.old gas_down.old }
+    ensures { gas.new ≡ stepped (rule_for (limiter_of l)) (layer shape.w shape.rows) (flow_of flow.entry.up.now flow.entry.down.now) air.now gas.old }
 {
     fill_ratios(air, &gas[..], air.len(), q);
-    fill_pieces(l, air, &gas[..], q, flow, shape, carried);
-    pass_layer::<TRACER, F>(gas, carried, shape);
+    fill_pieces(l, air, &gas[..], q, flow, shape, gas_up, gas_down);
+    let carried = LentFlow {
+        up: gas_up,
+        down: gas_down,
+    };
+    pass_layer::<TRACER>(gas, carried, shape);
 }

@@ -14,16 +14,21 @@ use Rattle.units.specs.declared.Refusal.{Refusal}
 use Rattle.places.specs.Walk.{Left, IsPlaced, Like}
 use Rattle.substep.specs.Faces.{flow_of, Same, AreParts, same_allowed}
 use Rattle.units.specs.Lent.{part_lent}
-use Rattle.layer.specs.Cells.{Size, Fit}
+use Rattle.layer.specs.Cells.{Size, Faces, Fit}
 
 -- ---- sizes
+-- two lists with room for what passes the faces of any layer
+pub record Rooms (up down : List ℕ) : Type 0 where
+  pub high : most_faces ≤ length up
+  pub low : most_faces ≤ length down
+
 module _ {g : Grid} (range : InRange g) where
   pub layer_size : Size g.W g.R
   layer_size = record { columns = range.high_w; cells = omega (arith, layer_cells_most range) }
 
-  -- a flow has room for what passes the faces of any layer
-  pub faces_serve : g.W + g.R * g.W ≤ most_faces
-  faces_serve = omega (arith, faces_most range)
+  pub rooms_serve : {up down : List ℕ} → Rooms up down → Faces g.W g.R up down
+  rooms_serve rooms =
+      record { high = omega (arith, faces_most range, rooms.high); low = omega (arith, faces_most range, rooms.low) }
 
 -- a layer's cells in a list, lent as `&l[a..e]` with e = a + C
 abbrev pub lent_layer : List ℕ → ℕ → ℕ → List ℕ
@@ -36,8 +41,8 @@ module _ (g : Grid) {wide : ℕ} (alike : wide ≡ layer_cells g) (l : List ℕ)
   pub layer_long : first + wide ≤ length l → length (lent_layer l first wide) ≡ layer_cells g
   layer_long inside = ap length (part_lent l first wide) ∙ length_part l first wide inside ∙ alike
 
-  pub layer_fit : InRange g → first + wide ≤ length l → Fit g.W g.R most_faces (lent_layer l first wide)
-  layer_fit range inside = record { long = layer_long inside; faces = faces_serve range }
+  pub layer_fit : InRange g → {up down : List ℕ} → Rooms up down → first + wide ≤ length l → Fit g.W g.R (lent_layer l first wide) up down
+  layer_fit range rooms inside = record { long = layer_long inside; faces = rooms_serve range rooms }
 
 -- ---- one substep serves if it is allowed
 pub serves_one : (mesh : Mesh) (fluxes : List ℤ) (air : List ℕ) → serves mesh fluxes air 1 ≡ allowed mesh (parts fluxes 1 1) air

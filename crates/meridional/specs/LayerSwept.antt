@@ -5,7 +5,7 @@ use Rattle.std.proofs.Math.Path.{refl, sym, ap, ap₂}
 use Rattle.std.proofs.Common.{◌∙◌, le_trans}
 use borrow.Rule.Slice.PartMut.{put_mid}
 use Rattle.std.proofs.Math.ListN.{length}
-use Rattle.model.specs.Limits.{most_cells, most_faces}
+use Rattle.model.specs.Limits.{most_cells}
 use Rattle.model.specs.Basic.{part, written}
 use Rattle.model.specs.World.{World, layer_cells, world_cells, layer_start, with_amounts}
 use Rattle.model.specs.Sweep.{Mesh, layer, parts, allowed, after_flow, air_after, gas_after, swept}
@@ -23,7 +23,7 @@ use Rattle.substep.specs.Faces.{flow_of, Same, same_allowed, same_after}
 use Rattle.substep.specs.Cells.{air_moves}
 use Rattle.units.specs.Lent.{put_back}
 use Rattle.layer.specs.Passing.{Passing}
-use Rattle.meridional.specs.LayerPlace.{LayerFound, lent_layer, layer_lent, layer_long, layer_fit, same_faces, serves_one}
+use Rattle.meridional.specs.LayerPlace.{Rooms, LayerFound, lent_layer, layer_lent, layer_long, layer_fit, same_faces, serves_one}
 use Rattle.meridional.specs.LayerTracers.{LayerTracersNeed, swept_tracers, swept_same}
 
 module _
@@ -103,9 +103,9 @@ module _
         total = found.fits.totals;
       }
 
-  pub air_need : Passing w.grid.W w.grid.R most_faces lent airup airdown
+  pub air_need : Rooms airup airdown → Passing w.grid.W w.grid.R lent airup airdown
   unfolding layer
-  air_need = (
-    layer_fit w.grid alike w.air first range layer_in_air,
+  air_need rooms = (
+    layer_fit w.grid alike w.air first range rooms layer_in_air,
     air_moves mesh (flow_of airup airdown) lent (layer_long w.grid alike w.air first layer_in_air) lent_permits,
   )

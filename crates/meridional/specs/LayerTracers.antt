@@ -21,7 +21,7 @@ use Rattle.substep.specs.Faces.{flow_of, Same, stepped, same_stepped}
 use Rattle.substep.specs.Pieces.{GasNeed}
 use Rattle.units.specs.Lent.{part_lent, put_back}
 use Rattle.layer_gas.specs.Gas.{Step}
-use Rattle.meridional.specs.LayerPlace.{layer_size, faces_serve}
+use Rattle.meridional.specs.LayerPlace.{Rooms, layer_size, rooms_serve}
 
 -- a layer's cells from cell `first` on, in tracers and a ledger of the grid's lengths, and an allowed substep over the layer's air
 pub record LayerTracersNeed (g : Grid) (tracers ledger air : List ℕ) (flow : Flow) (first : ℕ) : Type 0 where
@@ -138,7 +138,13 @@ module _ {g : Grid} {tracers ledger air : List ℕ} {flow : Flow} {first : ℕ} 
         part_more swept_changes h e new first (omega (arith, need.inside)) (ap (written (gas_of t) first) own)
 
 -- with the room that `sweep_tracers` declares
-pub step_need : {g : Grid} → InRange g → {air gas airup airdown q : List ℕ} → length q ≡ most_layer_cells →
-    GasNeed (layer g.W g.R) (flow_of airup airdown) air gas → Step g.W g.R most_faces air gas airup airdown q
-step_need range ratios need =
-    record { faces = faces_serve range; ratios = omega (arith, ratios, (layer_size range).cells); need = need }
+pub step_need : {g : Grid} → InRange g → {air gas airup airdown q gasup gasdown : List ℕ} → Rooms airup airdown → length q ≡ most_layer_cells →
+    length gasup ≡ most_faces → length gasdown ≡ most_faces → GasNeed (layer g.W g.R) (flow_of airup airdown) air gas →
+    Step g.W g.R air gas airup airdown q gasup gasdown
+step_need range rooms ratios northward southward need =
+    record {
+      passes = rooms_serve range rooms;
+      ratios = omega (arith, ratios, (layer_size range).cells);
+      pieces = rooms_serve range (record { high = omega arith; low = omega arith });
+      need = need;
+    }

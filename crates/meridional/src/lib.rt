@@ -7,14 +7,14 @@ ghost use Rattle.model.specs.Step.{meridional as meridional_call};
 ghost use Rattle.units.specs.Answer.{Agrees};
 ghost use Rattle.units.specs.Grid.{grid_of, world_of, world_in};
 ghost use Rattle.substep.specs.Faces.{flow_of};
-ghost use Rattle.meridional.specs.LayerPlace.{LayerNeed, IsPermit, IsLayerPlace};
+ghost use Rattle.meridional.specs.LayerPlace.{Rooms, LayerNeed, IsPermit, IsLayerPlace};
 ghost use Rattle.meridional.specs.LayerTracers.{LayerTracersNeed, swept_tracers};
 
 use layer::{Shape, layer_allowed, pass_layer};
 use layer_gas::step_layer_gas;
 use limiters::limiter_at;
 use places::{Lent, common_places, fluxes_fit};
-use substep::{Flow, fill_parts};
+use substep::{Flow, LentFlow, fill_parts};
 use units::{
     AIR, Air, Answer, Grid, MERIDIONAL_LIMIT, MOST_FACES, MOST_LAYER_CELLS, Refusal, World,
     layer_cells, layer_start, world_cells,
@@ -32,8 +32,8 @@ fn layer_permits(
     ensures { IsPermit (grid_of g) air.now first fluxes.now flow.new.up flow.new.down result }
 {
     let end = first + layer_cells(g) as usize;
-    fill_parts(fluxes, 1, 1, flow);
-    layer_allowed(&air[first..end], flow, Shape::of(g))
+    fill_parts(fluxes, 1, 1, &mut flow.up, &mut flow.down);
+    layer_allowed(&air[first..end], flow.lent(), Shape::of(g))
 }
 
 // Places 1 to 4, 21, 5, 8 and 10, and then where the layer starts, with the air that passes each face in flow.
@@ -60,11 +60,11 @@ fn sweep_tracers(
     tracers: &mut [u32],
     ledger: &[u32],
     air: &[u32],
-    flow: &Flow<MOST_FACES>,
+    flow: LentFlow,
     first: usize,
 )
-    requires { LayerTracersNeed (grid_of g) tracers.old ledger.now air.now (flow_of flow.now.up flow.now.down) first }
-    ensures { tracers.new ≡ swept_tracers (grid_of g) tracers.old ledger.now air.now (flow_of flow.now.up flow.now.down) first }
+    requires { Rooms flow.up.now flow.down.now × LayerTracersNeed (grid_of g) tracers.old ledger.now air.now (flow_of flow.up.now flow.down.now) first }
+    ensures { tracers.new ≡ swept_tracers (grid_of g) tracers.old ledger.now air.now (flow_of flow.entry.up.now flow.entry.down.now) first }
 {
     let shape = Shape::of(g);
     let wide = layer_cells(g) as usize;
@@ -81,7 +81,8 @@ fn sweep_tracers(
             flow,
             shape,
             &mut q,
-            &mut carried,
+            &mut carried.up,
+            &mut carried.down,
         );
     }
 }
@@ -106,7 +107,8 @@ pub fn meridional(
     };
     let a = layer_place(w, layer, fluxes, &mut flow)?;
     let e = a + layer_cells(g) as usize; // of the layer's part, which is lent twice
-    sweep_tracers(g, tracers, ledger, &air[a..e], &flow, a);
-    pass_layer::<AIR, MOST_FACES>(&mut air[a..e], &flow, Shape::of(g));
+    let passes = flow.lent();
+    sweep_tracers(g, tracers, ledger, &air[a..e], passes, a);
+    pass_layer::<AIR>(&mut air[a..e], passes, Shape::of(g));
     Ok(1)
 }

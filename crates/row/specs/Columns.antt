@@ -9,14 +9,19 @@ use Rattle.substep.specs.Faces.{flow_of}
 use Rattle.substep.specs.Cells.{Cell, CellFlows, Sums, Moves, Moved, cell_allowed, moved_none, moved_exchange, moved_more, all_moved_lem}
 use Rattle.substep.specs.Pieces.{Neighbours}
 
+-- lists that have what passes each of w faces
+pub record FaceRoom (w : ℕ) (up down : List ℕ) : Type 0 where
+  pub high : w ≤ length up
+  pub low : w ≤ length down
+
 -- e and l are what enters and what leaves column i of w
 pub record IsExchange (w : ℕ) (up down : List ℕ) (i e l : ℕ) : Type 0 where
   pub cell : Cell (ring w) (flow_of up down) i e l
   pub sums : Sums e l
 
--- a row whose amounts can be passed on, of no more columns than there is room for faces
-pub record Passing (room : ℕ) (amounts up down : List ℕ) : Type 0 where
-  pub wide : length amounts ≤ room
+-- a row whose amounts can be passed on
+pub record Passing (amounts up down : List ℕ) : Type 0 where
+  pub room : FaceRoom (length amounts) up down
   pub moves : Moves (ring (length amounts)) (flow_of up down) amounts
 
 -- the model's test of a substep is the test of every column
@@ -49,17 +54,18 @@ pub record PassedTo (amounts up down now : List ℕ) (i : ℕ) : Type 0 where
   pub inside : i ≤ length amounts
   pub moved : Moved (ring (length amounts)) (flow_of up down) amounts now i
 
-module _ {room : ℕ} {amounts up down : List ℕ} (need : Passing room amounts up down) where
+module _ {amounts up down : List ℕ} (need : Passing amounts up down) where
   pub passed_none : PassedTo amounts up down amounts 0
   passed_none = record { inside = omega arith; moved = moved_none need.moves }
 
   -- column i, which gets e and gives l through its two faces
-  module _ {now : List ℕ} {i e l : ℕ} (passed : PassedTo amounts up down now i) (is : IsExchange (length amounts) up down i e l) where
+  module _ {now : List ℕ} {i e l : ℕ} (passed : PassedTo amounts up down now i) (cell : Cell (ring (length amounts)) (flow_of up down) i e l) where
     pub column_passes : CellFlows (at now i) e l
-    column_passes = moved_exchange need.moves passed.moved is.cell
+    column_passes = moved_exchange need.moves passed.moved cell
 
-    pub passed_more : {x : ℕ} → i < length amounts → x ≡ at now i + e - l → PassedTo amounts up down (set now i x) (i + 1)
-    passed_more h after = record { inside = omega arith; moved = moved_more need.moves passed.moved is.cell after }
+    pub passed_more : {x : ℕ} → x ≡ at now i + e - l → PassedTo amounts up down (set now i x) (i + 1)
+    unfolding ring
+    passed_more after = record { inside = omega (arith, cell.inside); moved = moved_more need.moves passed.moved cell after }
 
   pub passed_all : {now : List ℕ} {i : ℕ} → PassedTo amounts up down now i → i ≡ length amounts → now ≡ after_flow (ring (length amounts)) (flow_of up down) amounts
   unfolding ring

@@ -86,7 +86,7 @@ module _ (air : List ℕ) (fluxes : List ℤ) where
   abbrev pub NoneBelow : ℕ → Type 0
   NoneBelow n = (i : ℕ) → i < n → 1 ≤ i → serves (row_mesh fluxes) fluxes air i ≡ false
 
-  found_first : (n : ℕ) → 1 ≤ n → n ≤ 16 → NoneBelow n → serves (row_mesh fluxes) fluxes air n ≡ true → IsCount air fluxes n
+  pub found_first : (n : ℕ) → 1 ≤ n → n ≤ 16 → NoneBelow n → serves (row_mesh fluxes) fluxes air n ≡ true → IsCount air fluxes n
   found_first n low high before e =
       record {
         is = sym (count_only (row_mesh fluxes) fluxes air (record { positive = low; most = high; serving = e; least = λ i p q. before i q p }));
@@ -94,7 +94,7 @@ module _ (air : List ℕ) (fluxes : List ℤ) where
         most = high;
       }
 
-  found_none : NoneBelow 17 → substep_count (row_mesh fluxes) fluxes air ≡ 0
+  pub found_none : NoneBelow 17 → substep_count (row_mesh fluxes) fluxes air ≡ 0
   unfolding substep_count
   found_none before = go (smallest_is most_substeps (serves (row_mesh fluxes) fluxes air))
     where

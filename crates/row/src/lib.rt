@@ -4,10 +4,10 @@
 ghost use Rattle.std.specs.Prelude.{◌≡◌, ◌<◌, ◌≤◌, length};
 ghost use Rattle.model.specs.Sweep.{ring, east_of, west_of, allowed, after_flow, serves};
 ghost use Rattle.substep.specs.Faces.{flow_of};
-ghost use Rattle.row.specs.Columns.{IsExchange, Passing};
+ghost use Rattle.row.specs.Columns.{FaceRoom, IsExchange, Passing};
 ghost use Rattle.row.specs.Substeps.{row_mesh, RowNeed, IsFound};
 
-use substep::{Flow, after, both, cell_allows, fill_parts};
+use substep::{Flow, LentFlow, after, both, cell_allows, fill_parts};
 use units::{AIR, Air, Amount, MOST_COLUMNS, MOST_SUBSTEPS, Sum};
 
 // The columns east and west of column i in a row of w.
@@ -26,13 +26,9 @@ pub fn west_of(w: usize, i: usize) -> usize
 }
 
 // What enters column i of w through its two faces, and what leaves it.
-fn exchange<const KIND: u8, const F: usize>(
-    flow: &Flow<F>,
-    w: usize,
-    i: usize,
-) -> (Sum<KIND>, Sum<KIND>)
-    requires { (i < w) × (w ≤ F) }
-    ensures { IsExchange w flow.now.up flow.now.down i result.0.0 result.1.0 }
+fn exchange<const KIND: u8>(flow: LentFlow, w: usize, i: usize) -> (Sum<KIND>, Sum<KIND>)
+    requires { (i < w) × FaceRoom w flow.up.now flow.down.now }
+    ensures { IsExchange w flow.entry.up.now flow.entry.down.now i result.0.0 result.1.0 }
 {
     let west = west_of(w, i);
     let enters = both(Amount::new(flow.up[west]), Amount::new(flow.down[i]));
@@ -41,9 +37,9 @@ fn exchange<const KIND: u8, const F: usize>(
 }
 
 // Whether the substep is allowed in every column.
-fn row_allowed<const F: usize>(air: &[u32], flow: &Flow<F>) -> bool
-    requires { length air.now ≤ F }
-    ensures { result ≡ allowed (ring (length air.now)) (flow_of flow.now.up flow.now.down) air.now }
+fn row_allowed(air: &[u32], flow: LentFlow) -> bool
+    requires { FaceRoom (length air.now) flow.up.now flow.down.now }
+    ensures { result ≡ allowed (ring (length air.now)) (flow_of flow.entry.up.now flow.entry.down.now) air.now }
 {
     for i in 0..air.len() {
         let (enters, leaves) = exchange(flow, air.len(), i);
@@ -55,13 +51,13 @@ fn row_allowed<const F: usize>(air: &[u32], flow: &Flow<F>) -> bool
 }
 
 // Passes on a row's amounts, of air or of one tracer, by what passes each face.
-pub fn pass<const KIND: u8, const F: usize>(amounts: &mut [u32], flow: &Flow<F>)
-    requires { Passing F amounts.old flow.now.up flow.now.down }
-    ensures { amounts.new ≡ after_flow (ring (length amounts.old)) (flow_of flow.now.up flow.now.down) amounts.old }
+pub fn pass<const KIND: u8>(amounts: &mut [u32], flow: LentFlow)
+    requires { Passing amounts.old flow.up.now flow.down.now }
+    ensures { amounts.new ≡ after_flow (ring (length amounts.old)) (flow_of flow.entry.up.now flow.entry.down.now) amounts.old }
 {
     let w = amounts.len();
     for i in 0..w {
-        let (enters, leaves) = exchange::<KIND, F>(flow, w, i);
+        let (enters, leaves) = exchange::<KIND>(flow, w, i);
         amounts[i] = after(Amount::new(amounts[i]), enters, leaves).0;
     }
 }
@@ -73,11 +69,12 @@ fn serves(air: &mut [u32], fluxes: &[i32], n: u32) -> bool
 {
     let mut flow = Flow::<MOST_COLUMNS>::none();
     for s in 0..n {
-        fill_parts(fluxes, n, s + 1, &mut flow);
-        if !row_allowed(air, &flow) {
+        fill_parts(fluxes, n, s + 1, &mut flow.up, &mut flow.down);
+        let passes = flow.lent();
+        if !row_allowed(air, passes) {
             return false;
         }
-        pass::<AIR, MOST_COLUMNS>(air, &flow);
+        pass::<AIR>(air, passes);
     }
     true
 }

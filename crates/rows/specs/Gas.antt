@@ -20,20 +20,22 @@ use Rattle.substep.specs.Faces.{flow_of, Same, stepped}
 use Rattle.substep.specs.Pieces.{GasNeed, HasAir, AreRatios, Neighbours, PieceNeed, mismatch_in}
 use Rattle.substep.specs.Pieces.{has_air, high_need, high_is, low_need, low_is, gas_moves, gas_after_lem}
 use Rattle.units.specs.Lent.{front_lent, front_back, length_front}
-use Rattle.row.specs.Columns.{Passing, column_neighbours, back_west}
+use Rattle.row.specs.Columns.{FaceRoom, Passing, column_neighbours, back_west}
 
 -- ---- one tracer, in a row of as many columns as its air has entries
 -- a substep of at most 72 columns
 pub record StepNeed (gas air up down : List ℕ) : Type 0 where
   pub wide : length air ≤ 72
+  pub room : FaceRoom (length air) up down
   pub need : GasNeed (ring (length air)) (flow_of up down) air gas
 
--- with the ratios
-pub record PiecesNeed (air gas q up down : List ℕ) : Type 0 where
-  pub wide : length air ≤ 72
+-- with the ratios, and room for the pieces
+pub record PiecesNeed (air gas q up down high low : List ℕ) : Type 0 where
   pub need : GasNeed (ring (length air)) (flow_of up down) air gas
+  pub room : FaceRoom (length air) up down
   pub ratios : AreRatios (length air) air gas q
   pub fit : length air ≤ length q
+  pub piece_room : FaceRoom (length air) high low
 
 -- two lists hold the piece through each face, of a tracer with the limiter l
 abbrev pub ArePieces : Limiter → List ℕ → List ℕ → Flow → Flow → Type 0
@@ -69,15 +71,15 @@ module _ {gas air up down : List ℕ} (need : StepNeed gas air up down) where
       unfolding ring
       same = are
 
-      pub pieces_pass : Passing 72 gas high low
-      pieces_pass = record { wide = rw gas_long_lem need.wide; moves = rw gas_long_lem (gas_moves l (ring_regular _) need.need same) }
+      pub pieces_pass : FaceRoom (length air) high low → Passing gas high low
+      pieces_pass room = record { room = rw gas_long_lem room; moves = rw gas_long_lem (gas_moves l (ring_regular _) need.need same) }
 
       pub pieces_passed : after_flow (ring (length gas)) (flow_of high low) gas ≡ row_stepped l gas air up down
       pieces_passed =
           ap (λ (w : ℕ). after_flow (ring w) (flow_of high low) gas) gas_long_lem ∙ gas_after_lem l (ring_regular _) need.need same
 
 -- at face i column i gives from its high end, and the column east of it from its low end
-module _ (l : Limiter) {air gas q up down : List ℕ} (need : PiecesNeed air gas q up down)
+module _ (l : Limiter) {air gas q up down high low : List ℕ} (need : PiecesNeed air gas q up down high low)
     {i : ℕ} (h : i < length air) {east : ℕ} (is_east : east ≡ east_of (length air) i) where
   -- the pieces of the model
   abbrev given : Flow
@@ -134,6 +136,7 @@ pub record StepsNeed (n : ℕ) (rows : List (List ℕ)) (ledger air up down : Li
   pub blocks : n * block_numbers ≤ length ledger
   pub wide_rows : Wide n rows
   pub wide : length air ≤ 72
+  pub room : FaceRoom (length air) up down
   pub air_in : AirIn (length air) air
   pub permits : allowed (ring (length air)) (flow_of up down) air ≡ true
   pub total : (t : ℕ) → t < n → sum (length air) (at (row_of (length air) rows t)) ≤ total_limit
@@ -165,6 +168,7 @@ module _ {n : ℕ} {rows : List (List ℕ)} {ledger air up down : List ℕ} (nee
   step_need t h =
       record {
         wide = need.wide;
+        room = need.room;
         need =
             record {
               air_long = refl;

@@ -62,23 +62,23 @@ loading_none =
       loaded = record { wide_rows = λ t h. absurd (omega arith); each = λ t h. absurd (omega arith) };
     }
 
+-- what is lent of tracer t's amounts
+abbrev lent : List ℕ → ℕ → ℕ → ℕ → ℕ → List ℕ
+lent tracers first cells w t = part tracers (t * cells + first) (t * cells + first + w - (t * cells + first))
+
+pub length_lent : (tracers : List ℕ) (first cells w t : ℕ) → t * cells + first + w ≤ length tracers → length (lent tracers first cells w t) ≡ w
+length_lent tracers first cells w t fits =
+    ap length (part_lent tracers (t * cells + first) w) ∙ length_part tracers (t * cells + first) w fits
+
 module _ {tracers : List ℕ} {first cells w n t : ℕ} (fit : RowsFit tracers first cells w n) (h : t < n)
     {rows : List (List ℕ)} (loading : Loading tracers first cells w t rows) where
-  -- what is lent of tracer t's amounts
-  abbrev lent : List ℕ
-  lent = part tracers (t * cells + first) (t * cells + first + w - (t * cells + first))
-
-  length_lent : length lent ≡ w
-  length_lent =
-      ap length (part_lent tracers (t * cells + first) w) ∙ length_part tracers (t * cells + first) w (row_room fit t h).0
-
-  pub loading_more : {new : List ℕ} → new ≡ lent → Loading tracers first cells w (t + 1) (set rows t (put_mid 0 (w - 0) (get_or rows t []) new))
+  pub loading_more : {new : List ℕ} → new ≡ lent tracers first cells w t → Loading tracers first cells w (t + 1) (set rows t (put_mid 0 (w - 0) (get_or rows t []) new))
   loading_more {new} is =
       let old : List ℕ = get_or rows t [] in
       let row : List ℕ = put_mid 0 (w - 0) old new in
       let few : t < 8 = omega (arith, fit.few_tracers) in
       let room : t < length rows = omega (arith, loading.some) in
-      let long : length new ≡ w = ap length is ∙ length_lent in
+      let long : length new ≡ w = ap length is ∙ length_lent tracers first cells w t (row_room fit t h).0 in
       let size : length old ≡ 72 = loading.room t few in
       let wide : length row ≡ 72 = length_front old new w long (omega (arith, fit.few_columns)) ∙ size in
       record {

@@ -16,7 +16,7 @@ use Rattle.model.proofs.Laws.Chain.{air_after_in}
 use Rattle.units.specs.Limiter.{limiter_at}
 use Rattle.substep.specs.Faces.{flow_of, Same, AreParts, stepped, same_stepped}
 use Rattle.substep.specs.Cells.{air_moves}
-use Rattle.row.specs.Columns.{Passing}
+use Rattle.row.specs.Columns.{FaceRoom, Passing}
 use Rattle.row.specs.Substeps.{row_mesh, RowNeed, chain, chain_start, may_here, after_here, serves_step}
 use Rattle.rows.specs.Gas.{row_of, Wide, row_stepped, StepsNeed, AreSteps, step_need, total_stepped}
 
@@ -63,7 +63,7 @@ module _ {rows : List (List ℕ)} {ledger air : List ℕ} {fluxes : List ℤ} {n
 
   -- substep s + 1, of which up and down have the parts
   module _ {s : ℕ} {now_air : List ℕ} {now : List (List ℕ)} (reached : SweptSoFar rows ledger air fluxes n tracers s now_air now) (inside : s < n)
-      (up down : List ℕ) (are : AreParts fluxes n (s + 1) up down) where
+      {up down : List ℕ} (are : AreParts fluxes n (s + 1) up down) (room : FaceRoom (length fluxes) up down) where
     step_allowed : allowed (ring (length now_air)) (flow_of up down) now_air ≡ true
     step_allowed =
         may_here fluxes n air s up down now_air are reached.air_is reached.long ∙
@@ -79,15 +79,16 @@ module _ {rows : List (List ℕ)} {ledger air : List ℕ} {fluxes : List ℤ} {n
           blocks = need.blocks;
           wide_rows = reached.wide_rows;
           wide = rw reached.long need.row.wide;
+          room = rw reached.long room;
           air_in = rw (reached.long, reached.air_is) in_range;
           permits = step_allowed;
           total = rw reached.long reached.total;
         }
 
-    pub air_may_pass : Passing 72 now_air up down
+    pub air_may_pass : Passing now_air up down
     unfolding ring
     air_may_pass =
-        record { wide = rw reached.long need.row.wide; moves = air_moves (ring (length now_air)) (flow_of up down) now_air refl step_allowed }
+        record { room = rw reached.long room; moves = air_moves (ring (length now_air)) (flow_of up down) now_air refl step_allowed }
 
     flows : Same (row_mesh fluxes).faces (flow_of up down) (parts fluxes n (s + 1))
     unfolding ring

@@ -11,7 +11,7 @@ ghost use Rattle.rows.specs.Swept.{SweepNeed, AreSwept};
 
 use limiters::limiter_at;
 use row::{east_of, pass, west_of};
-use substep::{Flow, fill_parts, fill_ratios, high_end, low_end};
+use substep::{Flow, LentFlow, fill_parts, fill_ratios, high_end, low_end};
 use units::{AIR, Air, Limiter, MOST_COLUMNS, MOST_TRACERS, TRACER};
 
 // The rows of all tracers: the first w amounts of each of the first n are used.
@@ -33,11 +33,12 @@ fn fill_pieces(
     air: &[u32],
     gas: &[u32],
     q: &[u64],
-    flow: &Flow<MOST_COLUMNS>,
-    pieces: &mut Flow<MOST_COLUMNS>,
+    flow: LentFlow,
+    up: &mut [u32],
+    down: &mut [u32],
 )
-    requires { PiecesNeed air.now gas.now q.now flow.now.up flow.now.down }
-    ensures { ArePieces (limiter_of l) air.now gas.now (flow_of flow.now.up flow.now.down) (flow_of pieces.new.up pieces.new.down) }
+    requires { PiecesNeed air.now gas.now q.now flow.up.now flow.down.now up.old down.old }
+    ensures { ArePieces (limiter_of l) air.now gas.now (flow_of flow.entry.up.now flow.entry.down.now) (flow_of up.new down.new) }
 {
     let w = air.len();
     for i in 0..w {
@@ -48,33 +49,27 @@ fn fill_pieces(
         let westward = Air::new(flow.down[i]);
         let p = high_end(l, air, gas, q, west, i, east, eastward);
         let r = low_end(l, air, gas, q, i, east, next, westward);
-        pieces.up[i] = p.0;
-        pieces.down[i] = r.0;
+        up[i] = p.0;
+        down[i] = r.0;
     }
 }
 
 // A tracer's amounts in a row after one substep.
-fn step_gas(l: Limiter, gas: &mut [u32], air: &[u32], flow: &Flow<MOST_COLUMNS>)
-    requires { StepNeed gas.old air.now flow.now.up flow.now.down }
-    ensures { gas.new ≡ row_stepped (limiter_of l) gas.old air.now flow.now.up flow.now.down }
+fn step_gas(l: Limiter, gas: &mut [u32], air: &[u32], flow: LentFlow)
+    requires { StepNeed gas.old air.now flow.up.now flow.down.now }
+    ensures { gas.new ≡ row_stepped (limiter_of l) gas.old air.now flow.entry.up.now flow.entry.down.now }
 {
     let mut q = [0; MOST_COLUMNS];
-    let mut pieces = Flow::none();
+    let mut pieces: Flow<MOST_COLUMNS> = Flow::none();
     fill_ratios(air, gas, air.len(), &mut q);
-    fill_pieces(l, air, gas, &q, flow, &mut pieces);
-    pass::<TRACER, MOST_COLUMNS>(gas, &pieces);
+    fill_pieces(l, air, gas, &q, flow, &mut pieces.up, &mut pieces.down);
+    pass::<TRACER>(gas, pieces.lent());
 }
 
 // The rows of the first `tracers` tracers after one substep, each with the limiter of its block of the ledger.
-fn step_rows(
-    rows: &mut Rows,
-    ledger: &[u32],
-    air: &[u32],
-    flow: &Flow<MOST_COLUMNS>,
-    tracers: usize,
-)
-    requires { StepsNeed tracers rows.old ledger.now air.now flow.now.up flow.now.down }
-    ensures { AreSteps tracers rows.old ledger.now air.now flow.now.up flow.now.down rows.new }
+fn step_rows(rows: &mut Rows, ledger: &[u32], air: &[u32], flow: LentFlow, tracers: usize)
+    requires { StepsNeed tracers rows.old ledger.now air.now flow.up.now flow.down.now }
+    ensures { AreSteps tracers rows.old ledger.now air.now flow.entry.up.now flow.entry.down.now rows.new }
 {
     for t in 0..tracers {
         let l = limiter_at(ledger, t);
@@ -118,11 +113,12 @@ pub fn sweep_rows(
     requires { SweepNeed rows ledger.now air.old fluxes.now n tracers }
     ensures { AreSwept rows ledger.now air.old fluxes.now n tracers air.new result }
 {
-    let mut flow = Flow::none();
+    let mut flow: Flow<MOST_COLUMNS> = Flow::none();
     for s in 0..n {
-        fill_parts(fluxes, n, s + 1, &mut flow);
-        step_rows(&mut rows, ledger, air, &flow, tracers);
-        pass::<AIR, MOST_COLUMNS>(air, &flow);
+        fill_parts(fluxes, n, s + 1, &mut flow.up, &mut flow.down);
+        let passes = flow.lent();
+        step_rows(&mut rows, ledger, air, passes, tracers);
+        pass::<AIR>(air, passes);
     }
     rows
 }

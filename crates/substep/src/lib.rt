@@ -13,7 +13,14 @@ ghost use Rattle.substep.specs.Pieces.{HasAir, AreRatios, PieceNeed, mismatch_in
 use scheme::{Flux, flux_part, high_piece, low_piece, mismatch, ratio};
 use units::{AIR_LIMIT, Air, AirSum, Amount, Limiter, Sum, Tracer};
 
-// What passes each face, of air or of a tracer, as numbers: `up` towards the face's high side, `down` towards its low side. F is the room for faces.
+// What passes each face, of air or of a tracer, as numbers, lent to be read: `up` towards the face's high side, `down` towards its low side. Each list has an entry for each face, and may be longer, also than the other.
+#[derive(Clone, Copy)]
+pub struct LentFlow<'a> {
+    pub up: &'a [u32],
+    pub down: &'a [u32],
+}
+
+// A flow with lists of its own: F is the room for faces.
 #[derive(Clone, Copy)]
 pub struct Flow<const F: usize> {
     pub up: [u32; F],
@@ -30,19 +37,29 @@ impl<const F: usize> Flow<F> {
             down: [0; F],
         }
     }
+
+    // The flow, to be read: two lists, each with room for F faces.
+    pub fn lent(&self) -> LentFlow<'_>
+        ensures { (result.up.now ≡ self.now.up) × (result.down.now ≡ self.now.down) × (length result.up.now ≡ F) × (length result.down.now ≡ F) }
+    {
+        LentFlow {
+            up: &self.up,
+            down: &self.down,
+        }
+    }
 }
 
 // Part s of n of each flux: the air that passes its face towards the high side, and towards the low side.
-pub fn fill_parts<const F: usize>(fluxes: &[i32], n: u32, s: u32, flow: &mut Flow<F>)
-    requires { PartsNeed (length fluxes.now) n s F F }
-    ensures { AreParts fluxes.now n s flow.new.up flow.new.down }
+pub fn fill_parts(fluxes: &[i32], n: u32, s: u32, up: &mut [u32], down: &mut [u32])
+    requires { PartsNeed (length fluxes.now) n s (length up.old) (length down.old) }
+    ensures { AreParts fluxes.now n s up.new down.new }
 {
     for i in 0..fluxes.len() {
         let f = Flux::from(fluxes[i]);
         let high = flux_part(n, s, f.to_high);
         let low = flux_part(n, s, f.to_low);
-        flow.up[i] = high.0;
-        flow.down[i] = low.0;
+        up[i] = high.0;
+        down[i] = low.0;
     }
 }
 

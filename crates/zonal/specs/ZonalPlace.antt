@@ -1,6 +1,7 @@
 -- The places of the three calls of a zonal sweep after those that they share with the long sweep, and what `zonal_place` finds: where the row starts, and its substep count.
-use Rattle.std.specs.Prelude.{ℕ, ◌<◌, ◌≤◌, List, [], ◌∷◌, ◌≡◌, refl, eqb, ℤ, Option, None, Some, Result, Ok, MatchResult, ok_or}
+use Rattle.std.specs.Prelude.{ℕ, ◌<◌, ◌≤◌, List, [], ◌∷◌, ◌≡◌, refl, eqb, ℤ, Option, None, Some, Result, Ok, Err, MatchResult, ok_or}
 use Rattle.std.proofs.Common.{sym, ap₂, ◌∙◌}
+use Rattle.std.specs.Result.{result_map_both}
 use Rattle.model.specs.Limits.{most_substeps}
 use Rattle.model.specs.World.{World, row_start}
 use Rattle.model.specs.Sweep.{ring, substep_count}
@@ -60,6 +61,12 @@ abbrev pub IsZonalPlace : World → ℕ → ℕ → List ℤ → Result ZonalRow
 IsZonalPlace w k r fluxes = IsPlaced w (Like w (zonal k r fluxes)) (ZonalFound w k r fluxes)
 
 -- the count found is that of the call that only counts
-pub count_agrees : {w : World} {k r : ℕ} {fluxes : List ℤ} {found : ZonalRow} → ZonalFound w k r fluxes found →
+pub found_agrees : {w : World} {k r : ℕ} {fluxes : List ℤ} {found : ZonalRow} → ZonalFound w k r fluxes found →
     Agrees w (count_zonal k r fluxes) (Ok found.substeps) w
-count_agrees found = accepted_agrees (none (resume found.left count_like)) refl found.count refl
+found_agrees found = accepted_agrees (none (resume found.left count_like)) refl found.count refl
+
+-- so the answer that `zonal_place` gives, with the count of what it found, is that of the count before the sweep, accepted or refused
+pub count_agrees : {w : World} {k r : ℕ} {fluxes : List ℤ} (answer : Result ZonalRow Refusal) → IsZonalPlace w k r fluxes answer →
+    Agrees w (count_zonal k r fluxes) (result_map_both (λ (found : ZonalRow). found.substeps) (λ (r : Refusal). r) answer) w
+count_agrees (Ok found) is = found_agrees is
+count_agrees (Err r) refuses = refuses _ _ count_like

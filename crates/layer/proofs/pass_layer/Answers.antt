@@ -11,11 +11,11 @@ after-requires g c = (search rules, (search rules, rw c.new.ensures (south_excha
 -- the amounts once the south cap's is passed on
 abbrev begun :
     (g : given.Over) (c : After-after g) →
-    PassingRows c.args.shape.w c.args.shape.rows g.row.F (set c.args.amounts.now 0 c.after.result.0) c.args.flow.now.up c.args.flow.now.down
+    PassingRows c.args.shape.w c.args.shape.rows (set c.args.amounts.now 0 c.after.result.0) c.args.flow.up.now c.args.flow.down.now
 begun g c = south_begun c.requires c.cap-south_in.ensures c.cap-south_out.ensures (rw c.new.ensures at c.after.ensures)
 
 pub pass_rows-requires : goal.pass_rows-requires
-pass_rows-requires g c = (search rules, begun g (goal.at.pass_rows-requires g c).After-after)
+pass_rows-requires g c = begun g (goal.at.pass_rows-requires g c).After-after
 
 pub after-requires-2 : goal.after-requires-2
 after-requires-2 g c =

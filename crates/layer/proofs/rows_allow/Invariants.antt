@@ -7,5 +7,5 @@ use Rattle.substep.specs.Cells.{cell_allowed}
 use Rattle.layer.proofs.rows_allow.Given as goal
 
 abbrev pub invariant-loop-j : goal.invariant-loop-j
-invariant-loop-j g l =
-    l.ok ≡ every l.j (λ k. cell_allowed (layer l.shape.w l.shape.rows) (flow_of l.flow.up l.flow.down) l.air (1 + k))
+invariant-loop-j l =
+    l.ok ≡ every l.j (λ k. cell_allowed (layer l.shape.w l.shape.rows) (flow_of l.flow.up.now l.flow.down.now) l.air (1 + k))

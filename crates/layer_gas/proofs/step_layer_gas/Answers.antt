@@ -7,25 +7,22 @@ use Rattle.layer.specs.Cells.{layer_cells_lem}
 use Rattle.layer_gas.proofs.step_layer_gas.Goals as goal
 
 pub fill_ratios-requires : goal.fill_ratios-requires
-fill_ratios-requires g c =
+fill_ratios-requires c =
     let a = c.args in
     let need = c.requires.need in
     let some = has_air need a.q.now (omega (arith, layer_cells_lem a.shape.w a.shape.rows, c.requires.ratios)) in
     subst (λ (n : ℕ). HasAir n a.air.now a.gas.now a.q.now) (sym need.air_long) some
 
 pub pass_layer-requires : goal.pass_layer-requires
-pass_layer-requires g c =
+pass_layer-requires c =
     let a = c.args in
     let need = c.requires.need in
     let long = need.gas_long ∙ layer_cells_lem a.shape.w a.shape.rows in (
-      search rules,
-      (
-        record { long = long; faces = c.requires.faces },
-        gas_moves (limiter_of a.l) (layer_regular a.shape.w a.shape.rows) need c.fill_pieces.ensures,
-      ),
+      record { long = long; faces = search rules },
+      gas_moves (limiter_of a.l) (layer_regular a.shape.w a.shape.rows) need c.fill_pieces.ensures,
     )
 
 pub returns : goal.returns
-returns g c =
+returns c =
     let a = c.args in
     c.pass_layer.ensures ∙ gas_after_lem (limiter_of a.l) (layer_regular a.shape.w a.shape.rows) c.requires.need c.fill_pieces.ensures

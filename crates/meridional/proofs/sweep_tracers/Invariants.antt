@@ -8,5 +8,5 @@ use Rattle.meridional.proofs.sweep_tracers.Given as goal
 
 abbrev pub invariant-loop-t : goal.invariant-loop-t
 invariant-loop-t l =
-    (l.tracers ≡ swept_up_to (grid_of l.fn.g) l.fn.tracers l.ledger l.air (flow_of l.flow.up l.flow.down) l.first l.t)
+    (l.tracers ≡ swept_up_to (grid_of l.fn.g) l.fn.tracers l.ledger l.air (flow_of l.flow.up.now l.flow.down.now) l.first l.t)
     × (length l.q ≡ most_layer_cells)

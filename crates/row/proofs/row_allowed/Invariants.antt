@@ -7,4 +7,4 @@ use Rattle.substep.specs.Cells.{cell_allowed}
 use Rattle.row.proofs.row_allowed.Given as goal
 
 abbrev pub invariant-loop-i : goal.invariant-loop-i
-invariant-loop-i g l = every l.i (cell_allowed (ring (length l.air)) (flow_of l.flow.up l.flow.down) l.air) ≡ true
+invariant-loop-i l = every l.i (cell_allowed (ring (length l.air)) (flow_of l.flow.up.now l.flow.down.now) l.air) ≡ true

@@ -17,13 +17,16 @@ pub loop-i-preserved : goal.loop-i-preserved
 loop-i-preserved c =
     let l = c.loop-i in
     let east = c.east_of-east.ensures.0 in
-    let h = c.loop-i-test.true in
-    same_more l.pieces.up l.pieces.down (search rules) (search rules) l.invariant
-    ((rw c.new-eastward.ensures at c.high_end-p.ensures) ∙ face_high (limiter_of c.args.l) c.requires h east c.west_of-west.ensures.0)
-    ((rw c.new-westward.ensures at c.low_end-r.ensures) ∙ face_low (limiter_of c.args.l) c.requires h east c.east_of-next.ensures.0)
+    let h = c.loop-i-test.true in (
+      search rules,
+      search rules,
+      same_more l.up l.down (search rules) (search rules) l.invariant.2
+          ((rw c.new-eastward.ensures at c.high_end-p.ensures) ∙ face_high (limiter_of c.args.l) c.requires h east c.west_of-west.ensures.0)
+          ((rw c.new-westward.ensures at c.low_end-r.ensures) ∙ face_low (limiter_of c.args.l) c.requires h east c.east_of-next.ensures.0),
+    )
 
 pub returns : goal.returns
 returns c =
     let l = c.loop-i in
     let done : l.i ≡ length c.args.air.now = omega arith in
-    rw done at l.invariant
+    rw done at l.invariant.2

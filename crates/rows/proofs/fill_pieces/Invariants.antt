@@ -1,5 +1,5 @@
 -- `rows::fill_pieces`: the faces passed have their two pieces.
-use Rattle.std.proofs.Common.{length}
+use Rattle.std.proofs.Common.{length, ◌≡◌}
 use Rattle.model.specs.Limiters.{rule_for}
 use Rattle.model.specs.Sweep.{ring, pieces}
 use Rattle.units.specs.Limiter.{limiter_of}
@@ -8,4 +8,6 @@ use Rattle.rows.proofs.fill_pieces.Given as goal
 
 abbrev pub invariant-loop-i : goal.invariant-loop-i
 invariant-loop-i l =
-    Same l.i (flow_of l.pieces.up l.pieces.down) (pieces (rule_for (limiter_of l.l)) (ring (length l.air)) (flow_of l.flow.up l.flow.down) l.air l.gas)
+    (length l.up ≡ length l.initial.up)
+    × (length l.down ≡ length l.initial.down)
+    × Same l.i (flow_of l.up l.down) (pieces (rule_for (limiter_of l.l)) (ring (length l.air)) (flow_of l.flow.up.now l.flow.down.now) l.air l.gas)

@@ -3,4 +3,4 @@ use Rattle.rows.specs.Gas.{Stepping}
 use Rattle.rows.proofs.step_rows.Given as goal
 
 abbrev pub invariant-loop-t : goal.invariant-loop-t
-invariant-loop-t l = Stepping l.tracers l.fn.rows l.ledger l.air l.flow.up l.flow.down l.rows l.t
+invariant-loop-t l = Stepping l.tracers l.fn.rows l.ledger l.air l.flow.up.now l.flow.down.now l.rows l.t
