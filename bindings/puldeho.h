@@ -44,23 +44,23 @@
  *
  * What is assumed of the stack: that it has room for the call, PULDEHO_STACK bytes or, of the proved
  * function under each call (return address and libc's functions included, arguments not):
- *   puldeho_raw_load                   16,880
- *   puldeho_raw_emission               17,040
- *   puldeho_raw_withdrawal             16,912
+ *   puldeho_raw_load                      496
+ *   puldeho_raw_emission                  656
+ *   puldeho_raw_withdrawal                528
  *   puldeho_raw_zonal                  27,760
  *   puldeho_raw_count_zonal            17,616
  *   puldeho_raw_zonal_with_count       27,760
  *   puldeho_raw_long_zonal             19,184
  *   puldeho_raw_meridional             94,000
- *   puldeho_raw_remap                  18,128
+ *   puldeho_raw_remap                  18,144
  *   puldeho_raw_total                     624
  *   puldeho_raw_cell                      512
- *   puldeho_raw_add_emitter            17,712
- *   puldeho_raw_remove_emitter         17,696
- *   puldeho_raw_tick                   17,712
- *   puldeho_raw_units_a_tick           17,440
- *   puldeho_raw_units_a_tick_number    17,440
- *   puldeho_raw_set_limiter            16,896
+ *   puldeho_raw_add_emitter               832
+ *   puldeho_raw_remove_emitter            832
+ *   puldeho_raw_tick                      832
+ *   puldeho_raw_units_a_tick              800
+ *   puldeho_raw_units_a_tick_number       800
+ *   puldeho_raw_set_limiter               496
  * A function puldeho_why_NAME wants at most PULDEHO_WHY_STACK bytes.
  */
 #ifndef PULDEHO_H
