@@ -33,20 +33,18 @@ pub still_fit : {w rows : ℕ} {l after up down : List ℕ} → length after ≡
 still_fit long fit = record { long = long ∙ fit.long; faces = fit.faces }
 
 -- ---- the south cap
-module _ {w rows : ℕ} {l up down : List ℕ} (passing : Passing w rows l up down) {e o : ℕ} (enters : IsSum down 0 w e)
+module _ (w rows : ℕ) {l up down : List ℕ} (moves : Moves (layer w rows) (flow_of up down) l) {e o : ℕ} (enters : IsSum down 0 w e)
     (leaves : IsSum up 0 w o) where
   pub south_exchange : CellFlows (at l 0) e o
-  south_exchange = moved_exchange passing.1 (moved_none passing.1) (south_cell w rows up down enters leaves)
+  south_exchange = moved_exchange moves (moved_none moves) (south_cell w rows up down enters leaves)
 
-  abbrev pub south_begun : {x : ℕ} → x ≡ at l 0 + e - o → PassingRows w rows (set l 0 x) up down
-  south_begun {x} is = (
-    still_fit (length-set l 0 x) passing.0,
-    record {
-      first = l;
-      moves = passing.1;
-      moved = moved_more passing.1 (moved_none passing.1) (south_cell w rows up down enters leaves) is;
-    },
-  )
+  abbrev pub south_moved : {x : ℕ} → x ≡ at l 0 + e - o → Begun (layer w rows) (flow_of up down) (set l 0 x) 1
+  south_moved is =
+      record { first = l; moves = moves; moved = moved_more moves (moved_none moves) (south_cell w rows up down enters leaves) is }
+
+abbrev pub south_begun : {w rows : ℕ} {l up down : List ℕ} → Passing w rows l up down → {e o : ℕ} → IsSum down 0 w e → IsSum up 0 w o →
+    {x : ℕ} → x ≡ at l 0 + e - o → PassingRows w rows (set l 0 x) up down
+south_begun {w} {rows} {l} passing enters leaves {x} is = (still_fit (length-set l 0 x) passing.0, south_moved w rows passing.1 enters leaves is)
 
 -- ---- the rows as a loop passes them on: the first j of their cells
 pub record RowsMoved (w rows : ℕ) (before up down l : List ℕ) (j : ℕ) : Type 0 where
@@ -57,8 +55,8 @@ pub record RowsMoved (w rows : ℕ) (before up down l : List ℕ) (j : ℕ) : Ty
 module _ {w rows : ℕ} {before up down l : List ℕ} {j : ℕ} (sofar : RowsMoved w rows before up down l j) where
   -- the cell whose turn it is
   module _ {e o : ℕ} (h : j < rows * w) (enters : e ≡ at up j + at down (w + j)) (leaves : o ≡ at down j + at up (w + j)) where
-    pub row_exchange : PassingRows w rows before up down → CellFlows (at l (1 + j)) e o
-    row_exchange (fit, begun) =
+    pub row_exchange : Begun (layer w rows) (flow_of up down) before 1 → CellFlows (at l (1 + j)) e o
+    row_exchange begun =
         moved_exchange begun.moves (sofar.moved begun) (row_cell_lem w rows up down j h enters leaves)
 
     pub row_more : {x : ℕ} → x ≡ at l (1 + j) + e - o → RowsMoved w rows before up down (set l (1 + j) x) (j + 1)
@@ -71,15 +69,14 @@ module _ {w rows : ℕ} {before up down l : List ℕ} {j : ℕ} (sofar : RowsMov
         }
 
 -- ---- the north cap
-module _ {w rows : ℕ} {before up down l : List ℕ} (passing : PassingRows w rows before up down) (passed : PassedRows w rows before up down l)
-    {e o : ℕ} (enters : IsSum up (rows * w) w e) (leaves : IsSum down (rows * w) w o) where
+module _ (w rows : ℕ) {before up down l : List ℕ} (begun : Begun (layer w rows) (flow_of up down) before 1)
+    (moved : MovedOn (layer w rows) (flow_of up down) before 1 l (1 + rows * w)) {e o : ℕ} (enters : IsSum up (rows * w) w e) (leaves : IsSum down (rows * w) w o) where
   pub north_exchange : CellFlows (at l (1 + rows * w)) e o
   north_exchange =
-      moved_exchange passing.1.moves (passed.1 passing.1) (north_cell w rows up down enters leaves)
+      moved_exchange begun.moves (moved begun) (north_cell w rows up down enters leaves)
 
   pub north_all : {x : ℕ} → x ≡ at l (1 + rows * w) + e - o →
-      set l (1 + rows * w) x ≡ after_flow (layer w rows) (flow_of up down) passing.1.first
+      set l (1 + rows * w) x ≡ after_flow (layer w rows) (flow_of up down) begun.first
   north_all is =
-      let moves = passing.1.moves in
       let all : 1 + rows * w + 1 ≡ (layer w rows).cells = omega (arith, layer_cells_lem w rows) in
-      all_moved_lem moves (rw all at (moved_more moves (passed.1 passing.1) (north_cell w rows up down enters leaves) is))
+      all_moved_lem begun.moves (rw all at (moved_more begun.moves (moved begun) (north_cell w rows up down enters leaves) is))

@@ -73,8 +73,8 @@ pub record Step (w rows : ℕ) (air gas airup airdown q gasup gasdown : List ℕ
   pub pieces : Faces w rows gasup gasdown
   pub need : GasNeed (layer w rows) (flow_of airup airdown) air gas
 
-module _ (l : Limiter) {w rows : ℕ} {air gas airup airdown q gasup gasdown : List ℕ} (step : Step w rows air gas airup airdown q gasup gasdown)
-    (ratios : AreRatios (layer w rows).cells air gas q) (i : ℕ) (h : i < w + rows * w) where
+module _ (l : Limiter) (w rows : ℕ) {air gas q : List ℕ} (airup airdown : List ℕ) (need : GasNeed (layer w rows) (flow_of airup airdown) air gas)
+    (room : 2 + rows * w ≤ length q) (ratios : AreRatios (layer w rows).cells air gas q) (i : ℕ) (h : i < w + rows * w) where
   -- the cells on its two sides, and the pieces of the model
   abbrev south : ℕ
   south = south_of w i
@@ -87,7 +87,7 @@ module _ (l : Limiter) {w rows : ℕ} {air gas airup airdown q gasup gasdown : L
 
   enough : (layer w rows).cells ≤ length q
   unfolding layer
-  enough = step.ratios
+  enough = room
 
   inside : i < (layer w rows).faces
   unfolding layer
@@ -100,7 +100,7 @@ module _ (l : Limiter) {w rows : ℕ} {air gas airup airdown q gasup gasdown : L
       record {
         face = h;
         ratios = ratios;
-        need = λ a b near. high_need l (layer_regular w rows) step.need q ratios enough near i inside refl;
+        need = λ a b near. high_need l (layer_regular w rows) need q ratios enough near i inside refl;
       }
 
   pub gives_south : GivesPiece w rows air gas q i north (at airdown i)
@@ -109,7 +109,7 @@ module _ (l : Limiter) {w rows : ℕ} {air gas airup airdown q gasup gasdown : L
       record {
         face = h;
         ratios = ratios;
-        need = λ a b near. low_need l (layer_regular w rows) step.need q ratios enough near i inside refl;
+        need = λ a b near. low_need l (layer_regular w rows) need q ratios enough near i inside refl;
       }
 
   -- and so the model's pieces are

@@ -3,7 +3,7 @@
 
 ghost use Rattle.std.specs.Prelude.{◌≡◌, ◌+◌, ◌*◌, ◌/◌, ◌%◌, ◌≤◌, ◌<◌, length, set};
 ghost use Rattle.model.specs.Limits.{block_numbers};
-ghost use Rattle.model.specs.Basic.{at, every, part};
+ghost use Rattle.model.specs.Basic.{at, every, part, written};
 ghost use Rattle.model.specs.Emitters.{half};
 ghost use Rattle.model.specs.Limiters.{limiter_fits, limiter_in, with_limiter};
 ghost use Rattle.units.specs.Limiter.{limiter_of, limiter_at};
@@ -23,6 +23,15 @@ pub fn block_at(ledger: &[u32], t: usize) -> &Block
 {
     let a = t * LEDGER_BLOCK;
     ledger[a..a + LEDGER_BLOCK].as_array().unwrap()
+}
+
+// Puts a block in the place of tracer t's. The calls of this library don't copy a block: they write it where it is lent.
+pub fn put_block(ledger: &mut [u32], t: usize, block: &Block)
+    requires { (t * block_numbers + block_numbers ≤ length ledger.old) × (t < 8) }
+    ensures { ledger.new ≡ written ledger.old (t * block_numbers) block.now }
+{
+    let a = t * LEDGER_BLOCK;
+    ledger[a..a + LEDGER_BLOCK].copy_from_slice(block);
 }
 
 // A number of 64 bits from its halves.

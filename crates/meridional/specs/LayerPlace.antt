@@ -26,9 +26,11 @@ module _ {g : Grid} (range : InRange g) where
   pub layer_size : Size g.W g.R
   layer_size = record { columns = range.high_w; cells = omega (arith, layer_cells_most range) }
 
+  pub faces_serve : g.W + g.R * g.W ≤ most_faces
+  faces_serve = omega (arith, faces_most range)
+
   pub rooms_serve : {up down : List ℕ} → Rooms up down → Faces g.W g.R up down
-  rooms_serve rooms =
-      record { high = omega (arith, faces_most range, rooms.high); low = omega (arith, faces_most range, rooms.low) }
+  rooms_serve rooms = record { high = omega (arith, faces_serve, rooms.high); low = omega (arith, faces_serve, rooms.low) }
 
 -- a layer's cells in a list, lent as `&l[a..e]` with e = a + C
 abbrev pub lent_layer : List ℕ → ℕ → ℕ → List ℕ

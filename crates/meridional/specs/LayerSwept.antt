@@ -20,7 +20,7 @@ use Rattle.units.specs.Answer.{Agrees}
 use Rattle.units.specs.Agrees.{accepted_agrees}
 use Rattle.places.specs.Walk.{none}
 use Rattle.substep.specs.Faces.{flow_of, Same, same_allowed, same_after}
-use Rattle.substep.specs.Cells.{air_moves}
+use Rattle.substep.specs.Cells.{Moves, air_moves}
 use Rattle.units.specs.Lent.{put_back}
 use Rattle.layer.specs.Passing.{Passing}
 use Rattle.meridional.specs.LayerPlace.{Rooms, LayerFound, lent_layer, layer_lent, layer_long, layer_fit, same_faces, serves_one}
@@ -103,9 +103,9 @@ module _
         total = found.fits.totals;
       }
 
-  pub air_need : Rooms airup airdown → Passing w.grid.W w.grid.R lent airup airdown
+  pub lent_moves : Moves mesh (flow_of airup airdown) lent
   unfolding layer
-  air_need rooms = (
-    layer_fit w.grid alike w.air first range rooms layer_in_air,
-    air_moves mesh (flow_of airup airdown) lent (layer_long w.grid alike w.air first layer_in_air) lent_permits,
-  )
+  lent_moves = air_moves mesh (flow_of airup airdown) lent (layer_long w.grid alike w.air first layer_in_air) lent_permits
+
+  pub air_need : Rooms airup airdown → Passing w.grid.W w.grid.R lent airup airdown
+  air_need rooms = (layer_fit w.grid alike w.air first range rooms layer_in_air, lent_moves)

@@ -54,19 +54,19 @@ pub record PassedTo (amounts up down now : List ℕ) (i : ℕ) : Type 0 where
   pub inside : i ≤ length amounts
   pub moved : Moved (ring (length amounts)) (flow_of up down) amounts now i
 
-module _ {amounts up down : List ℕ} (need : Passing amounts up down) where
+module _ {amounts up down : List ℕ} (moves : Moves (ring (length amounts)) (flow_of up down) amounts) where
   pub passed_none : PassedTo amounts up down amounts 0
-  passed_none = record { inside = omega arith; moved = moved_none need.moves }
+  passed_none = record { inside = omega arith; moved = moved_none moves }
 
   -- column i, which gets e and gives l through its two faces
   module _ {now : List ℕ} {i e l : ℕ} (passed : PassedTo amounts up down now i) (cell : Cell (ring (length amounts)) (flow_of up down) i e l) where
     pub column_passes : CellFlows (at now i) e l
-    column_passes = moved_exchange need.moves passed.moved cell
+    column_passes = moved_exchange moves passed.moved cell
 
     pub passed_more : {x : ℕ} → x ≡ at now i + e - l → PassedTo amounts up down (set now i x) (i + 1)
     unfolding ring
-    passed_more after = record { inside = omega (arith, cell.inside); moved = moved_more need.moves passed.moved cell after }
+    passed_more after = record { inside = omega (arith, cell.inside); moved = moved_more moves passed.moved cell after }
 
   pub passed_all : {now : List ℕ} {i : ℕ} → PassedTo amounts up down now i → i ≡ length amounts → now ≡ after_flow (ring (length amounts)) (flow_of up down) amounts
   unfolding ring
-  passed_all passed done = all_moved_lem need.moves (rw done at passed.moved)
+  passed_all passed done = all_moved_lem moves (rw done at passed.moved)

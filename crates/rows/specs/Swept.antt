@@ -15,10 +15,10 @@ use Rattle.model.specs.Limiters.{rule_for}
 use Rattle.model.proofs.Laws.Chain.{air_after_in}
 use Rattle.units.specs.Limiter.{limiter_at}
 use Rattle.substep.specs.Faces.{flow_of, Same, AreParts, stepped, same_stepped}
-use Rattle.substep.specs.Cells.{air_moves}
+use Rattle.substep.specs.Cells.{Moves, air_moves}
 use Rattle.row.specs.Columns.{FaceRoom, Passing}
 use Rattle.row.specs.Substeps.{row_mesh, RowNeed, chain, chain_start, may_here, after_here, serves_step}
-use Rattle.rows.specs.Gas.{row_of, Wide, row_stepped, StepsNeed, AreSteps, step_need, total_stepped}
+use Rattle.rows.specs.Gas.{row_of, Wide, row_stepped, StepsNeed, AreSteps, gas_need, total_stepped}
 
 -- tracer t's amounts after s of n substeps
 abbrev pub gas_chain : List (List ℕ) → List ℕ → List ℕ → List ℤ → ℕ → ℕ → ℕ → List ℕ
@@ -61,34 +61,39 @@ module _ {rows : List (List ℕ)} {ledger air : List ℕ} {fluxes : List ℤ} {n
         total = need.total;
       }
 
+  pub step_air_in :
+      {s : ℕ} {now_air : List ℕ} {now : List (List ℕ)} → SweptSoFar rows ledger air fluxes n tracers s now_air now → s < n → AirIn (length now_air) now_air
+  unfolding ring
+  step_air_in {s} reached inside =
+      rw (reached.long, reached.air_is) (air_after_in (row_mesh fluxes) (ring_regular _) fluxes air n need.air_in need.serving s (le_of_lt inside))
+
   -- substep s + 1, of which up and down have the parts
   module _ {s : ℕ} {now_air : List ℕ} {now : List (List ℕ)} (reached : SweptSoFar rows ledger air fluxes n tracers s now_air now) (inside : s < n)
-      {up down : List ℕ} (are : AreParts fluxes n (s + 1) up down) (room : FaceRoom (length fluxes) up down) where
-    step_allowed : allowed (ring (length now_air)) (flow_of up down) now_air ≡ true
+      (up down : List ℕ) (are : AreParts fluxes n (s + 1) up down) where
+    pub step_allowed : allowed (ring (length now_air)) (flow_of up down) now_air ≡ true
     step_allowed =
         may_here fluxes n air s up down now_air are reached.air_is reached.long ∙
         serves_step fluxes n air need.serving s inside
 
-    pub rows_may_step : StepsNeed tracers now ledger now_air up down
-    unfolding ring
-    rows_may_step =
-        let serving = need.serving in
-        let in_range = air_after_in (row_mesh fluxes) (ring_regular _) fluxes air n need.air_in serving s (le_of_lt inside) in
+    pub rows_may_step : FaceRoom (length fluxes) up down → StepsNeed tracers now ledger now_air up down
+    rows_may_step room =
         record {
           few = need.few;
           blocks = need.blocks;
           wide_rows = reached.wide_rows;
           wide = rw reached.long need.row.wide;
           room = rw reached.long room;
-          air_in = rw (reached.long, reached.air_is) in_range;
+          air_in = step_air_in reached inside;
           permits = step_allowed;
           total = rw reached.long reached.total;
         }
 
-    pub air_may_pass : Passing now_air up down
+    pub air_may_move : Moves (ring (length now_air)) (flow_of up down) now_air
     unfolding ring
-    air_may_pass =
-        record { room = rw reached.long room; moves = air_moves (ring (length now_air)) (flow_of up down) now_air refl step_allowed }
+    air_may_move = air_moves (ring (length now_air)) (flow_of up down) now_air refl step_allowed
+
+    pub air_may_pass : FaceRoom (length fluxes) up down → Passing now_air up down
+    air_may_pass room = record { room = rw reached.long room; moves = air_may_move }
 
     flows : Same (row_mesh fluxes).faces (flow_of up down) (parts fluxes n (s + 1))
     unfolding ring
@@ -130,7 +135,11 @@ module _ {rows : List (List ℕ)} {ledger air : List ℕ} {fluxes : List ℤ} {n
           TotalFits w t = sum w (at (row_stepped (limiter_at ledger t) (row_of w now t) now_air up down)) ≤ total_limit
 
           total_fits : (t : ℕ) → t < tracers → TotalFits (length now_air) t
-          total_fits t h = rw (total_stepped (step_need rows_may_step t h) (limiter_at ledger t)) (rows_may_step.total t h)
+          total_fits t h =
+              let total : sum (length now_air) (at (row_of (length now_air) now t)) ≤ total_limit = rw reached.long (reached.total t h) in
+              let wide : length now_air ≤ 72 = rw reached.long need.row.wide in
+              let step = gas_need tracers now up down reached.wide_rows wide (step_air_in reached inside) step_allowed t h total in
+              rw (total_stepped up down step (limiter_at ledger t)) total
 
   -- all n
   pub after_all :

@@ -6,7 +6,7 @@ use Rattle.layer.proofs.pass_layer.Goals as goal
 use Rattle.layer.proofs.pass_layer.Goals.{After-after}
 
 pub after-requires : goal.after-requires
-after-requires g c = (search rules, (search rules, rw c.new.ensures (south_exchange c.requires c.cap-south_in.ensures c.cap-south_out.ensures)))
+after-requires g c = (search rules, (search rules, rw c.new.ensures (south_exchange c.args.shape.w c.args.shape.rows c.requires.1 c.cap-south_in.ensures c.cap-south_out.ensures)))
 
 -- the amounts once the south cap's is passed on
 abbrev begun :
@@ -19,8 +19,8 @@ pass_rows-requires g c = begun g (goal.at.pass_rows-requires g c).After-after
 
 pub after-requires-2 : goal.after-requires-2
 after-requires-2 g c =
-    (search rules, (search rules, rw c.new-2.ensures (north_exchange (begun g (goal.at.after-requires-2 g c).After-after) c.pass_rows.ensures c.cap-north_in.ensures c.cap-north_out.ensures)))
+    (search rules, (search rules, rw c.new-2.ensures (north_exchange c.args.shape.w c.args.shape.rows (begun g (goal.at.after-requires-2 g c).After-after).1 c.pass_rows.ensures.1 c.cap-north_in.ensures c.cap-north_out.ensures)))
 
 pub returns : goal.returns
 returns g c =
-    north_all (begun g (goal.at.returns g c).After-after) c.pass_rows.ensures c.cap-north_in.ensures c.cap-north_out.ensures (rw c.new-2.ensures at c.after-2.ensures)
+    north_all c.args.shape.w c.args.shape.rows (begun g (goal.at.returns g c).After-after).1 c.pass_rows.ensures.1 c.cap-north_in.ensures c.cap-north_out.ensures (rw c.new-2.ensures at c.after-2.ensures)

@@ -5,7 +5,7 @@ use Rattle.layer.proofs.pass_rows.Goals as goal
 
 pub after-requires : goal.after-requires
 after-requires g c =
-    (search rules, (search rules, rw c.new.ensures (row_exchange c.loop-j.invariant c.loop-j-test.true c.across-enters.ensures.0 c.across-leaves.ensures.0 c.requires)))
+    (search rules, (search rules, rw c.new.ensures (row_exchange c.loop-j.invariant c.loop-j-test.true c.across-enters.ensures.0 c.across-leaves.ensures.0 c.requires.1)))
 
 pub loop-j-preserved : goal.loop-j-preserved
 loop-j-preserved g c =

@@ -13,9 +13,9 @@ are_pieces :
 are_pieces c = rw (c.lent.ensures.0, c.lent.ensures.1) c.fill_pieces.ensures
 
 pub pass-requires : goal.pass-requires
-pass-requires c = pieces_pass c.requires (limiter_of c.args.l) _ _ (are_pieces (goal.at.pass-requires c).After-lent) (search rules)
+pass-requires c = pieces_pass c.args.flow.up.now c.args.flow.down.now c.requires.need (limiter_of c.args.l) _ _ (are_pieces (goal.at.pass-requires c).After-lent) (search rules)
 
 pub returns : goal.returns
 returns c =
     let lent = c.lent.result in
-    c.pass.ensures ∙ pieces_passed c.requires (limiter_of c.args.l) lent.up.now lent.down.now (are_pieces (goal.at.returns c).After-lent)
+    c.pass.ensures ∙ pieces_passed c.args.flow.up.now c.args.flow.down.now c.requires.need (limiter_of c.args.l) lent.up.now lent.down.now (are_pieces (goal.at.returns c).After-lent)

@@ -6,10 +6,9 @@ use Rattle.rows.proofs.step_rows.Goals as goal
 pub step_gas-requires : goal.step_gas-requires
 step_gas-requires c =
     let l = c.loop-t in
-    rw (row_lent c.requires l.invariant (omega arith)) (step_need c.requires l.t (omega arith))
+    rw (row_lent l.invariant) (step_need c.requires l.t (omega arith))
 
 pub loop-t-preserved : goal.loop-t-preserved
 loop-t-preserved c =
     let l = c.loop-t in
-    stepping_more c.requires l.invariant (omega arith)
-    (c.step_gas.ensures ∙ lent_stepped c.requires l.invariant (omega arith) c.limiter_at-l.ensures)
+    stepping_more l.invariant c.requires.few c.requires.wide (omega arith) (c.step_gas.ensures ∙ lent_stepped l.invariant c.limiter_at-l.ensures)

@@ -16,16 +16,15 @@ loop-s-init c = after_none c.requires
 pub step_rows-requires : goal.step_rows-requires
 step_rows-requires c =
     let lent = (goal.at.step_rows-requires c).After-lent-passes in
-    rows_may_step c.requires c.loop-s.invariant (omega arith) (rw (c.lent-passes.ensures.0, c.lent-passes.ensures.1) c.fill_parts.ensures) (room lent)
+    rows_may_step c.requires c.loop-s.invariant (omega arith) _ _ (rw (c.lent-passes.ensures.0, c.lent-passes.ensures.1) c.fill_parts.ensures) (room lent)
 
 pub pass-requires : goal.pass-requires
 pass-requires c =
     let lent = (goal.at.pass-requires c).After-lent-passes in
-    air_may_pass c.requires c.loop-s.invariant (omega arith) (rw (c.lent-passes.ensures.0, c.lent-passes.ensures.1) c.fill_parts.ensures) (room lent)
+    air_may_pass c.requires c.loop-s.invariant (omega arith) _ _ (rw (c.lent-passes.ensures.0, c.lent-passes.ensures.1) c.fill_parts.ensures) (room lent)
 
 pub loop-s-preserved : goal.loop-s-preserved
 loop-s-preserved c =
-    let lent = (goal.at.loop-s-preserved c).After-lent-passes in
     let are : AreParts c.args.fluxes.now c.args.n (c.loop-s.s + 1) c.lent-passes.result.up.now c.lent-passes.result.down.now =
     rw (c.lent-passes.ensures.0, c.lent-passes.ensures.1) c.fill_parts.ensures in
-    after_more c.requires c.loop-s.invariant (omega arith) are (room lent) c.pass.ensures c.step_rows.ensures
+    after_more c.requires c.loop-s.invariant (omega arith) _ _ are c.pass.ensures c.step_rows.ensures
