@@ -46,9 +46,10 @@ ArePieces l air gas flow passed = Same (length air) passed (pieces (rule_for l) 
 abbrev pub row_stepped : Limiter → List ℕ → List ℕ → List ℕ → List ℕ → List ℕ
 row_stepped l gas air up down = stepped (rule_for l) (ring (length air)) (flow_of up down) air gas
 
-pub length_stepped : (l : Limiter) (gas air up down : List ℕ) → length (row_stepped l gas air up down) ≡ length air
-unfolding ring
-length_stepped l gas air up down = length_after_flow (ring (length air)) _ gas
+module _ (l : Limiter) (gas air up down : List ℕ) where
+  pub length_stepped : length (row_stepped l gas air up down) ≡ length air
+  unfolding ring
+  length_stepped = length_after_flow (ring (length air)) _ gas
 
 module _ {gas air : List ℕ} (up down : List ℕ) (need : GasNeed (ring (length air)) (flow_of up down) air gas) where
   pub gas_long_lem : length gas ≡ length air
@@ -157,8 +158,10 @@ pub record Stepping (n : ℕ) (rows : List (List ℕ)) (ledger air up down : Lis
   pub each : (k : ℕ) → k < t → row_of (length air) now k ≡ row_stepped (limiter_at ledger k) (row_of (length air) rows k) air up down
   pub left : (k : ℕ) → t ≤ k → get_or now k [] ≡ get_or rows k []
 
-pub stepping_none : {n : ℕ} {rows : List (List ℕ)} {ledger air up down : List ℕ} → Wide n rows → length rows ≡ 8 → Stepping n rows ledger air up down rows 0
-stepping_none wide_rows some = record { some = some; wide_rows = wide_rows; each = λ k h. absurd (omega arith); left = λ k h. refl }
+module _ {n : ℕ} {rows : List (List ℕ)} {ledger air up down : List ℕ} (wide_rows : Wide n rows) where
+  pub stepping_none : length rows ≡ 8 → Stepping n rows ledger air up down rows 0
+  stepping_none some =
+      record { some = some; wide_rows = wide_rows; each = λ k h. absurd (omega arith); left = λ k h. refl }
 
 -- what tracer t's substep needs
 pub gas_need : (n : ℕ) (rows : List (List ℕ)) {air : List ℕ} (up down : List ℕ) → Wide n rows → length air ≤ 72 → AirIn (length air) air →
@@ -190,21 +193,22 @@ module _ {n : ℕ} {rows : List (List ℕ)} {ledger air up down : List ℕ} {now
       row_stepped l (part (get_or now t []) 0 (length air - 0)) air up down ≡ row_stepped (limiter_at ledger t) (row_of (length air) rows t) air up down
   lent_stepped read = ap₂ (λ (l : Limiter) (g : List ℕ). row_stepped l g air up down) read row_lent
 
-  pub stepping_more :
-      n ≤ 8 → length air ≤ 72 → t < n → {new : List ℕ} → new ≡ row_stepped (limiter_at ledger t) (row_of (length air) rows t) air up down →
-      Stepping n rows ledger air up down (set now t (put_mid 0 (length air - 0) (get_or now t []) new)) (t + 1)
-  stepping_more few wide_air h {new} is =
-      let row : List ℕ = put_mid 0 (length air - 0) (get_or now t []) new in
-      let long : length new ≡ length air = ap length is ∙ length_stepped (limiter_at ledger t) (row_of (length air) rows t) air up down in
-      let room : t < length now = omega (arith, stepping.some, few) in
-      let fit : length air ≤ length (get_or now t []) = omega (arith, stepping.wide_rows t h, wide_air) in
-      let wide = length_front (get_or now t []) new (length air) long fit ∙ stepping.wide_rows t h in
-      let is_stepped : ℕ → List ℕ → Type 0 =
-      λ k r. part r 0 (length air) ≡ row_stepped (limiter_at ledger k) (row_of (length air) rows k) air up down in
-      record {
-        some = length-set now t row ∙ stepping.some;
-        wide_rows = wide_set n now t row room wide stepping.wide_rows;
-        each =
-            entries_more [] now t row is_stepped room stepping.each (front_back (get_or now t []) new (length air) long ∙ is);
-        left = λ k p. entries_above [] now t row k p ∙ stepping.left k (omega arith);
-      }
+  module _ (few : n ≤ 8) (wide_air : length air ≤ 72) (h : t < n) where
+    pub stepping_more :
+        {new : List ℕ} → new ≡ row_stepped (limiter_at ledger t) (row_of (length air) rows t) air up down →
+        Stepping n rows ledger air up down (set now t (put_mid 0 (length air - 0) (get_or now t []) new)) (t + 1)
+    stepping_more {new} is =
+        let row : List ℕ = put_mid 0 (length air - 0) (get_or now t []) new in
+        let long : length new ≡ length air = ap length is ∙ length_stepped (limiter_at ledger t) (row_of (length air) rows t) air up down in
+        let room : t < length now = omega (arith, stepping.some, few) in
+        let fit : length air ≤ length (get_or now t []) = omega (arith, stepping.wide_rows t h, wide_air) in
+        let wide = length_front (get_or now t []) new (length air) long fit ∙ stepping.wide_rows t h in
+        let is_stepped : ℕ → List ℕ → Type 0 =
+        λ k r. part r 0 (length air) ≡ row_stepped (limiter_at ledger k) (row_of (length air) rows k) air up down in
+        record {
+          some = length-set now t row ∙ stepping.some;
+          wide_rows = wide_set n now t row room wide stepping.wide_rows;
+          each =
+              entries_more [] now t row is_stepped room stepping.each (front_back (get_or now t []) new (length air) long ∙ is);
+          left = λ k p. entries_above [] now t row k p ∙ stepping.left k (omega arith);
+        }

@@ -75,25 +75,26 @@ module _ {rows : List (List ℕ)} {ledger air : List ℕ} {fluxes : List ℤ} {n
         may_here fluxes n air s up down now_air are reached.air_is reached.long ∙
         serves_step fluxes n air need.serving s inside
 
-    pub rows_may_step : FaceRoom (length fluxes) up down → StepsNeed tracers now ledger now_air up down
-    rows_may_step room =
-        record {
-          few = need.few;
-          blocks = need.blocks;
-          wide_rows = reached.wide_rows;
-          wide = rw reached.long need.row.wide;
-          room = rw reached.long room;
-          air_in = step_air_in reached inside;
-          permits = step_allowed;
-          total = rw reached.long reached.total;
-        }
-
     pub air_may_move : Moves (ring (length now_air)) (flow_of up down) now_air
     unfolding ring
     air_may_move = air_moves (ring (length now_air)) (flow_of up down) now_air refl step_allowed
 
-    pub air_may_pass : FaceRoom (length fluxes) up down → Passing now_air up down
-    air_may_pass room = record { room = rw reached.long room; moves = air_may_move }
+    module _ (room : FaceRoom (length fluxes) up down) where
+      pub rows_may_step : StepsNeed tracers now ledger now_air up down
+      rows_may_step =
+          record {
+            few = need.few;
+            blocks = need.blocks;
+            wide_rows = reached.wide_rows;
+            wide = rw reached.long need.row.wide;
+            room = rw reached.long room;
+            air_in = step_air_in reached inside;
+            permits = step_allowed;
+            total = rw reached.long reached.total;
+          }
+
+      pub air_may_pass : Passing now_air up down
+      air_may_pass = record { room = rw reached.long room; moves = air_may_move }
 
     flows : Same (row_mesh fluxes).faces (flow_of up down) (parts fluxes n (s + 1))
     unfolding ring
