@@ -2,7 +2,8 @@
 -- Assumes of a call only that it lends no list of its own.
 use Rattle.std.specs.Prelude.{ℕ, ◌+◌, ◌*◌, ◌-◌, ◌≤◌, ◌<◌, List, [], ◌∷◌, Bool, true, false, not, ◌||◌, ◌≡◌, leb, length, Result}
 use Rattle.std.proofs.Math.Path.{refl}
-use Rattle.std.proofs.Common.{sym, ap, ◌∙◌}
+use Rattle.std.proofs.Common.{sym, ap, ◌∙◌, lit<}
+use Rattle.std.proofs.lemmas.Bool.{not-false}
 use Rattle.model.specs.Limits.{total_limit, most_emitters, block_numbers}
 use Rattle.model.specs.Basic.{part, every}
 use Rattle.model.specs.World.{World, world_cells, block, gas_total}
@@ -10,7 +11,9 @@ use Rattle.model.specs.Emitters.{standing, emitter_cell, kept_units, has_id, rec
 use Rattle.model.specs.Step.{Call, Place, place, absent, no_room, broken_record, meaning, first_of, own_places, lent_fits, refusal, add_emitter, remove_emitter, tick, units_a_tick}
 use Rattle.model.proofs.Laws.Basic.{every_at, length_part}
 use Rattle.model.proofs.Laws.Grid.{in_range_lem}
-use Rattle.model.proofs.Laws.Step.{Fits, passes, stops}
+use Rattle.model.proofs.Laws.Standing.{no_place_lem}
+use Rattle.model.proofs.Laws.Step.{Fits, passes, stops, passed, accepted_passed}
+use Rattle.model.proofs.Laws.Step as steps
 use Rattle.units.specs.declared.Refusal.{Refusal}
 use Rattle.units.specs.Lent.{part_lent}
 use Rattle.books.specs.Lent.{BlockThere, block_there}
@@ -128,6 +131,15 @@ module _ {w : World} {t : ℕ} where
   pub units_names : Names w t (units_a_tick t) []
   unfolding own_places
   units_names = record { lent = refl; limiters = refl; books = refl; places = refl }
+
+-- where no place is left, not even to the reading of the units, the named tracer's record passed its test
+pub record_tested : {w : World} {t : ℕ} → Left w (Names w t) [] → t < w.grid.N → record_fits (world_cells w.grid) (block w t) ≡ true
+record_tested {w} {t} left there =
+    let names : Names w t (units_a_tick t) [] = units_names in
+    let e : refusal w (units_a_tick t) ≡ 0 = left.is (units_a_tick t) [] names ∙ no_place_lem w in
+    let own : first_of (named t) w ≡ 0 = sym names.places ∙ (accepted_passed w (units_a_tick t) e).2 in
+    let records = passed broken_record [] w (lit< tt) (steps.found t (λ g. g.N) (broken_record ∷ []) w own).1 in
+    every_at w.grid.N (λ t. record_fits (world_cells w.grid) (block w t)) (not-false _ records.0) t there
 
 -- the places that are left to a call
 pub places_left : {w : World} {t total : ℕ} → EmittersFound w t total → {call : Call} {rest : List Place} → Names w t call rest → refusal w call ≡ first_of rest w
