@@ -176,22 +176,18 @@ fn main(rt: HostRuntime) -> io::Result<()> {
     columns(&rt)
 }
 
+// Tracer 1's block is put after tracer 0's, which stays as it was, and is read there again.
 #[cfg(test)]
-mod tests {
-    use super::*;
-
-    // Tracer 1's block is put after tracer 0's, which stays as it was, and is read there again.
-    #[test]
-    fn puts_a_block(rt: HostRuntime) {
-        let mut ledger = [7; 2 * LEDGER_BLOCK];
-        let mut block = [0; LEDGER_BLOCK];
-        block[0] = 1;
-        block[LEDGER_BLOCK - 1] = 59;
-        limiters::put_block(&mut ledger, 1, &block);
-        assert_eq!(rt; ledger[LEDGER_BLOCK - 1], 7);
-        assert_eq!(rt; ledger[LEDGER_BLOCK], 1);
-        assert_eq!(rt; ledger[LEDGER_BLOCK + 1], 0);
-        assert_eq!(rt; ledger[2 * LEDGER_BLOCK - 1], 59);
-        assert_eq!(rt; *limiters::block_at(&ledger, 1), block);
-    }
+#[test]
+fn puts_a_block(rt: HostRuntime) {
+    let mut ledger = [7; 2 * LEDGER_BLOCK];
+    let mut block = [0; LEDGER_BLOCK];
+    block[0] = 1;
+    block[LEDGER_BLOCK - 1] = 59;
+    limiters::put_block(&mut ledger, 1, &block);
+    assert_eq!(rt; ledger[LEDGER_BLOCK - 1], 7);
+    assert_eq!(rt; ledger[LEDGER_BLOCK], 1);
+    assert_eq!(rt; ledger[LEDGER_BLOCK + 1], 0);
+    assert_eq!(rt; ledger[2 * LEDGER_BLOCK - 1], 59);
+    assert_eq!(rt; *limiters::block_at(&ledger, 1), block);
 }

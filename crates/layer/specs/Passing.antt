@@ -38,14 +38,16 @@ module _ (w rows : ℕ) {l up down : List ℕ} (moves : Moves (layer w rows) (fl
   pub south_exchange : CellFlows (at l 0) e o
   south_exchange = moved_exchange moves (moved_none moves) (south_cell w rows up down enters leaves)
 
-  abbrev pub south_moved : {x : ℕ} → x ≡ at l 0 + e - o → Begun (layer w rows) (flow_of up down) (set l 0 x) 1
-  south_moved is =
-      record { first = l; moves = moves; moved = moved_more moves (moved_none moves) (south_cell w rows up down enters leaves) is }
+  pub south_moved : {x : ℕ} → x ≡ at l 0 + e - o → Moved (layer w rows) (flow_of up down) l (set l 0 x) 1
+  south_moved is = moved_more moves (moved_none moves) (south_cell w rows up down enters leaves) is
 
 module _ {w rows : ℕ} {l up down : List ℕ} (passing : Passing w rows l up down) {e o : ℕ} (enters : IsSum down 0 w e)
     (leaves : IsSum up 0 w o) where
   abbrev pub south_begun : {x : ℕ} → x ≡ at l 0 + e - o → PassingRows w rows (set l 0 x) up down
-  south_begun {x} is = (still_fit (length-set l 0 x) passing.0, south_moved w rows passing.1 enters leaves is)
+  south_begun {x} is = (
+    still_fit (length-set l 0 x) passing.0,
+    record { first = l; moves = passing.1; moved = south_moved w rows passing.1 enters leaves is },
+  )
 
 -- ---- the rows as a loop passes them on: the first j of their cells
 pub record RowsMoved (w rows : ℕ) (before up down l : List ℕ) (j : ℕ) : Type 0 where
